@@ -1,15 +1,17 @@
 -- Edits that carry what was found of them are planned as they were given, and so are those whose logs are decided.
-use Rattle.std.proofs.Common.{Bool, ◌≡◌, ◌<◌, ℕ, suc, List, [], ◌∷◌, Option, None, length, map, refl, sym, ◌∙◌, ap, subst, arith}
+use Rattle.std.proofs.Common.{Bool, ◌≡◌, ◌<◌, ℕ, suc, List, [], ◌∷◌, Option, Some, None, length, map, refl, sym, ◌∙◌, ap, subst, arith}
 use Rattle.std.specs.Prelude.{◌&&◌, ◌||◌, is_some, slice_index_or}
 use Rattle.std.specs.List.{list_any}
 use Rattle.gix_ref_hash.specs.declared.hash.ObjectId.{ObjectId}
+use Rattle.gix_ref_hash.specs.declared.hash.Kind.{Kind}
+use Rattle.gix_ref_grammar.specs.NameGrammar.{IsFullName}
 use Rattle.gix_ref_name.specs.Names.{full_bytes}
 use Rattle.gix_ref_name.specs.declared.name.FullName.{FullName}
 use Rattle.gix_ref_base.specs.PackedRecords.{Record}
 use Rattle.gix_ref_base.specs.Targets.{TargetValue}
-use Rattle.gix_ref_base.specs.declared.target.Target.{Target}
 use Rattle.gix_ref_files.specs.Tree.{Path}
 use Rattle.gix_ref_theory.specs.Edits as plan
+use Rattle.gix_ref_theory.specs.Edits.{Mode}
 use Rattle.gix_ref_theory.specs.Readings.{Store}
 use Rattle.gix_ref_edits.specs.RefEdits.{name_of, mode_of, is_of_reference}
 use Rattle.gix_ref_edits.specs.declared.transaction.RefEdit.{RefEdit}
@@ -18,15 +20,16 @@ use Rattle.gix_ref_transaction.specs.CarriedEdits.{IsCarried, AreCarried, change
 use Rattle.gix_ref_transaction.specs.Causes.{packed_id}
 use Rattle.gix_ref_transaction.specs.CommittedEdits.{planned}
 use Rattle.gix_ref_transaction.specs.PackedCauses.{deletes_reference, ids_among}
+use Rattle.gix_ref_transaction.specs.Packing.{HaveTheirPuts, edit_peeled, peeled_in, plan_edits, put_by}
 use Rattle.gix_ref_transaction.specs.PrepareSteps.{effect_value, effects_of, ids_in, lock_paths, place_paths, updates}
 use Rattle.gix_ref_files.specs.Lock.{lock_of}
 use Rattle.gix_ref_transaction.specs.declared.edit.Edit.{Edit}
-use Rattle.gix_ref_transaction.specs.declared.edit.Effect.{Effect}
 use Rattle.gix_ref_transaction.specs.CommitRenames.{written_flags}
 use Rattle.gix_ref_transaction.specs.Effects.{is_write}
-use Rattle.gix_ref_repack.specs.Repacks.{removes_record}
-use Rattle.gix_ref_lines.specs.AskedEdits.{all_but_logs}
-use Rattle.gix_ref_commit.specs.LogEffects.{AreLogsOf, IsLogOf, edit_with, with_lines}
+use Rattle.gix_ref_transaction.proofs.EditsApart.{heads}
+use Rattle.gix_ref_repack.specs.Repacks.{AllCanBePut, alters_record}
+use Rattle.gix_ref_lines.specs.AskedEdits.{ButLog, all_but_logs}
+use Rattle.gix_ref_commit.specs.LogEffects.{AreLogsOf, Extra, IsLogOf, but_lines, edit_with, extra_in, extras_in, lines_in, with_ends, with_extras}
 
 -- one edit
 planned_one : (e f : RefEdit) (found : Option TargetValue) → IsCarried e found f → edit_of f ≡ edit_of e
@@ -58,16 +61,16 @@ planned_same (e ∷ before) [] same = absurd same
 planned_same (e ∷ before) (f ∷ after) ((found, is), rest) =
     ap (λ (x : plan.Edit). x ∷ planned after) (planned_one e f found is) ∙ ap (λ (l : List plan.Edit). edit_of e ∷ l) (planned_same before after rest)
 
--- and with the same lines
-pub lined_same : (before after : List RefEdit) (lines : List (Option (List ℕ))) → AreSame before after → with_lines after lines ≡ with_lines before lines
+-- and with the same lines and objects
+pub lined_same : (before after : List RefEdit) (lines : List Extra) → AreSame before after → with_extras after lines ≡ with_extras before lines
 lined_same [] [] lines same = refl
 lined_same [] (f ∷ after) lines same = absurd same
 lined_same (e ∷ before) [] lines same = absurd same
 lined_same (e ∷ before) (f ∷ after) [] ((found, is), rest) =
-    ap (λ (x : plan.Edit). record { name = x.name; change = x.change; and_reference = x.and_reference; line = None; peeled = x.peeled } ∷ with_lines after []) (planned_one e f found is)
-    ∙ ap (λ (l : List plan.Edit). edit_with e None ∷ l) (lined_same before after [] rest)
+    ap (λ (x : plan.Edit). record { name = x.name; change = x.change; and_reference = x.and_reference; line = None; peeled = None } ∷ with_extras after []) (planned_one e f found is)
+    ∙ ap (λ (l : List plan.Edit). edit_with e (None, None) ∷ l) (lined_same before after [] rest)
 lined_same (e ∷ before) (f ∷ after) (line ∷ lines) ((found, is), rest) =
-    ap (λ (x : plan.Edit). record { name = x.name; change = x.change; and_reference = x.and_reference; line = line; peeled = x.peeled } ∷ with_lines after lines) (planned_one e f found is)
+    ap (λ (x : plan.Edit). record { name = x.name; change = x.change; and_reference = x.and_reference; line = line.0; peeled = line.1 } ∷ with_extras after lines) (planned_one e f found is)
     ∙ ap (λ (l : List plan.Edit). edit_with e line ∷ l) (lined_same before after lines rest)
 
 pub ids_same : (s : Store) (rs : List Record) (before after : List RefEdit) → AreSame before after → ids_among s rs after ≡ ids_among s rs before
@@ -87,9 +90,18 @@ logs_same s (e ∷ before) (f ∷ after) (p ∷ ran) ((found, is), rest) logs = 
   logs_same s before after ran rest logs.1,
 )
 
+-- What repacking has of edits is what they are without their lines.
+pub plan_edits_are : (given : List RefEdit) (ran : List Edit) → AreSame given (updates ran) → plan_edits ran ≡ but_lines (with_extras given (extras_in ran))
+plan_edits_are [] [] same = refl
+plan_edits_are [] (p ∷ ran) same = absurd same
+plan_edits_are (e ∷ given) [] same = absurd same
+plan_edits_are (e ∷ given) (p ∷ ran) ((found, is), rest) =
+    ap (λ (x : plan.Edit). record { name = x.name; change = x.change; and_reference = x.and_reference; line = None; peeled = peeled_in p.put } ∷ plan_edits ran) (planned_one e p.update found is)
+    ∙ ap (λ (l : List plan.Edit). edit_peeled e (peeled_in p.put) ∷ l) (plan_edits_are given ran rest)
+
 -- Of edits that are alike but for their logs.
 abbrev Rest : Type 0
-Rest = RefEdit × Option ℕ × Path × Option ObjectId × Option Target × Effect × Bool
+Rest = ButLog
 
 updates_of : (edits : List Edit) → updates edits ≡ map (λ (r : Rest). r.0) (all_but_logs edits)
 updates_of [] = refl
@@ -115,16 +127,16 @@ flags_by : (edits : List Edit) → written_flags edits ≡ map (λ (r : Rest). i
 flags_by [] = refl
 flags_by (e ∷ edits) = ap (λ l. is_write e.effect ∷ l) (flags_by edits)
 
-abbrev removes_rest : Rest → Bool
-removes_rest r = deletes_reference r.0.change && is_some r.3
+abbrev alters_rest : Rest → Bool
+alters_rest r = is_some r.7 || (deletes_reference r.0.change && is_some r.3)
 
-removes_by : (edits : List Edit) → list_any removes_record edits ≡ list_any removes_rest (all_but_logs edits)
-removes_by [] = refl
-removes_by (e ∷ edits) = ap (λ b. removes_record e || b) (removes_by edits)
+alters_of : (edits : List Edit) → list_any alters_record edits ≡ list_any alters_rest (all_but_logs edits)
+alters_of [] = refl
+alters_of (e ∷ edits) = ap (λ b. alters_record e || b) (alters_of edits)
 
 module _ (ran held : List Edit) (alike : all_but_logs ran ≡ all_but_logs held) where
-  pub removes_alike : list_any removes_record ran ≡ list_any removes_record held
-  removes_alike = removes_by ran ∙ (ap (list_any removes_rest) alike ∙ sym (removes_by held))
+  pub alters_alike : list_any alters_record ran ≡ list_any alters_record held
+  alters_alike = alters_of ran ∙ (ap (list_any alters_rest) alike ∙ sym (alters_of held))
 
   pub updates_alike : updates ran ≡ updates held
   updates_alike = updates_of ran ∙ (ap (map (λ (r : Rest). r.0)) alike ∙ sym (updates_of held))
@@ -140,3 +152,53 @@ module _ (ran held : List Edit) (alike : all_but_logs ran ≡ all_but_logs held)
 
   pub effects_alike : effects_of ran ≡ effects_of held
   effects_alike = effects_by ran ∙ (ap (map (λ (r : Rest). effect_value r.0.change r.5)) alike ∙ sym (effects_by held))
+
+-- and what they put, and that it can be read as records
+pub puts_alike : (s : Store) (mode : Mode) (ran held : List Edit) → all_but_logs ran ≡ all_but_logs held → HaveTheirPuts s mode held → HaveTheirPuts s mode ran
+puts_alike s mode [] [] alike puts = tt
+puts_alike s mode [] (f ∷ held) alike puts = absurd (omega (arith, ap length alike))
+puts_alike s mode (e ∷ ran) [] alike puts = absurd (omega (arith, ap length alike))
+puts_alike s mode (e ∷ ran) (f ∷ held) alike puts = let h = heads alike in (
+  ap (λ (r : Rest). r.7) h.0 ∙ (puts.0 ∙ ap (λ (r : Rest). put_by mode (s.key (name_of r.0)) r.0.change (peeled_in r.7)) (sym h.0)),
+  puts_alike s mode ran held h.1 puts.1,
+)
+
+pub can_alike : (s : Store) (kind : Kind) (ran held : List Edit) → all_but_logs ran ≡ all_but_logs held → AllCanBePut s kind held → AllCanBePut s kind ran
+can_alike s kind [] [] alike can = tt
+can_alike s kind [] (f ∷ held) alike can = absurd (omega (arith, ap length alike))
+can_alike s kind (e ∷ ran) [] alike can = absurd (omega (arith, ap length alike))
+can_alike s kind (e ∷ ran) (f ∷ held) alike can = let h = heads alike in (
+  λ object put.
+      let c = can.0 object (sym (ap (λ (r : Rest). r.7) h.0) ∙ put) in record {
+        key = subst (λ (r : Rest). (k : List ℕ) → s.key (name_of r.0) ≡ Some k → IsFullName k) (sym h.0) c.key;
+        target = c.target;
+        peeled = c.peeled;
+      },
+  can_alike s kind ran held h.1 can.1,
+)
+
+-- and the objects at the end of tags
+pub ends_alike : (lines : List (Option (List ℕ))) (ran held : List Edit) → all_but_logs ran ≡ all_but_logs held → with_ends lines ran ≡ with_ends lines held
+ends_alike [] ran held alike = refl
+ends_alike (line ∷ lines) [] [] alike = refl
+ends_alike (line ∷ lines) [] (f ∷ held) alike = absurd (omega (arith, ap length alike))
+ends_alike (line ∷ lines) (e ∷ ran) [] alike = absurd (omega (arith, ap length alike))
+ends_alike (line ∷ lines) (e ∷ ran) (f ∷ held) alike =
+    let h = heads alike in
+    ap (λ (r : Rest). (line, peeled_in r.7) ∷ with_ends lines ran) h.0 ∙ ap (λ (l : List Extra). (line, peeled_in f.put) ∷ l) (ends_alike lines ran held h.1)
+
+pub extras_end : (ran : List Edit) → extras_in ran ≡ with_ends (lines_in ran) ran
+extras_end [] = refl
+extras_end (e ∷ ran) = ap (λ (l : List Extra). extra_in e ∷ l) (extras_end ran)
+
+plans_by : (edits : List Edit) → plan_edits edits ≡ map (λ (r : Rest). edit_peeled r.0 (peeled_in r.7)) (all_but_logs edits)
+plans_by [] = refl
+plans_by (e ∷ edits) = ap (λ (l : List plan.Edit). edit_peeled e.update (peeled_in e.put) ∷ l) (plans_by edits)
+
+pub plans_alike : (ran held : List Edit) → all_but_logs ran ≡ all_but_logs held → plan_edits ran ≡ plan_edits held
+plans_alike ran held alike = plans_by ran ∙ (ap (map (λ (r : Rest). edit_peeled r.0 (peeled_in r.7))) alike ∙ sym (plans_by held))
+
+-- what repacking has of edits is what they ask for, with the objects at the end of tags
+pub plan_with : (edits : List Edit) → with_extras (updates edits) (map (λ (e : Edit). (None, peeled_in e.put)) edits) ≡ plan_edits edits
+plan_with [] = refl
+plan_with (e ∷ edits) = ap (λ (l : List plan.Edit). edit_peeled e.update (peeled_in e.put) ∷ l) (plan_with edits)

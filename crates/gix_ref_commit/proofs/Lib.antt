@@ -1,4 +1,5 @@
 pub mod Alike
+pub mod CanBePut
 pub mod Carries
 pub mod Carrying
 pub mod Cleared

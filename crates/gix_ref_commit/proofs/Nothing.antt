@@ -7,8 +7,7 @@ use Rattle.gix_ref_files.specs.Lock.{lock_of}
 use Rattle.gix_ref_files.specs.Settled.{IsAllSettled, IsSettledAt}
 use Rattle.gix_ref_files.proofs.Settling.{stands_settled}
 use Rattle.gix_ref_theory.specs.Between.{AreEdits, IsEdit, IsBetween, ReadsAsBefore}
-use Rattle.gix_ref_theory.specs.Edits.{Edit}
-use Rattle.gix_ref_theory.specs.Edits.Mode.{DeletionsOnly}
+use Rattle.gix_ref_theory.specs.Edits.{Edit, Mode}
 use Rattle.gix_ref_theory.specs.Losses.{IsLostWell}
 use Rattle.gix_ref_theory.specs.OnDisks.{IsAsBefore, IsSpokenOf}
 use Rattle.gix_ref_theory.specs.OnRealTrees.{view_of, IsOldOrNewTree}
@@ -20,11 +19,11 @@ use Rattle.gix_ref_theory.proofs.OnDisks.{own_is_lock}
 use Rattle.gix_ref_theory.proofs.Plans.{edit_behind, edit_in_front, is_reference_at}
 use Rattle.gix_ref_theory.proofs.ReadingLemmas.{reading-same}
 
-module _ (s : Store) (laws : HasLaws s) (locked : List Path) (edits : List Edit) (apart : AreEdits s edits) (before : Tree) where
+module _ (s : Store) (laws : HasLaws s) (mode : Mode) (locked : List Path) (edits : List Edit) (apart : AreEdits s edits) (before : Tree) where
   abbrev view : View
   view = view_of before
 
-  same : IsBetween s DeletionsOnly locked edits view view
+  same : IsBetween s mode locked edits view view
   same = record {
     readings = λ name is. inl refl;
     places = λ e within of_reference. inl refl;
@@ -34,18 +33,18 @@ module _ (s : Store) (laws : HasLaws s) (locked : List Path) (edits : List Edit)
   }
 
   -- on a tree
-  pub nothing_done : (T : Tree) → IsSameButLocks locked (view_of T) view → IsOldOrNewTree s DeletionsOnly locked edits before T
+  pub nothing_done : (T : Tree) → IsSameButLocks locked (view_of T) view → IsOldOrNewTree s mode locked edits before T
   nothing_done T alike = record {
-    between = locks.between s laws DeletionsOnly locked view edits apart view (view_of T) alike same;
-    no_deletion_first = λ keeps. locks.no_deletion_first s laws DeletionsOnly locked view edits apart view (view_of T) alike (λ d within of_reference deletes changed. absurd (changed refl));
-    in_order = λ keeps. locks.in_order s laws DeletionsOnly locked view edits apart view (view_of T) alike (λ seen u later all updates of_reference changed. absurd (changed refl))
+    between = locks.between s laws mode locked view edits apart view (view_of T) alike same;
+    no_deletion_first = λ keeps. locks.no_deletion_first s laws mode locked view edits apart view (view_of T) alike (λ d within of_reference deletes changed. absurd (changed refl));
+    in_order = λ keeps. locks.in_order s laws mode locked view edits apart view (view_of T) alike (λ seen u later all updates of_reference changed. absurd (changed refl))
         (λ seen u later all. subst (IsEdit u) all (edit_behind seen u later))
         (λ x u seen later all he. subst (IsEdit x) all (edit_in_front x seen (u ∷ later) he));
   }
 
   -- after a loss of power
   module _ (D : Disk) (settled : IsAllSettled D) (alike : IsSameButLocks locked view (view_of D.tree)) where
-    pub nothing_lost : (staying : List Path) (E : Disk) (T : Tree) → IsAsBefore locked staying D E → Lost E T → IsLostWell s DeletionsOnly locked edits D before T
+    pub nothing_lost : (staying : List Path) (E : Disk) (T : Tree) → IsAsBefore locked staying D E → Lost E T → IsLostWell s mode locked edits D before T
     nothing_lost staying E T among lost = record {
       between = record {
         readings = λ name is. inl (reads name is);
@@ -71,9 +70,9 @@ module _ (s : Store) (laws : HasLaws s) (locked : List Path) (edits : List Edit)
         reads name is = reading-same s view (view_of T) name (plain (s.place name) (λ q. laws.place_is_no_lock name q is)) (plain s.packed_path (λ q. laws.packed_is_no_lock q))
 
 -- What is left well with regard to a disk is so with regard to one that differs in own locks alone.
-pub lost_before : (s : Store) (locked staying : List Path) (edits : List Edit) (D E : Disk) (before T : Tree) → IsAsBefore locked staying D E →
-    IsLostWell s DeletionsOnly locked edits E before T → IsLostWell s DeletionsOnly locked edits D before T
-lost_before s locked staying edits D E before T among well = record {
+pub lost_before : (s : Store) (mode : Mode) (locked staying : List Path) (edits : List Edit) (D E : Disk) (before T : Tree) → IsAsBefore locked staying D E →
+    IsLostWell s mode locked edits E before T → IsLostWell s mode locked edits D before T
+lost_before s mode locked staying edits D E before T among well = record {
   between = record {
     readings = well.between.readings;
     places = well.between.places;

@@ -9,7 +9,7 @@ use Rattle.gix_ref_files.specs.Disk.{Disk}
 use Rattle.gix_ref_files.specs.Lock.{lock_of}
 use Rattle.gix_ref_theory.specs.ConcreteStore.{store_of}
 use Rattle.gix_ref_theory.specs.OnRealTrees.{view_of}
-use Rattle.gix_ref_theory.specs.Edits.{Change}
+use Rattle.gix_ref_theory.specs.Edits.{Change, Mode}
 use Rattle.gix_ref_theory.specs.Readings.{Store, HasLaws}
 use Rattle.gix_ref_theory.specs.Roots.{roots}
 use Rattle.gix_ref_theory.specs.Views.{View, file_bytes, IsOwnLock}
@@ -43,14 +43,14 @@ use Rattle.gix_ref_transaction.proofs.EditsApart.{heads}
 use Rattle.gix_ref_commit.proofs.OwnPlan.{own_plan}
 
 -- What is known of the paths of a transaction as its commit begins to write, on the disk D; `before` is the tree from before it.
-pub record IsLaid (s : Store) (kind : Kind) (before : Tree) (D : Disk) (given : List RefEdit) (ran : List Own) (packed : Option Path) : Type 0 where
+pub record IsLaid (s : Store) (mode : Mode) (kind : Kind) (before : Tree) (D : Disk) (given : List RefEdit) (ran : List Own) (packed : Option Path) : Type 0 where
   pub references : All (λ (e : RefEdit). s.is_reference (name_of e) ≡ true) given
   pub lockable : AreLockable s kind before [] given
   pub places : place_paths ran ≡ places_of s given
   pub logs : AreLogsOf s given ran
   pub packed_place : IsPackedPlace s packed
-  pub packed_due : packed_places packed ≡ packed_taken s before given
-  pub whole : AreWholeLocks D (own_locks s before given)
+  pub packed_due : packed_places packed ≡ packed_taken s mode before given
+  pub whole : AreWholeLocks D (own_locks s mode before given)
 
 module _ (dirs : Dirs) (namespace : Option Namespace) (kind : Kind) (prohibits : Bool) where
   abbrev pub s : Store
@@ -137,12 +137,12 @@ module _ (dirs : Dirs) (namespace : Option Namespace) (kind : Kind) (prohibits :
     )
 
   -- where its locks are whole
-  module _ (before : Tree) (D : Disk) (given : List RefEdit) (ran : List Own) (packed : Option Path) (rewrite : Rewrite) (laid : IsLaid s kind before D given ran packed) where
+  module _ (mode : Mode) (before : Tree) (D : Disk) (given : List RefEdit) (ran : List Own) (packed : Option Path) (rewrite : Rewrite) (laid : IsLaid s mode kind before D given ran packed) where
     abbrev pub locked : List Path
-    locked = own_places s before given
+    locked = own_places s mode before given
 
     abbrev pub mine : List Path
-    mine = own_locks s before given
+    mine = own_locks s mode before given
 
     abbrev pub first : View
     first = view_of D.tree
@@ -159,7 +159,7 @@ module _ (dirs : Dirs) (namespace : Option Namespace) (kind : Kind) (prohibits :
         by false h = cc
 
     pub are_placed : ArePlaced locked staying dirs ran
-    are_placed = placed before locked given ran laid.references laid.places laid.logs (λ q within. edit_own s before given q within)
+    are_placed = placed before locked given ran laid.references laid.places laid.logs (λ q within. edit_own s mode before given q within)
 
     pub are_apart : AreApart ran
     are_apart = apart_by before [] given ran laid.lockable laid.places
@@ -170,7 +170,7 @@ module _ (dirs : Dirs) (namespace : Option Namespace) (kind : Kind) (prohibits :
         inner : {x y : Path} → Some x ≡ Some y → x ≡ y
         inner h = cc
 
-        by : (held : Option Path) → IsPackedPlace s held → packed_places held ≡ packed_taken s before given → IsPackedPlaced locked staying dirs held ran
+        by : (held : Option Path) → IsPackedPlace s held → packed_places held ≡ packed_taken s mode before given → IsPackedPlaced locked staying dirs held ran
         by None place due = tt
         by (Some path) (inl none) due = cc
         by (Some path) (inr some) due = (
@@ -207,7 +207,7 @@ module _ (dirs : Dirs) (namespace : Option Namespace) (kind : Kind) (prohibits :
     packed_text = by packed rewrite packed_placed
       where
         by : (held : Option Path) (r : Rewrite) → IsPackedPlaced locked staying dirs held ran → carrying.HasPackedText locked staying dirs first texts held r
-        by (Some path) (Text text) place = text_at (lock_of path) (owned_all s before given (lock_of path) place.0)
+        by (Some path) (Text text) place = text_at (lock_of path) (owned_all s mode before given (lock_of path) place.0)
         by (Some path) Unchanged place = tt
         by (Some path) Removed place = tt
         by None r place = tt
@@ -216,4 +216,4 @@ module _ (dirs : Dirs) (namespace : Option Namespace) (kind : Kind) (prohibits :
     pub carried : Carries locked staying texts (steps_in (planned_entries dirs ran packed rewrite)) (own_plan first ran packed rewrite)
     carried =
         carrying.plan_carried locked staying dirs first ran packed rewrite texts are_placed are_apart packed_placed
-        (have_texts given ran laid.places (λ q within. edit_lock s before given q within)) packed_text
+        (have_texts given ran laid.places (λ q within. edit_lock s mode before given q within)) packed_text

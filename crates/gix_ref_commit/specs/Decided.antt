@@ -9,14 +9,15 @@ use Rattle.gix_ref_files.specs.Tree.Content.{File}
 use Rattle.gix_ref_lookup.specs.Lookups.{packed_refs_in, ArePackedRecords}
 use Rattle.gix_ref_lookup.specs.declared.settings.Settings.{Settings}
 use Rattle.gix_ref_repack.specs.Refusals.{IsCountedRefusal, IsReadFile, IsRefusedRewrite, IsRepackFault}
-use Rattle.gix_ref_repack.specs.Repacks.{IsRepack, removes_record}
+use Rattle.gix_ref_repack.specs.Repacks.{AllCanBePut, IsRepack, alters_record}
 use Rattle.gix_ref_repack.specs.declared.error.Error.{Error}
 use Rattle.gix_ref_rewrite.specs.declared.outcome.Rewrite.{Rewrite}
 use Rattle.gix_ref_rewrite.specs.declared.outcome.Rewrite.TheVariants.{Text}
 use Rattle.gix_ref_theory.specs.Between.{AreEdits}
-use Rattle.gix_ref_transaction.specs.CommittedEdits.{planned}
+use Rattle.gix_ref_theory.specs.Edits.{Mode}
 use Rattle.gix_ref_transaction.specs.OwnLocks.{OnlyLocks}
 use Rattle.gix_ref_transaction.specs.PackedCauses.{ids_among}
+use Rattle.gix_ref_transaction.specs.Packing.{HaveTheirPuts, plan_edits}
 use Rattle.gix_ref_transaction.specs.PrepareSteps.{setting_of, updates, ids_in, packed_places, AreEmpty, AreWholeLocks, FillsLock}
 use Rattle.gix_ref_transaction.specs.declared.edit.Edit.{Edit}
 
@@ -37,14 +38,17 @@ IsPackedLockEmpty packed T = AreEmpty T (map lock_of (packed_places packed))
 -- What becomes of `packed-refs` by these edits, where its lock is held at this place.
 pub record DecidesPacked (honest : Type 0) (settings : Settings) (packed : Option Path)
     (edits : List Edit) (old new : Meaning) (rewrite : Rewrite) : Type 0 where
-  -- a well-formed one becomes that without the records of deleted references, where no two edits have one place
+  -- a well-formed one becomes that with what the edits put and without the records of deleted references, where no two edits have
+  -- one place
   pub repacked :
-      honest → AreEdits (setting_of settings) (planned (updates edits)) → (rs : List Record) →
-      ArePackedRecords settings.kind (packed_refs_in settings old) rs →
-      ids_in edits ≡ ids_among (setting_of settings) rs (updates edits) → packed ≢ None →
-      IsRepack (setting_of settings) settings.kind rs (planned (updates edits)) rewrite
-  -- of any, each line is a record where an edit removes a record
-  pub whole : honest → packed ≢ None → list_any removes_record edits ≡ true →
+      honest → (mode : Mode) → AreEdits (setting_of settings) (plan_edits edits) →
+      (rs : List Record) → ArePackedRecords settings.kind (packed_refs_in settings old) rs →
+      ids_in edits ≡ ids_among (setting_of settings) rs (updates edits) →
+      HaveTheirPuts (setting_of settings) mode edits →
+      AllCanBePut (setting_of settings) settings.kind edits → packed ≢ None →
+      IsRepack (setting_of settings) mode settings.kind rs (plan_edits edits) rewrite
+  -- of any, each line is a record where an edit alters a record
+  pub whole : honest → packed ≢ None → list_any alters_record edits ≡ true →
       IsReadFile settings.kind (old.tree (setting_of settings).packed_path)
   -- a new text is in its lock, and no other file has changed
   pub filled : honest → IsPackedLockEmpty packed old.tree →
@@ -57,7 +61,7 @@ pub record DecidesPacked (honest : Type 0) (settings : Settings) (packed : Optio
 pub record LeavesUndecided (honest : Type 0) (settings : Settings) (edits : List Edit)
     (old : Meaning) (before now : ℕ) (error : Error) : Type 0 where
   -- of a well-formed one only a fault of files, or want of memory, where no two edits have one place
-  pub sound : honest → AreEdits (setting_of settings) (planned (updates edits)) →
+  pub sound : honest → AreEdits (setting_of settings) (plan_edits edits) →
       (rs : List Record) → ArePackedRecords settings.kind (packed_refs_in settings old) rs →
       IsRepackFault error
   -- of any, a line that is reported is no record

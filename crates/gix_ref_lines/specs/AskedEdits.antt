@@ -6,6 +6,7 @@ use Rattle.gix_ref_base.specs.declared.target.Target.{Target}
 use Rattle.gix_ref_edits.specs.RefEdits.{expected_of, matched}
 use Rattle.gix_ref_edits.specs.declared.transaction.RefEdit.{RefEdit}
 use Rattle.gix_ref_files.specs.Tree.{Path}
+use Rattle.gix_ref_transaction.specs.declared.edit.PackedObject.{PackedObject}
 use Rattle.gix_ref_transaction.specs.declared.edit.Edit.{Edit}
 use Rattle.gix_ref_transaction.specs.declared.edit.Effect.{Effect}
 use Rattle.gix_ref_transaction.specs.declared.edit.LogEffect.{LogEffect}
@@ -50,10 +51,12 @@ abbrev pub outcomes_of : List Edit → List LogOutcome
 outcomes_of edits = map (λ (e : Edit). outcome_of e.log) edits
 
 -- an edit but for what becomes of its log
-abbrev pub but_log : Edit → RefEdit × Option ℕ
-    × Path × Option ObjectId × Option Target × Effect × Bool
-but_log e = (e.update, e.parent, e.lock, e.packed, e.found, e.effect, e.has_file)
+abbrev pub ButLog : Type 0
+ButLog = RefEdit × Option ℕ × Path × Option ObjectId × Option Target × Effect × Bool
+    × Option PackedObject
 
-abbrev pub all_but_logs : List Edit →
-    List (RefEdit × Option ℕ × Path × Option ObjectId × Option Target × Effect × Bool)
+abbrev pub but_log : Edit → ButLog
+but_log e = (e.update, e.parent, e.lock, e.packed, e.found, e.effect, e.has_file, e.put)
+
+abbrev pub all_but_logs : List Edit → List ButLog
 all_but_logs edits = map but_log edits

@@ -13,7 +13,7 @@ use Rattle.gix_ref_hash.specs.declared.hash.ObjectId.{ObjectId}
 use Rattle.gix_ref_hash.specs.declared.hash.ObjectId.TheVariants as ids
 use Rattle.gix_ref_hash.specs.Ids.{kind_len, id_kind, id_bytes, IsHex, ReadsId}
 use Rattle.gix_ref_hash.proofs.IdLemmas.{reads_whole}
-use Rattle.gix_ref_object.specs.Peeling.{id_decoded, id_of_hex, tag_target}
+use Rattle.gix_ref_object.specs.Peeling.{id_decoded, id_of_hex, target_of_kind}
 
 -- ---- hex digits
 read_with : (kind : Kind) (id : ObjectId) → 2 * kind_len kind ≡ 2 * kind_len (id_kind id) → id_decoded kind (Ok (id_bytes id)) ≡ Some id
@@ -52,14 +52,14 @@ front_is bytes true begins never =
     absurd (never (drop 7 bytes) ((starts_is Decides-eqb bytes (codes "object ") (starts_with nat_eq bytes (codes "object ")) refl).0 begins))
 front_is bytes false begins never = refl
 
-pub no_front : (kind : Kind) (bytes : List ℕ) → ((rest : List ℕ) → bytes ≢ codes "object " ++ rest) → None ≡ tag_target kind bytes
-unfolding tag_target
+pub no_front : (kind : Kind) (bytes : List ℕ) → ((rest : List ℕ) → bytes ≢ codes "object " ++ rest) → None ≡ target_of_kind kind bytes
+unfolding target_of_kind
 no_front kind bytes never =
     sym (ap (λ (b : Bool). if b && starts_with nat_eq (drop (2 * kind_len kind) (drop 7 bytes)) (10 ∷ []) then id_of_hex kind (take (2 * kind_len kind) (drop 7 bytes)) else None) (front_is bytes (starts_with nat_eq bytes (codes "object ")) refl never))
 
 -- behind `object `
-behind_front : (kind : Kind) (bytes rest : List ℕ) (b : Bool) → bytes ≡ codes "object " ++ rest → starts_with nat_eq (drop (2 * kind_len kind) rest) (10 ∷ []) ≡ b → tag_target kind bytes ≡ (if b then id_of_hex kind (take (2 * kind_len kind) rest) else None)
-unfolding tag_target
+behind_front : (kind : Kind) (bytes rest : List ℕ) (b : Bool) → bytes ≡ codes "object " ++ rest → starts_with nat_eq (drop (2 * kind_len kind) rest) (10 ∷ []) ≡ b → target_of_kind kind bytes ≡ (if b then id_of_hex kind (take (2 * kind_len kind) rest) else None)
+unfolding target_of_kind
 behind_front kind bytes rest b whole line =
     ap (λ (v : List ℕ). if starts_with nat_eq v (codes "object ") && starts_with nat_eq (drop (2 * kind_len kind) (drop 7 v)) (10 ∷ []) then id_of_hex kind (take (2 * kind_len kind) (drop 7 v)) else None) whole
     ∙ ap (λ (v : Bool). if v then id_of_hex kind (take (2 * kind_len kind) rest) else None) line
@@ -72,15 +72,15 @@ first_byte : (rest : List ℕ) (n : ℕ) → n < length rest → starts_with nat
 first_byte rest n within =
     ap (λ v. starts_with nat_eq v (10 ∷ [])) (drop_more rest n 0 within) ∙ and_true (eqb 10 (get_or rest n 0))
 
-pub too_short : (kind : Kind) (bytes rest : List ℕ) (n : ℕ) → n ≡ 2 * kind_len kind → bytes ≡ codes "object " ++ rest → length rest ≤ n → None ≡ tag_target kind bytes
+pub too_short : (kind : Kind) (bytes rest : List ℕ) (n : ℕ) → n ≡ 2 * kind_len kind → bytes ≡ codes "object " ++ rest → length rest ≤ n → None ≡ target_of_kind kind bytes
 too_short kind bytes rest n sized whole short =
     sym (behind_front kind bytes rest false whole (ap (λ v. starts_with nat_eq v (10 ∷ [])) (ap (λ k. drop k rest) (sym sized) ∙ drop_all n rest short)))
 
-pub no_line : (kind : Kind) (bytes rest : List ℕ) (n : ℕ) → n ≡ 2 * kind_len kind → bytes ≡ codes "object " ++ rest → n < length rest → get_or rest n 0 ≢ 10 → None ≡ tag_target kind bytes
+pub no_line : (kind : Kind) (bytes rest : List ℕ) (n : ℕ) → n ≡ 2 * kind_len kind → bytes ≡ codes "object " ++ rest → n < length rest → get_or rest n 0 ≢ 10 → None ≡ target_of_kind kind bytes
 no_line kind bytes rest n sized whole within other =
     sym (behind_front kind bytes rest false whole (ap (λ k. starts_with nat_eq (drop k rest) (10 ∷ [])) (sym sized) ∙ first_byte rest n within ∙ ne_eqb 10 (get_or rest n 0) (λ same. other (sym same))))
 
-pub a_line : (kind : Kind) (bytes rest : List ℕ) (n : ℕ) → n ≡ 2 * kind_len kind → bytes ≡ codes "object " ++ rest → n < length rest → get_or rest n 0 ≡ 10 → id_of_hex kind (take n rest) ≡ tag_target kind bytes
+pub a_line : (kind : Kind) (bytes rest : List ℕ) (n : ℕ) → n ≡ 2 * kind_len kind → bytes ≡ codes "object " ++ rest → n < length rest → get_or rest n 0 ≡ 10 → id_of_hex kind (take n rest) ≡ target_of_kind kind bytes
 a_line kind bytes rest n sized whole within here =
     ap (λ k. id_of_hex kind (take k rest)) sized
     ∙ sym (behind_front kind bytes rest true whole (ap (λ k. starts_with nat_eq (drop k rest) (10 ∷ [])) (sym sized) ∙ first_byte rest n within ∙ eq-eqb 10 (get_or rest n 0) (sym here)))

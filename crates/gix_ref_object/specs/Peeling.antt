@@ -7,7 +7,7 @@ use Rattle.gix_ref_hash.specs.declared.hash.Kind.{Kind as HashKind}
 use Rattle.gix_ref_hash.specs.declared.hash.Kind.TheVariants as kinds
 use Rattle.gix_ref_hash.specs.declared.hash.ObjectId.{ObjectId}
 use Rattle.gix_ref_hash.specs.declared.hash.ObjectId.TheVariants as ids
-use Rattle.gix_ref_hash.specs.Ids.{kind_len, id_kind}
+use Rattle.gix_ref_hash.specs.Ids.{kind_len}
 use Rattle.gix_ref_object.specs.declared.object.Kind.TheVariants.{Tag}
 use Rattle.gix_ref_object.specs.declared.peel.PeelError.{PeelError}
 use Rattle.gix_ref_object.specs.declared.peel.PeelError.TheVariants as peeling
@@ -26,12 +26,21 @@ id_of_hex kind digits = if length digits == 2 * kind_len kind
     then id_decoded kind (decode_of digits) else None
 
 -- the id of the kind in the front of a tag: `object `, the hex digits of the id, LF
-unfoldable pub tag_target : HashKind → List ℕ → Option ObjectId
-tag_target kind bytes =
+unfoldable pub target_of_kind : HashKind → List ℕ → Option ObjectId
+target_of_kind kind bytes =
     let rest = drop 7 bytes in
     let len = 2 * kind_len kind in
     if starts_with nat_eq bytes (codes "object ") && starts_with nat_eq (drop len rest) (10 ∷ [])
     then id_of_hex kind (take len rest) else None
+
+-- the first of two, where it is there
+abbrev pub first_of : Option ObjectId → Option ObjectId → Option ObjectId
+first_of (Some id) other = Some id
+first_of None other = other
+
+-- the id in the front of a tag, of either kind
+unfoldable pub tag_target : List ℕ → Option ObjectId
+tag_target bytes = first_of (target_of_kind kinds.Sha1 bytes) (target_of_kind kinds.Sha256 bytes)
 
 -- how a chain of tags ends: at an object that is no tag, at an id with no object, at a tag that names none, after too
 -- many tags, or at an object that cannot be read
@@ -51,7 +60,7 @@ onward id more (Some target) = more target
 abbrev pub step : ObjectId → (ObjectId → Peeled) → Stored → Peeled
 step id more Absent = Missing id
 step id more Faulty = Failed
-step id more (Object Tag bytes) = onward id more (tag_target (id_kind id) bytes)
+step id more (Object Tag bytes) = onward id more (tag_target bytes)
 step id more (Object kind bytes) = End id
 
 -- over at most `objects` objects
@@ -83,7 +92,7 @@ Continues id more peeled (Err error) = PeelsTo peeled (Err error)
 -- the object is a tag that names the target
 abbrev pub TagTo : (ObjectId → Stored) → ObjectId → ObjectId → Type 0
 TagTo meaning id target = (bytes : List ℕ) × (meaning id ≡ Object Tag bytes)
-    × (tag_target (id_kind id) bytes ≡ Some target)
+    × (tag_target bytes ≡ Some target)
 
 -- `tags` tags in a row lead from one id to another
 abbrev pub Chain : (ObjectId → Stored) → (tags : ℕ) → ObjectId → ObjectId → Type 0

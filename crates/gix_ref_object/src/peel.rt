@@ -1,6 +1,6 @@
 //! From a tag to the object that it is of (`gitrevisions`, `<rev>^{}`).
 ghost use Rattle.std.specs.Prelude.{◌≡◌};
-ghost use Rattle.gix_ref_object.specs.Peeling.{id_of_hex as id_with_digits, tag_target as target_of, peel, step, Peeled, PeelsTo, Continues};
+ghost use Rattle.gix_ref_object.specs.Peeling.{id_of_hex as id_with_digits, target_of_kind as of_kind, tag_target as target_of, peel, step, Peeled, PeelsTo, Continues};
 ghost use Rattle.gix_ref_hash.specs.declared.hash.ObjectId.{ObjectId};
 
 use crate::object::{Find, FindError, Kind};
@@ -32,15 +32,9 @@ fn id_of_hex(kind: hash::Kind, digits: &[u8]) -> Option<ObjectId>
     ObjectId::from_hex(digits)
 }
 
-/// The id that a tag names in its first line: `object `, the hex digits of an id of the kind, and LF (`git mktag`).
-/// `None` for bytes with another first line. As gix-object's `TagRefIter::target_id`.
-///
-/// ```text
-/// tag_target(Kind::Sha1, b"object 1111111111111111111111111111111111111111\ntype commit\n") // Some id
-/// tag_target(Kind::Sha1, b"tree 1111111111111111111111111111111111111111\n")                 // None
-/// ```
-pub fn tag_target(kind: hash::Kind, bytes: &[u8]) -> Option<ObjectId>
-    ensures { result ≡ target_of kind bytes.now }
+/// The id of the kind that a tag names in its first line.
+fn target_of_kind(kind: hash::Kind, bytes: &[u8]) -> Option<ObjectId>
+    ensures { result ≡ of_kind kind bytes.now }
 {
     let Some(rest) = strip_front(bytes, b"object ") else {
         return None;
@@ -50,6 +44,22 @@ pub fn tag_target(kind: hash::Kind, bytes: &[u8]) -> Option<ObjectId>
         return None;
     }
     id_of_hex(kind, &rest[..len])
+}
+
+/// The id that a tag names in its first line: `object `, 40 or 64 hex digits, and LF (`git mktag`). `None` for bytes
+/// with another first line. As gix-object's `TagRefIter::target_id`, which is told the number of the digits.
+///
+/// ```text
+/// tag_target(b"object 1111111111111111111111111111111111111111\ntype commit\n") // Some id
+/// tag_target(b"tree 1111111111111111111111111111111111111111\n")                 // None
+/// ```
+pub fn tag_target(bytes: &[u8]) -> Option<ObjectId>
+    ensures { result ≡ target_of bytes.now }
+{
+    match target_of_kind(hash::Kind::Sha1, bytes) {
+        Some(target) => Some(target),
+        None => target_of_kind(hash::Kind::Sha256, bytes),
+    }
 }
 
 /// The target of the tag with this id, or `None` where the object is no tag. The errors are those of `peel_to_end`.
@@ -70,7 +80,7 @@ fn next_of<T: Find>(
     if found.kind != Kind::Tag {
         return Ok(None);
     }
-    match tag_target(id.kind(), found.bytes) {
+    match tag_target(found.bytes) {
         Some(target) => Ok(Some(target)),
         None => Err(PeelError::NotFound { oid: id }),
     }
@@ -81,7 +91,7 @@ fn next_of<T: Find>(
 /// `ReferenceExt::peel_to_id`.
 ///
 /// `NotFound` names an id that has no object, or whose object is a tag with another first line than `object `, the hex
-/// digits of an id of the same kind, and LF. `TagChainTooLong` is returned for more than 1,000 tags in a row, as for a
+/// digits of an id, and LF. The object may have an id of the other kind. `TagChainTooLong` is returned for more than 1,000 tags in a row, as for a
 /// tag that names itself, `Find` for an object that could not be read, and `Memory` where there was no memory for one.
 ///
 /// ```text

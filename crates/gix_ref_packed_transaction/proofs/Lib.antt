@@ -1,2 +1,3 @@
 pub mod LockSteps
 pub mod Losses
+pub mod RecordChanges

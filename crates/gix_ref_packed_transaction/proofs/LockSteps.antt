@@ -10,7 +10,7 @@ use Rattle.gix_ref_base.specs.PackedRecords.{Record}
 use Rattle.gix_ref_hash.specs.declared.hash.Kind.{Kind}
 use Rattle.gix_ref_packed.specs.Buffers.{buffer_text, HoldsRecords}
 use Rattle.gix_ref_packed.specs.declared.packed.buffer.Buffer.{Buffer}
-use Rattle.gix_ref_repack.specs.Removals.{IsWithout}
+use Rattle.gix_ref_repack.specs.Changes.{ChangeValue, IsChanged}
 use Rattle.gix_ref_repack.specs.declared.error.Error.{Error}
 use Rattle.gix_ref_repack.specs.declared.error.Error.TheVariants.{Commit, Iteration, Io, Memory}
 use Rattle.gix_ref_rewrite.specs.declared.outcome.Rewrite.{Rewrite}
@@ -87,21 +87,21 @@ on_ok (Ok x) step holds = step holds
 on_ok (Err e) step holds = tt
 
 -- the file that was made of the records of a buffer
-pub made_of : (kind : Kind) (keys : List (List ℕ)) (o : Option Buffer) (buffer : Buffer) → o ≡ Some buffer → (r : Result Rewrite Error) →
-    ((rs : List Record) → HoldsRecords kind rs (buffer_text buffer) → AreDistinct keys → MatchResult r (IsWithout kind keys rs) (λ error. error ≡ Memory)) → IfOk r (IsMadeOf kind o keys)
-made_of kind keys None buffer is r made = absurd (cc is)
-made_of kind keys (Some other) buffer is (Err e) made = tt
-made_of kind keys (Some other) buffer is (Ok rewrite) made = λ rs holds apart. made rs (subst (λ (b : Buffer). HoldsRecords kind rs (buffer_text b)) (some_is is) holds) apart
+pub made_of : (kind : Kind) (changes : List ChangeValue) (o : Option Buffer) (buffer : Buffer) → o ≡ Some buffer → (r : Result Rewrite Error) →
+    ((rs : List Record) → HoldsRecords kind rs (buffer_text buffer) → AreDistinct changes → MatchResult r (IsChanged kind changes rs) (λ error. error ≡ Memory)) → IfOk r (IsMadeOf kind o changes)
+made_of kind changes None buffer is r made = absurd (cc is)
+made_of kind changes (Some other) buffer is (Err e) made = tt
+made_of kind changes (Some other) buffer is (Ok rewrite) made = λ rs holds apart. made rs (subst (λ (b : Buffer). HoldsRecords kind rs (buffer_text b)) (some_is is) holds) apart
   where
     some_is : Some other ≡ Some buffer → other ≡ buffer
     some_is same = cc
 
 -- what a commit leaves that has failed
-module _ (kind : Kind) (records : Option Buffer) (keys : List (List ℕ)) (place : Path) (before : Tree) where
-  pub left_as_before : (T : Tree) → OnlyLockChanges place before T → IsBeforeOrRewritten kind records keys place before T
+module _ (kind : Kind) (records : Option Buffer) (changes : List ChangeValue) (place : Path) (before : Tree) where
+  pub left_as_before : (T : Tree) → OnlyLockChanges place before T → IsBeforeOrRewritten kind records changes place before T
   left_as_before T only = (λ q not_place not_lock. only q not_lock, inl (only place (lock_elsewhere place)))
 
-  pub left_rewritten : (rewrite : Rewrite) → IsMadeOf kind records keys rewrite → (T : Tree) → IsOldOrRewritten rewrite place before T → IsBeforeOrRewritten kind records keys place before T
+  pub left_rewritten : (rewrite : Rewrite) → IsMadeOf kind records changes rewrite → (T : Tree) → IsOldOrRewritten rewrite place before T → IsBeforeOrRewritten kind records changes place before T
   left_rewritten rewrite made T (only, inl same) = (only, inl same)
   left_rewritten rewrite made T (only, inr holds) = (only, inr (rewrite, made, holds))
 

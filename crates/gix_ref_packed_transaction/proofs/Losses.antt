@@ -20,6 +20,7 @@ use Rattle.gix_ref_rewrite.specs.declared.outcome.Rewrite.{Rewrite}
 use Rattle.gix_ref_rewrite.specs.declared.outcome.Rewrite.TheVariants.{Unchanged, Removed, Text}
 use Rattle.gix_ref_transaction.specs.PrepareSteps.{FillingOn}
 use Rattle.gix_ref_packed_transaction.specs.PackedTransactions.{IsMadeOf}
+use Rattle.gix_ref_repack.specs.Changes.{ChangeValue}
 use Rattle.gix_ref_packed_transaction.specs.PackedLosses.{BecomesFile, IsLostOf, IsReadyOn, OnlyLockIsLost, SettlesPackedRefs, folders_at}
 use Rattle.gix_ref_packed_transaction.specs.internal.Keeping.{IsMoved, KeepsSettled}
 use Rattle.gix_ref_packed_transaction.proofs.LockSteps.{lock_elsewhere}
@@ -96,8 +97,8 @@ module _ (rewrite : Rewrite) (place : Path) (D : Disk) where
       subst (KeepsSettled rewrite place D) (sym is) (keeps_sync (OfFile (lock_of place)) (appended_on E (lock_of place) text) (keeps_append E text file keeps))
 
   -- what a loss of power leaves then
-  pub lost_of : (kind : Kind) (records : Option Buffer) (keys : List (List ℕ)) → IsMadeOf kind records keys rewrite → (E : Disk) (T : Tree) → KeepsSettled rewrite place D E → Lost E T → IsLostOf kind records keys place D T
-  lost_of kind records keys made E T keeps lost = (
+  pub lost_of : (kind : Kind) (records : Option Buffer) (changes : List ChangeValue) → IsMadeOf kind records changes rewrite → (E : Disk) (T : Tree) → KeepsSettled rewrite place D E → Lost E T → IsLostOf kind records changes place D T
+  lost_of kind records changes made E T keeps lost = (
     λ q not_place not_lock settled. lost_holds E T (file_of (D.tree q)) (λ f. f ≡ file_of (D.tree q)) q (keeps.others q not_place not_lock settled) refl lost,
     elim (lost_holds E T before OldOrNew place keeps.file (inl refl) lost) [ inl same ↦ inl same | inr new ↦ inr (rewrite, made, new) ],
   )
@@ -212,8 +213,8 @@ lost_unlocking place D E T (inr gone) lost =
     (holds_changed D (removed_on D (lock_of place)) (Gone (lock_of place)) (removes D (lock_of place) gone.0) (file_of (D.tree q)) (λ f. f ≡ file_of (D.tree q)) (λ f. f ≡ file_of (D.tree q)) q (λ f is. is) (λ c new. absurd (not_lock (sym new.0))) settled)
     refl (subst (λ (X : Disk). Lost X T) gone.1 lost)
 
-pub lost_before : (kind : Kind) (records : Option Buffer) (keys : List (List ℕ)) (place : Path) (D : Disk) (T : Tree) → IsReadyOn place D → OnlyLockIsLost place D T → IsLostOf kind records keys place D T
-lost_before kind records keys place D T ready only = (λ q not_place not_lock settled. only q not_lock settled, inl (only place (lock_elsewhere place) ready.file))
+pub lost_before : (kind : Kind) (records : Option Buffer) (changes : List ChangeValue) (place : Path) (D : Disk) (T : Tree) → IsReadyOn place D → OnlyLockIsLost place D T → IsLostOf kind records changes place D T
+lost_before kind records changes place D T ready only = (λ q not_place not_lock settled. only q not_lock settled, inl (only place (lock_elsewhere place) ready.file))
 
 pub lock_file : (place : Path) (D : Disk) → IsReadyOn place D → is_file (D.tree (lock_of place)) ≡ true
 lock_file place D ready = ap is_file ready.lock.0

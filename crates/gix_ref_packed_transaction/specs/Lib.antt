@@ -1,3 +1,4 @@
 pub mod PackedTransactions
 pub mod PackedLosses
+pub mod RecordChanges
 pub mod internal

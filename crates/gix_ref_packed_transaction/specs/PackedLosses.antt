@@ -6,6 +6,7 @@ use Rattle.gix_ref_files.specs.Lock.{lock_of}
 use Rattle.gix_ref_files.specs.Settled.{AllStay, IsSettledAt, IsWholeAt}
 use Rattle.gix_ref_files.specs.Tree.{Tree, Path, file_of, fronts}
 use Rattle.gix_ref_packed.specs.declared.packed.buffer.Buffer.{Buffer}
+use Rattle.gix_ref_repack.specs.Changes.{ChangeValue}
 use Rattle.gix_ref_rewrite.specs.declared.outcome.Rewrite.{Rewrite}
 use Rattle.gix_ref_rewrite.specs.declared.outcome.Rewrite.TheVariants.{Unchanged, Removed, Text}
 use Rattle.gix_ref_packed_transaction.specs.PackedTransactions.{IsMadeOf}
@@ -38,11 +39,12 @@ OthersSettled place D E = (q : Path) → q ≢ place → q ≢ lock_of place →
 
 -- A loss of power in a commit, which begins with the disk D: `packed-refs` is as before or as the rewrite makes it, and the others are as
 -- before.
-abbrev pub IsLostOf : Kind → Option Buffer → List (List ℕ) → (place : Path) → Disk → Tree → Type 0
-IsLostOf kind records keys place D T =
+abbrev pub IsLostOf :
+    Kind → Option Buffer → List ChangeValue → (place : Path) → Disk → Tree → Type 0
+IsLostOf kind records changes place D T =
     OthersStay place D T
     × ((file_of (T place) ≡ file_of (D.tree place))
-    ⊎ ((rewrite : Rewrite) × IsMadeOf kind records keys rewrite
+    ⊎ ((rewrite : Rewrite) × IsMadeOf kind records changes rewrite
     × BecomesFile rewrite (file_of (D.tree place)) (file_of (T place))))
 
 -- A commit that succeeds settles `packed-refs`: each later loss of power leaves it as it is then, and the others too.

@@ -1,7 +1,6 @@
 -- A transaction of `packed-refs` alone: what it keeps, and what its commit leaves.
-use Rattle.std.specs.Prelude.{◌≡◌, ◌≢◌, ◌⊎◌, ℕ, List, Option, Some, None, true, false, map, vec_items, if◌then◌else◌, [], ◌∷◌}
+use Rattle.std.specs.Prelude.{◌≡◌, ◌≢◌, ◌⊎◌, ℕ, List, Option, Some, None, true, false, []}
 use Rattle.std.specs.Cmp.Lexicographic.{slice_cmp}
-use Rattle.std.specs.List.{flat_map}
 use Rattle.std.specs.List.Sorted.{IsStrictlySortedBy}
 use Rattle.std.specs.Ordering.{nat_cmp}
 use Rattle.gix_ref_hash.specs.declared.hash.Kind.{Kind}
@@ -15,11 +14,8 @@ use Rattle.gix_ref_packed.specs.Buffers.{buffer_text, buffer_line, HoldsRecords}
 use Rattle.gix_ref_packed.specs.declared.packed.buffer.Buffer.{Buffer}
 use Rattle.gix_ref_rewrite.specs.declared.outcome.Rewrite.{Rewrite}
 use Rattle.gix_ref_rewrite.specs.declared.outcome.Rewrite.TheVariants.{Unchanged, Removed, Text}
-use Rattle.gix_ref_edits.specs.RefEdits.{name_of}
-use Rattle.gix_ref_edits.specs.declared.transaction.RefEdit.{RefEdit}
-use Rattle.gix_ref_transaction.specs.PackedCauses.{deletes_reference}
-use Rattle.gix_ref_repack.specs.Refusals.{IsReadText}
-use Rattle.gix_ref_repack.specs.Removals.{IsWithout, IsStuckIn}
+use Rattle.gix_ref_repack.specs.Changes.{ChangeValue, IsChanged, change_values, keys_in}
+use Rattle.gix_ref_repack.specs.Refusals.{IsReadText, IsStuckIn}
 use Rattle.gix_ref_repack.specs.declared.error.Error.{Error}
 use Rattle.gix_ref_repack.specs.declared.error.Error.TheVariants.{Commit, Iteration, Io, Memory}
 use Rattle.gix_ref_packed_transaction.specs.declared.transaction.Transaction.{Transaction}
@@ -35,28 +31,21 @@ transaction_place t = t.lock
 abbrev pub transaction_kind : Transaction → Kind
 transaction_kind t = t.kind
 
--- the keys of the records that it removes
-abbrev pub removed_keys : Transaction → List (List ℕ)
-removed_keys t = map vec_items t.keys.items
+-- the changes of records that it makes
+abbrev pub changes_of : Transaction → List ChangeValue
+changes_of t = change_values t.changes.items
 
--- the names of the references that edits delete, and not their logs alone
-abbrev pub deleted_name : RefEdit → List (List ℕ)
-deleted_name edit = if deletes_reference edit.change then name_of edit ∷ [] else []
+-- changes in the order of their keys, each of which has one
+abbrev pub AreDistinct : List ChangeValue → Type 0
+AreDistinct changes = IsStrictlySortedBy (slice_cmp nat_cmp) (keys_in changes)
 
-abbrev pub deleted_names : List RefEdit → List (List ℕ)
-deleted_names edits = flat_map deleted_name edits
-
--- keys in order, each once
-abbrev pub AreDistinct : List (List ℕ) → Type 0
-AreDistinct keys = IsStrictlySortedBy (slice_cmp nat_cmp) keys
-
--- what becomes of the file: nothing where there is none; else, where it holds these records in the order of their names, what they are
--- without those of the keys
-abbrev pub IsMadeOf : Kind → Option Buffer → List (List ℕ) → Rewrite → Type 0
-IsMadeOf kind None keys rewrite = rewrite ≡ Unchanged
-IsMadeOf kind (Some buffer) keys rewrite =
-    (rs : List Record) → HoldsRecords kind rs (buffer_text buffer) → AreDistinct keys →
-    IsWithout kind keys rs rewrite
+-- what becomes of the file by the changes: of no records, where there is none; else of these, where it holds them in the order of their
+-- names
+abbrev pub IsMadeOf : Kind → Option Buffer → List ChangeValue → Rewrite → Type 0
+IsMadeOf kind None changes rewrite = AreDistinct changes → IsChanged kind changes [] rewrite
+IsMadeOf kind (Some buffer) changes rewrite =
+    (rs : List Record) → HoldsRecords kind rs (buffer_text buffer) → AreDistinct changes →
+    IsChanged kind changes rs rewrite
 
 -- what the file is then
 abbrev pub HoldsRewrite : Rewrite → (before now : Option Content) → Type 0
@@ -93,16 +82,16 @@ pub record IsRewritten (rewrite : Rewrite) (place : Path) (before T : Tree) : Ty
   pub unlocked : is_file (T (lock_of place)) ≡ false
   pub only : OnlyAt place before T
 
-module _ (kind : Kind) (records : Option Buffer) (keys : List (List ℕ)) (place : Path) where
+module _ (kind : Kind) (records : Option Buffer) (changes : List ChangeValue) (place : Path) where
   abbrev pub CommitsRewrite : (before T : Tree) → Type 0
-  CommitsRewrite before T = (rewrite : Rewrite) × IsMadeOf kind records keys rewrite
+  CommitsRewrite before T = (rewrite : Rewrite) × IsMadeOf kind records changes rewrite
       × IsRewritten rewrite place before T
 
   -- a stop in it, or a failure, leaves `packed-refs` as before or as it is then, and nothing else has changed but its lock
   abbrev pub IsBeforeOrRewritten : (before T : Tree) → Type 0
   IsBeforeOrRewritten before T =
       OnlyAt place before T
-      × ((T place ≡ before place) ⊎ ((rewrite : Rewrite) × IsMadeOf kind records keys rewrite
+      × ((T place ≡ before place) ⊎ ((rewrite : Rewrite) × IsMadeOf kind records changes rewrite
       × HoldsRewrite rewrite (before place) (T place)))
 
 -- each line of the records is one
@@ -112,7 +101,7 @@ IsReadBuffer kind (Some buffer) = IsReadText kind (buffer_text buffer)
 
 -- why the records cannot be rewritten: a line is no record, or there was no memory
 abbrev pub IsStuckBuffer : Kind → Option Buffer → Error → Type 0
-IsStuckBuffer kind None error = ⊥
+IsStuckBuffer kind None error = error ≡ Memory
 IsStuckBuffer kind (Some buffer) error = IsStuckIn kind (buffer_line buffer)
     (buffer_text buffer) error
 

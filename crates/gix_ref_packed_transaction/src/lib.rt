@@ -1,4 +1,4 @@
-//! A transaction of `packed-refs` alone: records of deleted references are removed from it (`git pack-refs`).
+//! A transaction of `packed-refs` alone: records are put into it and removed from it (`git pack-refs`).
 #![tactic(auto)]
 
 pub mod transaction;

@@ -1,26 +1,29 @@
-//! A transaction of `packed-refs` alone, for a caller who holds its lock: records are removed from it, and all others stay as they are
-//! written. As gix-ref's `packed::Transaction`.
-ghost use Rattle.std.specs.Prelude.{◌≡◌, ◌≤◌, [], Some, None, false, Option, OnOk, OnErr, IfErr, MatchOption};
-ghost use Rattle.std.specs.Cmp.Lexicographic.{slice_cmp};
-ghost use Rattle.std.specs.List.Sorted.{IsPermutation, IsSorted};
-ghost use Rattle.std.specs.Ordering.{nat_cmp};
+//! A transaction of `packed-refs` alone, for a caller who holds its lock: records are put into it and removed from it, and all others stay
+//! as they are written. As gix-ref's `packed::Transaction`.
+ghost use Rattle.std.specs.Prelude.{◌≡◌, ◌≤◌, ◌⊎◌, [], Some, None, false, Option, OnOk, OnErr, IfErr, MatchOption};
+ghost use Rattle.std.specs.List.{All};
+ghost use Rattle.gix_ref_grammar.specs.NameGrammar.{IsFullName};
+ghost use Rattle.gix_ref_edits.specs.RefEdits.{name_of};
+ghost use Rattle.gix_ref_repack.specs.Changes.{AreReadable};
 ghost use Rattle.gix_ref_files.specs.DiskCalls.{RemovingFileOn};
 ghost use Rattle.gix_ref_files.specs.Files.{AtEveryStop, Loses, OnEveryDisk, HasRisen, disk_of};
 ghost use Rattle.gix_ref_files.specs.Lock.{lock_of};
 ghost use Rattle.gix_ref_files.specs.Tree.{is_file};
 ghost use Rattle.gix_ref_packed_transaction.specs.PackedTransactions.{OnlyLockGoes};
 
+mod changes;
 pub mod commit;
-mod keys;
 pub mod prepare;
 
+use crate::transaction::changes::sorted_changes;
 use crate::transaction::commit::{put_rewrite, rewritten};
-use crate::transaction::keys::sorted_names;
 use gix_ref_edits::transaction::RefEdit;
 use gix_ref_files::files::Files;
 use gix_ref_files::lock::{Lock, LockFile};
 use gix_ref_hash::hash::Kind;
+use gix_ref_object::object::Find;
 use gix_ref_packed::packed::Buffer;
+use gix_ref_repack::changes::KeyChange;
 use std::alloc::Global;
 use std::fmt;
 use thiserror::Error;
@@ -30,7 +33,7 @@ pub struct Transaction {
     buffer: Option<Buffer>,
     lock: LockFile,
     kind: Kind,
-    keys: Vec<Vec<u8>>,
+    changes: Vec<KeyChange>,
 }
 
 /// Removes a lock: its path, where it could not be removed.
@@ -77,9 +80,10 @@ pub struct Failed {
 }
 
 impl Transaction {
-    ghost use Rattle.gix_ref_packed_transaction.specs.declared.transaction.prepare.Error.TheVariants.{Memory as no_memory};
+    ghost use Rattle.gix_ref_transaction.specs.declared.prepare.packed.Error.TheVariants.{Memory as no_memory};
+    ghost use Rattle.gix_ref_packed_transaction.specs.RecordChanges.{AreSortedChangesOf, IsFirstNotTaken};
     ghost use Rattle.gix_ref_packed_transaction.specs.PackedLosses.{IsLostOf, IsReadyOn, OnlyLockIsLost, SettlesPackedRefs};
-    ghost use Rattle.gix_ref_packed_transaction.specs.PackedTransactions.{records_of, transaction_place, transaction_kind, removed_keys, deleted_names, CommitsRewrite, IsBeforeOrRewritten, IsLockEmpty, IsReadBuffer, IsUnbegun, SaysWhyPacked};
+    ghost use Rattle.gix_ref_packed_transaction.specs.PackedTransactions.{records_of, transaction_place, transaction_kind, changes_of, CommitsRewrite, IsBeforeOrRewritten, IsLockEmpty, IsReadBuffer, IsUnbegun, SaysWhyPacked};
 
     /// A transaction of the file whose lock is held, and whose records these are: `None` where there is no such file. The ids of the file
     /// are of the kind. Not public in gix-ref.
@@ -88,7 +92,7 @@ impl Transaction {
     /// if let Acquire::Held(lock) = Lock::acquire(alloc, &mut files, b".git/packed-refs")? {
     ///     let buffer = Buffer::open(alloc, &mut files, b".git/packed-refs", 32_768, Kind::Sha1)?;
     ///     let mut transaction = Transaction::new(alloc, buffer, lock, Kind::Sha1);
-    ///     transaction.prepare(alloc, &edits)?;
+    ///     transaction.prepare(alloc, &edits, &objects)?;
     ///     transaction.commit(alloc, &mut files)?;
     /// }
     /// ```
@@ -96,13 +100,13 @@ impl Transaction {
         ensures records { records_of result ≡ buffer }
         ensures place { transaction_place result ≡ lock }
         ensures kind { transaction_kind result ≡ kind }
-        ensures keys { removed_keys result ≡ [] }
+        ensures changes { changes_of result ≡ [] }
     {
         Transaction {
             buffer,
             lock: lock.into_file(),
             kind,
-            keys: Vec::new(alloc),
+            changes: Vec::new(alloc),
         }
     }
 
@@ -114,27 +118,39 @@ impl Transaction {
         self.buffer.as_ref()
     }
 
-    /// Takes the edits whose records `commit` changes: each deletion of a reference, under the name that its record has, removes that
-    /// record. Edits of logs alone are passed over, and updates are until they can be put into `packed-refs`. The edits of an
-    /// earlier call are given up. `Memory` leaves all as it was. No two edits may have one name. As gix-ref's
-    /// `packed::Transaction::prepare`.
-    pub fn prepare(&mut self, alloc: Global, edits: &[RefEdit]) -> Result<(), prepare::Error>
-        ensures moved { OnOk result
-            (IsPermutation (deleted_names edits.now) (removed_keys self.new)) }
-        ensures sorted { OnOk result (IsSorted (slice_cmp nat_cmp) (removed_keys self.new)) }
+    /// Takes the edits whose records `commit` changes, each under its full name: an update of a reference to an object puts that, with the
+    /// object at the end of its tags, which the finder leads to, where that is another one; a deletion of a reference removes
+    /// its record. Edits of logs alone and updates to other references are passed over. The edits of an earlier call are given
+    /// up. No two edits may have one name, and each name is to be a full one. As gix-ref's `packed::Transaction::prepare`.
+    ///
+    /// The first edit at fault is reported: `OtherHashKind` for an object, or one at the end of its tags, whose id is not of the kind of the
+    /// file's ids; `Resolve` for one that is missing, or that is a tag which names no object; `TagChainTooLong` for one behind
+    /// more than 1,000 tags, `Find` for one that could not be read. `Memory` can come anywhere. After an error all is as it was.
+    pub fn prepare<T: Find>(
+        &mut self,
+        alloc: Global,
+        edits: &[RefEdit],
+        objects: &T,
+    ) -> Result<(), prepare::Error>
+        ensures changes { OnOk result (AreSortedChangesOf (T.claims objects.now)
+            (T.meaning objects.now) (transaction_kind self.old) edits.now (changes_of self.new)) }
+        ensures readable { All (λ edit. IsFullName (name_of edit)) edits.now → OnOk result
+            (AreReadable (transaction_kind self.old) (changes_of self.new)) }
         ensures records { records_of self.new ≡ records_of self.old }
         ensures place { transaction_place self.new ≡ transaction_place self.old }
         ensures kind { transaction_kind self.new ≡ transaction_kind self.old }
         ensures kept { OnErr result (self.new ≡ self.old) }
-        ensures error { IfErr result (λ error. error ≡ no_memory) }
+        ensures refused { T.claims objects.now → IfErr result
+            (λ error. (error ≡ no_memory) ⊎ IsFirstNotTaken (transaction_kind self.old)
+            (T.meaning objects.now) [] edits.now error) }
     {
-        self.keys = sorted_names(alloc, edits)?;
+        self.changes = sorted_changes(alloc, objects, self.kind, edits)?;
         Ok(())
     }
 
-    /// Removes the records: the text without them, with the header that `git pack-refs` writes and all other records as they were, goes
+    /// Puts and removes the records: the new text, with the header that `git pack-refs` writes and all other records as they were, goes
     /// into the lock, which is synced and renamed to the file; where no record is left the file is removed, and where none is
-    /// removed it stays as it is. The folder of the file is synced. Then the lock is gone.
+    /// put or removed it stays as it is. The folder of the file is synced. Then the lock is gone.
     ///
     /// `Iteration` reports a line of the records that is no record, and `Memory` that there was none for the text; then nothing but
     /// the lock has changed. `Io` and `Commit` report a call of files that failed, `Commit` the rename, also onto a folder. At every
@@ -144,15 +160,15 @@ impl Transaction {
     pub fn commit<F: Files>(self, alloc: Global, files: &mut F) -> Result<(), Failed>
         ensures committed { F.honest → IsLockEmpty (transaction_place self)
             (F.means files.old).tree → OnOk result
-            (CommitsRewrite (transaction_kind self) (records_of self) (removed_keys self)
+            (CommitsRewrite (transaction_kind self) (records_of self) (changes_of self)
             (transaction_place self) (F.means files.old).tree (F.means files.new).tree) }
         ensures read { OnOk result (IsReadBuffer (transaction_kind self) (records_of self)) }
         ensures leaves { F.honest → IsLockEmpty (transaction_place self) (F.means files.old).tree →
             AtEveryStop F.means files.old files.new (IsBeforeOrRewritten (transaction_kind self)
-            (records_of self) (removed_keys self) (transaction_place self)) }
+            (records_of self) (changes_of self) (transaction_place self)) }
         ensures lost { F.honest → IsReadyOn (transaction_place self) (disk_of (F.means files.old)) →
             Loses (F.means files.old) (F.means files.new)
-            (IsLostOf (transaction_kind self) (records_of self) (removed_keys self)
+            (IsLostOf (transaction_kind self) (records_of self) (changes_of self)
             (transaction_place self) (disk_of (F.means files.old))) }
         ensures settled { F.honest → IsReadyOn (transaction_place self)
             (disk_of (F.means files.old)) → OnOk result (SettlesPackedRefs (transaction_place self)
@@ -171,9 +187,9 @@ impl Transaction {
             buffer,
             lock,
             kind,
-            keys,
+            changes,
         } = self;
-        let rewrite = match rewritten(alloc, &buffer, kind, &keys) {
+        let rewrite = match rewritten(alloc, &buffer, kind, &changes) {
             Ok(rewrite) => rewrite,
             Err(error) => return Err(release(files, lock, error)),
         };
@@ -205,7 +221,7 @@ impl Transaction {
             buffer: _,
             lock,
             kind: _,
-            keys: _,
+            changes: _,
         } = self;
         remove(files, lock)
     }

@@ -4,15 +4,19 @@ use Rattle.gix_ref_files.specs.Tree.{Tree, Path}
 use Rattle.gix_ref_files.specs.Disk.{Disk}
 use Rattle.gix_ref_files.specs.Files.{Meaning, HasRisenBy}
 use Rattle.gix_ref_files.specs.Settled.{IsAllSettled}
-use Rattle.gix_ref_theory.specs.Edits.Mode.{DeletionsOnly}
+use Rattle.gix_ref_theory.specs.Edits.{Mode}
 use Rattle.gix_ref_theory.specs.Losses.{IsLostWell}
 use Rattle.gix_ref_theory.specs.OnDisks.{IsSpokenOf}
 use Rattle.gix_ref_theory.specs.OnRealTrees.{view_of}
 use Rattle.gix_ref_log.specs.declared.actor.SignatureRef.{SignatureRef}
+use Rattle.gix_ref_object.specs.contracts.object.NeverFind.TheImpl.{claims-value, meaning-value}
+use Rattle.gix_ref_object.specs.declared.object.Never.{Never}
+use Rattle.gix_ref_transaction.specs.Packing.{OfFinder, ends_of, mode_in}
+use Rattle.gix_ref_transaction.specs.declared.packing.PackedRefs.{PackedRefs}
 use Rattle.gix_ref_transaction.specs.OwnLocks.{AddsLocks}
 use Rattle.gix_ref_transaction.specs.Splits.{AreSplit}
 use Rattle.gix_ref_transaction.specs.declared.edit.Edit.{Edit}
-use Rattle.gix_ref_store.specs.CommitLines.{LinesPass, lines_due}
+use Rattle.gix_ref_store.specs.CommitLines.{LinesPass, extras_due}
 use Rattle.gix_ref_store.specs.CommitResult.{CommitsFrom, EveryStopFrom, FailsFor, NoBadLineFrom}
 use Rattle.gix_ref_store.specs.CommittedFolders.{KeepsFolders}
 use Rattle.gix_ref_store.specs.Prepared.{PreparesGiven, RefusesGiven, HasGoodRecords, tree_of, disk_in, locks_in, places_in}
@@ -23,7 +27,7 @@ use Rattle.gix_ref_edits.specs.declared.transaction.RefEdit.{RefEdit}
 use Rattle.gix_ref_store.specs.declared.file.transaction.outcome.Done.{Done}
 use Rattle.gix_ref_store.specs.declared.file.transaction.outcome.Failed.{Failed}
 use Rattle.gix_ref_commit.specs.CommittedTrees.{IsOldOrNew}
-use Rattle.gix_ref_commit.specs.LogEffects.{with_lines}
+use Rattle.gix_ref_commit.specs.LogEffects.{with_extras}
 use Rattle.gix_ref_commit.specs.declared.error.Error as commits
 use Rattle.gix_ref_program.specs.declared.update.UpdateError.{UpdateError}
 use Rattle.gix_ref_program.specs.declared.update.UpdateError.TheVariants.{Prepare, Commit}
@@ -39,7 +43,10 @@ module _ {F : Type 0} (honest : Type 0) (means : F → Meaning) (faults : F → 
     pub mid : Store F
     pub packed : Option Path
     pub held : List Edit
-    pub prepared : PreparesGiven honest means faults old mid edits packed held
+    -- what the transaction was to do with `packed-refs`
+    pub uses : PackedRefs Never
+    pub prepared : PreparesGiven honest means faults (OfFinder claims-value.it uses)
+        (ends_of meaning-value.it uses) (mode_in uses) old mid edits packed held
 
   -- these are the edits whose locks are tried: the split list of those that are asked for, or these, where there is none; where there was
   -- no memory for composed names, they are those that are given
@@ -52,22 +59,24 @@ module _ {F : Type 0} (honest : Type 0) (means : F → Meaning) (faults : F → 
   -- good, each reference reads as before or as edited.
   abbrev pub IsStopOf : Store F → Option SignatureRef → List RefEdit → Tree → Type 0
   IsStopOf old committer edits T =
-      ((tried : List RefEdit) × AreTried old edits tried
-      × AddsLocks (locks_in means old tried) (locks_in means old tried) (tree_of means old) T)
+      ((mode : Mode) × (tried : List RefEdit) × AreTried old edits tried
+      × AddsLocks (locks_in means mode old tried) (locks_in means mode old tried)
+      (tree_of means old) T)
       ⊎ ((b : IsBegun old edits)
-      × (HasGoodRecords means old → IsOldOrNew (meaning_of old) b.prepared.split
-      (lines_due means b.mid committer b.held) (tree_of means old) T))
+      × (HasGoodRecords means old → IsOldOrNew (meaning_of old) (mode_in b.uses) b.prepared.split
+      (extras_due means b.mid committer b.held) (tree_of means old) T))
 
   -- A loss of power in an update: before its commit each file that was settled is as before, but for the locks of the edits; in it each
   -- reference reads as before or as edited. The commit begins on a disk of which all is settled but locks.
   abbrev pub IsLossOf : Store F → Option SignatureRef → List RefEdit → Tree → Type 0
   IsLossOf old committer edits T =
-      ((tried : List RefEdit) × AreTried old edits tried × ((q : Path) → IsSpokenOf (places_in means
-      old tried) (disk_in means old) q → view_of T q ≡ view_of (tree_of means old) q))
+      ((mode : Mode) × (tried : List RefEdit) × AreTried old edits tried
+      × ((q : Path) → IsSpokenOf (places_in means mode old tried)
+      (disk_in means old) q → view_of T q ≡ view_of (tree_of means old) q))
       ⊎ ((b : IsBegun old edits)
-      × ((D : Disk) × IsAllSettled D × IsLostWell (meaning_of old) DeletionsOnly
-      (places_in means old b.prepared.split) (with_lines b.prepared.split
-      (lines_due means b.mid committer b.held)) D (tree_of means old) T))
+      × ((D : Disk) × IsAllSettled D × IsLostWell (meaning_of old) (mode_in b.uses)
+      (places_in means (mode_in b.uses) old b.prepared.split) (with_extras b.prepared.split
+      (extras_due means b.mid committer b.held)) D (tree_of means old) T))
 
   -- An update that was made: its edits were prepared and committed. Of the transaction's locks only those stay that are named, and one is
   -- named only where a fault came.
@@ -99,6 +108,8 @@ module _ {F : Type 0} (honest : Type 0) (means : F → Meaning) (faults : F → 
   abbrev pub IsUpdateError : (read : Type 0) → (old new : Store F) → Option SignatureRef →
       List RefEdit → UpdateError → (left : List Path) → Type 0
   IsUpdateError read old new committer edits (Prepare error) left =
-      RefusesGiven honest read means faults old new edits error left
+      (uses : PackedRefs Never) × RefusesGiven honest read means faults
+      (OfFinder claims-value.it uses) (ends_of meaning-value.it uses) (mode_in uses)
+      old new edits error left
   IsUpdateError read old new committer edits (Commit error) left =
       UpdateFailed old new committer edits error left

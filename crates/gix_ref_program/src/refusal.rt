@@ -73,6 +73,7 @@ fn prepare_variant(error: &prepare::Error) -> &'static str
         prepare::Error::OtherHashKind => "OtherHashKind",
         prepare::Error::PreprocessingFailed { .. } => "PreprocessingFailed",
         prepare::Error::PackedTransactionAcquire => "PackedTransactionAcquire",
+        prepare::Error::PackedTransactionPrepare(_) => "PackedTransactionPrepare",
         prepare::Error::Packed(_) => "Packed",
         prepare::Error::PackedFind(_) => "PackedFind",
         prepare::Error::PathCollision { .. } => "PathCollision",

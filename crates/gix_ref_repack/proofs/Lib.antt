@@ -1,4 +1,5 @@
+pub mod ChangeLemmas
+pub mod EditChanges
 pub mod KeyLemmas
 pub mod Opening
-pub mod RemovalLemmas
 pub mod RepackLemmas

@@ -1,6 +1,6 @@
 -- What an opened `packed-refs` holds, and what it is where it is not opened.
-use Rattle.std.proofs.Common.{◌≡◌, ℕ, List, [], ◌∷◌, Option, Some, None, true, false, refl, sym, ap, ◌∙◌, subst, inr, Result, Ok, Err}
-use Rattle.std.specs.Prelude.{MatchResult, OnOk}
+use Rattle.std.proofs.Common.{◌≡◌, List, [], Option, Some, None, true, false, sym, subst, inr, Result, Ok, Err}
+use Rattle.std.specs.Prelude.{IfErr, IfOk, MatchResult, OnOk}
 use Rattle.gix_ref_hash.specs.declared.hash.Kind.{Kind}
 use Rattle.gix_ref_base.specs.PackedRecords.{Record}
 use Rattle.gix_ref_files.specs.Tree.{Content, is_file, bytes_of}
@@ -17,7 +17,8 @@ use Rattle.gix_ref_lookup.proofs.Opening.{opens_sound}
 use Rattle.gix_ref_repack.specs.Refusals.{IsRepackFault, IsReadFile, IsReadText, repack_of_opening}
 use Rattle.gix_ref_repack.specs.declared.error.Error.{Error}
 use Rattle.gix_ref_repack.specs.declared.error.Error.TheVariants.{Memory}
-use Rattle.gix_ref_repack.specs.Removals.{finds_some}
+use Rattle.gix_ref_rewrite.specs.declared.outcome.Rewrite.{Rewrite}
+use Rattle.gix_ref_repack.specs.Changes.{ChangeValue, IsChanged}
 
 -- an opened file of these records holds them
 pub holds : (kind : Kind) (content : Option Content) (rs : List Record) (b : Buffer) → ArePackedRecords kind (file_of content) rs → is_file content ≡ true → Opened kind (bytes_of content) b →
@@ -26,15 +27,16 @@ holds kind (Some (File bytes)) rs b are a_file opened = opened_holds kind bytes 
 holds kind (Some Folder) rs b are a_file opened = absurd (cc)
 holds kind None rs b are a_file opened = absurd (cc)
 
-finds_none : (keys : List (List ℕ)) → finds_some keys [] ≡ false
-finds_none [] = refl
-finds_none (key ∷ keys) = finds_none keys
+-- where there is no file, there are no records
+pub no_records : (kind : Kind) (content : Option Content) (rs : List Record) → ArePackedRecords kind (file_of content) rs → is_file content ≡ false → rs ≡ []
+no_records kind (Some (File bytes)) rs are no_file = absurd (cc)
+no_records kind (Some Folder) rs are no_file = are
+no_records kind None rs are no_file = are
 
--- where there is no file, no key has a record
-pub none_found : (kind : Kind) (content : Option Content) (rs : List Record) (keys : List (List ℕ)) → ArePackedRecords kind (file_of content) rs → is_file content ≡ false → finds_some keys rs ≡ false
-none_found kind (Some (File bytes)) rs keys are no_file = absurd (cc)
-none_found kind (Some Folder) rs keys are no_file = ap (finds_some keys) are ∙ finds_none keys
-none_found kind None rs keys are no_file = ap (finds_some keys) are ∙ finds_none keys
+-- what is made of no records
+pub made_of : (kind : Kind) (changes : List ChangeValue) (rs : List Record) → rs ≡ [] → (r : Result Rewrite Error) → IfOk r (IsChanged kind changes []) → IfErr r (λ error. error ≡ Memory) → MatchResult r (IsChanged kind changes rs) IsRepackFault
+made_of kind changes rs none (Ok w) is memory = subst (λ (xs : List Record). IsChanged kind changes xs w) (sym none) is
+made_of kind changes rs none (Err e) is memory = subst IsRepackFault (sym memory) tt
 
 -- a well-formed file is opened, but for a fault or want of memory
 pub sound : (kind : Kind) (content : Option Content) (rs : List Record) (error : OpenError) → ArePackedRecords kind (file_of content) rs → IsRefusedFile kind content error → IsRepackFault (repack_of_opening error)

@@ -1,4 +1,4 @@
+pub mod Changes
 pub mod Refusals
-pub mod Removals
 pub mod Repacks
 pub mod internal

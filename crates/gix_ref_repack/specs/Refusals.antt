@@ -40,6 +40,12 @@ IsCountedRefusal before now (Commit error) = ⊥
 IsCountedRefusal before now (Iteration line) = Unit {0}
 IsCountedRefusal before now Memory = Unit {0}
 
+-- why the records of a text, whose first line has that number, cannot be rewritten
+abbrev pub IsStuckIn : Kind → ℕ → List ℕ → Error → Type 0
+IsStuckIn kind first text (Iteration line) = StuckAt kind first text line
+IsStuckIn kind first text Memory = Unit {0}
+IsStuckIn kind first text other = ⊥
+
 -- the text is records as a whole
 abbrev pub IsReadText : Kind → List ℕ → Type 0
 IsReadText kind text = (rs : List Record) × Records kind text rs

@@ -1,1 +1,1 @@
-pub mod RemovedKeys
+pub mod ChangedKeys

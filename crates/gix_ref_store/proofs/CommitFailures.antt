@@ -41,7 +41,7 @@ use Rattle.gix_ref_base.specs.PackedRecords.{Record}
 use Rattle.gix_ref_lookup.specs.Lookups.{ArePackedRecords}
 use Rattle.gix_ref_theory.specs.Between.{AreEdits}
 use Rattle.gix_ref_theory.specs.OnRealTrees.{view_of}
-use Rattle.gix_ref_transaction.specs.CommittedEdits.{planned}
+use Rattle.gix_ref_transaction.specs.Packing.{plan_edits}
 use Rattle.gix_ref_transaction.specs.PackedCauses.{ids_among}
 use Rattle.gix_ref_repack.specs.Refusals.{IsCountedRefusal, IsRepackFault, IsRefusedRewrite}
 use Rattle.gix_ref_repack.specs.Repacks.{IsRepack}
@@ -55,7 +55,7 @@ use Rattle.gix_ref_commit.specs.declared.plan.About.{About}
 use Rattle.gix_ref_commit.specs.declared.plan.About.TheVariants.{Folders, Line, Rename, LogRemoval, Packed, Removal}
 use Rattle.gix_ref_commit.specs.declared.run.Unfinished.{Unfinished}
 use Rattle.gix_ref_commit.specs.declared.run.Unfinished.TheVariants.{Memory as no_memory, Step as AtStep}
-use Rattle.gix_ref_commit.proofs.Alike.{ids_alike, locks_alike, places_alike, removes_alike, updates_alike}
+use Rattle.gix_ref_commit.proofs.Alike.{alters_alike, can_alike, ids_alike, locks_alike, places_alike, plans_alike, puts_alike, updates_alike}
 use Rattle.gix_ref_commit.proofs.Synced.{done_asked, done_by_fault, done_unexpected}
 use Rattle.gix_ref_commit.proofs.Cleared.{Any, IsCutOf, Way, Ways, all_ways, any_ways, cut_of}
 use Rattle.gix_ref_commit.proofs.Endings.{MeetsAt, WritesAt, meets, never_asked, not_emptied, removal_not_asked, removal_not_refused, writes}
@@ -85,11 +85,11 @@ counted_from a b c (repack.Commit error) le is = is
 -- An error that a decision returned, by what is said of that of `packed-refs`.
 pub undecided_by : {F : Type 0} (honest : Type 0) (means : F → Meaning) (faults : F → ℕ) (start new : Store F) (committer : Option SignatureRef) (held ran : List Edit) (error : RepackError) → all_but_logs ran ≡ all_but_logs held →
     IsCountedRefusal (faults (files_of start)) (faults (files_of new)) error → (honest → IsRefusedRewrite (kind_of start) (tree_of means start (meaning_of start).packed_path) error) →
-    (honest → AreEdits (meaning_of start) (planned (updates ran)) → (rs : List Record) → ArePackedRecords (kind_of start) (view_of (tree_of means start) (meaning_of start).packed_path) rs → IsRepackFault error) → LinesPass honest means start committer held →
+    (honest → AreEdits (meaning_of start) (plan_edits ran) → (rs : List Record) → ArePackedRecords (kind_of start) (view_of (tree_of means start) (meaning_of start).packed_path) rs → IsRepackFault error) → LinesPass honest means start committer held →
     IsUndecided honest means faults start new committer held (of_repack error)
 undecided_by honest means faults start new committer held ran (repack.Io error) alike counted refused sound passes = counted
 undecided_by honest means faults start new committer held ran (repack.Iteration line) alike counted refused sound passes =
-    (refused, (λ h apart rs are. sound h (subst (λ (l : List RefEdit). AreEdits (meaning_of start) (planned l)) (sym (updates_alike ran held alike)) apart) rs are), passes)
+    (refused, (λ h apart rs are. sound h (subst (λ (l : List plan.Edit). AreEdits (meaning_of start) l) (sym (plans_alike ran held alike)) apart) rs are), passes)
 undecided_by honest means faults start new committer held ran repack.Memory alike counted refused sound passes = tt
 undecided_by honest means faults start new committer held ran (repack.Commit error) alike counted refused sound passes = counted
 
@@ -111,11 +111,12 @@ log_path_is s (e ∷ held) (p ∷ ran) are (suc at) has = log_path_is s held ran
 pub repacked_by : {F : Type 0} (honest : Type 0) (means : F → Meaning) (faults : F → ℕ) (start : Store F) (packed : Option Path) (held ran : List Edit) (rewrite : Rewrite) → all_but_logs ran ≡ all_but_logs held →
     RepacksFrom honest means faults start packed ran rewrite → RepacksFrom honest means faults start packed held rewrite
 repacked_by honest means faults start packed held ran rewrite alike repacks = record {
-  made = λ h apart rs are ids some.
-      subst (λ (l : List RefEdit). IsRepack (meaning_of start) (kind_of start) rs (planned l) rewrite) (updates_alike ran held alike)
-      (repacks.made h (subst (λ (l : List RefEdit). AreEdits (meaning_of start) (planned l)) (sym (updates_alike ran held alike)) apart) rs are
-      (ids_alike ran held alike ∙ (ids ∙ ap (ids_among (meaning_of start) rs) (sym (updates_alike ran held alike)))) some);
-  read = λ h some removes. repacks.read h some (removes_alike ran held alike ∙ removes);
+  made = λ h mode apart rs are ids puts can some.
+      subst (λ (l : List plan.Edit). IsRepack (meaning_of start) mode (kind_of start) rs l rewrite) (plans_alike ran held alike)
+      (repacks.made h mode (subst (λ (l : List plan.Edit). AreEdits (meaning_of start) l) (sym (plans_alike ran held alike)) apart) rs are
+      (ids_alike ran held alike ∙ (ids ∙ ap (ids_among (meaning_of start) rs) (sym (updates_alike ran held alike))))
+      (puts_alike (meaning_of start) mode ran held alike puts) (can_alike (meaning_of start) (kind_of start) ran held alike can) some);
+  read = λ h some alters. repacks.read h some (alters_alike ran held alike ∙ alters);
 }
 
 -- what is in the way of a step is no fault of `packed-refs`
@@ -194,7 +195,7 @@ undecided_wider honest means faults start mid new committer held Memory le is = 
 
 -- a bad line is never the cause where `packed-refs` is well formed
 pub never_bad : {F : Type 0} (honest : Type 0) (means : F → Meaning) (faults : F → ℕ) (start mid : Store F) (committer : Option SignatureRef) (held : List Edit) (error : Error) → IsUndecided honest means faults start mid committer held error → IsOfBadLine error → honest →
-    AreEdits (meaning_of start) (planned (updates held)) → (rs : List Record) → ArePackedRecords (kind_of start) (view_of (tree_of means start) (meaning_of start).packed_path) rs → ⊥
+    AreEdits (meaning_of start) (plan_edits held) → (rs : List Record) → ArePackedRecords (kind_of start) (view_of (tree_of means start) (meaning_of start).packed_path) rs → ⊥
 never_bad honest means faults start mid committer held (PackedTransactionCommit (repack.Iteration line)) is bad h apart rs are = is.1 h apart rs are
 never_bad honest means faults start mid committer held (PackedTransactionCommit (repack.Io fault)) is bad h apart rs are = bad
 never_bad honest means faults start mid committer held (PackedTransactionCommit (repack.Commit error)) is bad h apart rs are = bad

@@ -28,7 +28,7 @@ use Rattle.gix_ref_rewrite.specs.declared.outcome.Rewrite.TheVariants.{Unchanged
 use Rattle.gix_ref_theory.specs.Between.{AreEdits}
 use Rattle.gix_ref_theory.specs.ConcreteStore.{store_of}
 use Rattle.gix_ref_theory.specs.Edits as plan
-use Rattle.gix_ref_theory.specs.Edits.Mode.{DeletionsOnly}
+use Rattle.gix_ref_theory.specs.Edits.{Mode}
 use Rattle.gix_ref_theory.specs.Losses.{IsLostWell}
 use Rattle.gix_ref_theory.specs.OnDisks.{IsAsBefore, IsSpokenOf, IsWithin}
 use Rattle.gix_ref_theory.specs.OnRealTrees.{view_of}
@@ -46,6 +46,7 @@ use Rattle.gix_ref_transaction.specs.CommitRenames.{is_written_at, lock_at, plac
 use Rattle.gix_ref_transaction.specs.CommittedEdits.{planned}
 use Rattle.gix_ref_transaction.specs.OwnLocks.{is_in, times, AddsLocks, IsOurs, OnlyLocks, OnlyRemoves, RemovesLocks}
 use Rattle.gix_ref_transaction.specs.PackedCauses.{ids_among}
+use Rattle.gix_ref_transaction.specs.Packing.{HaveTheirPuts, peeled_in, plan_edits}
 use Rattle.gix_ref_transaction.specs.PrepareSteps.{AreWholeLocks, HoldTexts, held_locks, ids_in, lock_paths, packed_locks, packed_places, updates, IsPackedPlace}
 use Rattle.gix_ref_transaction.specs.declared.edit.Edit.{Edit}
 use Rattle.gix_ref_transaction.proofs.Adds.{any_cases, any_left, any_right, clash, either_way, in_here, in_one, is_false, is_same_path, same_path, same_view}
@@ -56,12 +57,12 @@ use Rattle.gix_ref_transaction.proofs.PackedLemmas.{records_are}
 use Rattle.gix_ref_transaction.proofs.PackedLocks.{taken_was_free}
 use Rattle.gix_ref_transaction.proofs.Removing.{times_append, locks_by_places}
 use Rattle.gix_ref_transaction.proofs.Renames.{lock_found}
-use Rattle.gix_ref_repack.specs.Repacks.{IsRepack}
+use Rattle.gix_ref_repack.specs.Repacks.{AllCanBePut, IsRepack}
 use Rattle.gix_ref_commit.specs.Cleared.{AllInWay, FoldersGo, LosesNoMore, OnlyFolders, commit_entries, folder_lists, roots_of}
 use Rattle.gix_ref_commit.specs.CommittedTrees.{AreCommitted, IsOldOrNew}
 use Rattle.gix_ref_commit.specs.Decided.{FillsPacked, IsFilled}
 use Rattle.gix_ref_commit.specs.Entries.{Entry, bare, bare_steps, done_before, done_of, packed_before, packed_done, planned_entries, renames_packed, steps_in}
-use Rattle.gix_ref_commit.specs.LogEffects.{AreLogsOf, lines_in, with_lines}
+use Rattle.gix_ref_commit.specs.LogEffects.{AreLogsOf, Extra, but_lines, extras_in, with_ends, with_extras}
 use Rattle.gix_ref_lines.specs.AskedEdits.{all_but_logs, asked, outcomes_of}
 use Rattle.gix_ref_lines.specs.DueLines.{log_outcomes}
 use Rattle.gix_ref_log.specs.declared.actor.SignatureRef.{SignatureRef}
@@ -71,7 +72,7 @@ use Rattle.gix_ref_commit.specs.declared.plan.About.{About}
 use Rattle.gix_ref_commit.specs.declared.plan.About.TheVariants as about
 use Rattle.gix_ref_commit.specs.declared.run.Unfinished.{Unfinished}
 use Rattle.gix_ref_commit.specs.declared.run.Unfinished.TheVariants.{Memory as no_memory, Step as AtStep}
-use Rattle.gix_ref_commit.proofs.Alike.{are_same, effects_alike, ids_same, locks_alike, logs_same, places_alike, planned_same}
+use Rattle.gix_ref_commit.proofs.Alike.{AreSame, are_same, effects_alike, ends_alike, extras_end, plan_edits_are, plan_with, plans_alike, updates_alike, ids_same, locks_alike, logs_same, places_alike, planned_same}
 use Rattle.gix_ref_commit.proofs.Carrying.{locks_apart}
 use Rattle.gix_ref_commit.proofs.Cleared.{Any, EachOutside, IsCutOf, all_outside, any_ways, cleared_rename, cut_of}
 use Rattle.gix_ref_commit.proofs.Ends as ends
@@ -89,7 +90,7 @@ use Rattle.gix_ref_commit.proofs.Shapes.{AllShaped, HasShape, all_shaped, shape_
 use Rattle.gix_ref_commit.proofs.Runs.{IsText}
 use Rattle.gix_ref_commit.proofs.Tidying.{no_file_still, same_files}
 use Rattle.gix_ref_store.specs.CommitResult.{EveryLossIsOldOrNew, EveryStopIsOldOrNew, RepacksFrom}
-use Rattle.gix_ref_store.specs.CommitLines.{line_rules, lines_due}
+use Rattle.gix_ref_store.specs.CommitLines.{extras_due, line_rules, lines_due}
 use Rattle.gix_ref_store.specs.Prepared.{PreparesFrom, HasGoodRecords, tree_of, disk_in, locks_in, places_in, IsAtRest}
 use Rattle.gix_ref_store.specs.Store.{files_of, folders, kind_of, meaning_of, IsSameStore}
 use Rattle.gix_ref_store.specs.declared.file.store.Store.{Store}
@@ -129,7 +130,7 @@ put_adds lock bytes S T mine own free adds q = either_way (bytes_eq lock q)
     (λ other.
     subst (λ (n : Option Content). (n ≡ S q) ⊎ ((S q ≡ None) × IsOurs mine mine q n)) (sym (put_other T lock q (Some (File bytes)) (λ is. clash (is_same_path lock q is) other))) (adds q))
 
-module _ {F : Type 0} (honest : Type 0) (means : F → Meaning) (faults : F → ℕ) (old start : Store F) (committer : Option SignatureRef) (given : List RefEdit) (packed : Option Path) (held : List Edit) (from : PreparesFrom honest means faults old start given packed held) where
+module _ {F : Type 0} (honest : Type 0) (means : F → Meaning) (faults : F → ℕ) (mode : Mode) (old start : Store F) (committer : Option SignatureRef) (given : List RefEdit) (packed : Option Path) (held : List Edit) (from : PreparesFrom honest means faults mode old start given packed held) where
   abbrev s : readings.Store
   s = meaning_of old
 
@@ -140,17 +141,17 @@ module _ {F : Type 0} (honest : Type 0) (means : F → Meaning) (faults : F → 
   first = means (files_of start)
 
   abbrev mine : List Path
-  mine = locks_in means old given
+  mine = locks_in means mode old given
 
   abbrev locked : List Path
-  locked = places_in means old given
+  locked = places_in means mode old given
 
   abbrev staying : List Path
   staying = roots (folders old)
 
-  -- the lines that are due as the commit begins
-  abbrev lines : List (Option (List ℕ))
-  lines = lines_due means start committer held
+  -- the lines that are due as the commit begins, with the objects at the end of tags
+  abbrev lines : List Extra
+  lines = extras_due means start committer held
 
   laws : HasLaws s
   laws = laws_hold (folders old) (git_options (kind_of old) old.prohibit_windows_device_names) (folders_laid old.dirs old.namespace)
@@ -164,14 +165,14 @@ module _ {F : Type 0} (honest : Type 0) (means : F → Meaning) (faults : F → 
   pub edits_are : honest → HasGoodRecords means old → AreEdits s (planned given)
   edits_are h good = edits_apart s (kind_of old) before [] given (from.held.accepted h good).no_cause are_references
 
-  lined_are : honest → HasGoodRecords means old → AreEdits s (with_lines given lines)
+  lined_are : honest → HasGoodRecords means old → AreEdits s (with_extras given lines)
   lined_are h good = apart_lined s given lines (edits_are h good)
 
   pub planned_is : planned (updates held) ≡ planned given
   planned_is = planned_same given (updates held) (are_same given from.was (updates held) from.carried)
 
   own : (q : Path) → is_in mine q ≡ true → IsOwnLock locked q
-  own = own_all s before given
+  own = own_all s mode before given
 
   -- nothing but own locks has changed so far
   start_alike : honest → IsSameButLocks locked (view_of first.tree) (view_of before)
@@ -194,9 +195,13 @@ module _ {F : Type 0} (honest : Type 0) (means : F → Meaning) (faults : F → 
       ∙ sym (ids_same s good.0 given (updates held) (are_same given from.was (updates held) from.carried)))
 
   -- and so it is said of the store with which the commit begins
-  pub start_edits : honest → HasGoodRecords means old → AreEdits (meaning_of start) (planned (updates held))
-  start_edits h good =
-      subst (λ (m : readings.Store). AreEdits m (planned (updates held))) (sym meaning_is) (subst (λ (l : List plan.Edit). AreEdits s l) (sym planned_is) (edits_are h good))
+  repacked_edits : honest → HasGoodRecords means old → AreEdits s (plan_edits held)
+  repacked_edits h good =
+      subst (λ (l : List plan.Edit). AreEdits s l) (plan_with held)
+      (apart_lined s (updates held) (map (λ (e : Edit). (None, peeled_in e.put)) held) (subst (λ (l : List plan.Edit). AreEdits s l) (sym planned_is) (edits_are h good)))
+
+  pub start_edits : honest → HasGoodRecords means old → AreEdits (meaning_of start) (plan_edits held)
+  start_edits h good = subst (λ (m : readings.Store). AreEdits m (plan_edits held)) (sym meaning_is) (repacked_edits h good)
 
   pub start_records : (h : honest) (good : HasGoodRecords means old) → ArePackedRecords (kind_of start) (view_of first.tree (meaning_of start).packed_path) good.0
   start_records h good =
@@ -205,7 +210,7 @@ module _ {F : Type 0} (honest : Type 0) (means : F → Meaning) (faults : F → 
 
   -- the lock of `packed-refs` is one of the transaction's
   packed_mine : honest → (q : Path) → is_in (map lock_of (packed_places packed)) q ≡ true → is_in mine q ≡ true
-  packed_mine h q within = any_left (λ r. bytes_eq r q) (packed_locks s before given) (locks_of s given)
+  packed_mine h q within = any_left (λ r. bytes_eq r q) (packed_locks s mode before given) (locks_of s given)
       (subst (λ ps. is_in (map lock_of ps) q ≡ true) (from.packed.due h) within)
 
   path_is : (path : Path) → packed ≡ Some path → path ≡ s.packed_path
@@ -233,20 +238,20 @@ module _ {F : Type 0} (honest : Type 0) (means : F → Meaning) (faults : F → 
           ∙ ap file_of (put_other first.tree (lock_of at) path (Some (File text))
           (λ same. other (subst (λ (q : Path). IsOwnLock locked q) same (own (lock_of at) (packed_mine h (lock_of at) (subst (λ (p : Option Path). is_in (map lock_of (packed_places p)) (lock_of at) ≡ true) (sym is) (in_here (lock_of at) (lock_of at) [] refl)))))))
 
-  old_or_new : honest → HasGoodRecords means old → (T : Tree) → IsSameButLocks locked (view_of T) (view_of before) → IsOldOrNew s given lines before T
-  old_or_new h good T alike = nothing.nothing_done s laws locked (with_lines given lines) (lined_are h good) before T alike
+  old_or_new : honest → HasGoodRecords means old → (T : Tree) → IsSameButLocks locked (view_of T) (view_of before) → IsOldOrNew s mode given lines before T
+  old_or_new h good T alike = nothing.nothing_done s laws mode locked (with_extras given lines) (lined_are h good) before T alike
 
-  filled_well : honest → HasGoodRecords means old → (T : Tree) → FillsPacked packed first.tree T → IsOldOrNew s given lines before T
+  filled_well : honest → HasGoodRecords means old → (T : Tree) → FillsPacked packed first.tree T → IsOldOrNew s mode given lines before T
   filled_well h good T fills = old_or_new h good T (λ path other. fills_alike h T fills path other ∙ start_alike h path other)
 
-  pub began : honest → HasGoodRecords means old → IsOldOrNew s given lines before first.tree
+  pub began : honest → HasGoodRecords means old → IsOldOrNew s mode given lines before first.tree
   began h good = old_or_new h good first.tree (start_alike h)
 
   -- what losses of power leave before the first write
   pub lost_early : honest → HasGoodRecords means old → IsAllSettled (disk_of first) → (stay : List Path) (E : Disk) (T : Tree) → IsAsBefore locked stay (disk_of first) E → Lost E T →
-      IsLostWell s DeletionsOnly locked (with_lines given lines) (disk_of first) before T
+      IsLostWell s mode locked (with_extras given lines) (disk_of first) before T
   lost_early h good settled stay E T among lost =
-      nothing.nothing_lost s laws locked (with_lines given lines) (lined_are h good) before (disk_of first) settled (λ path other. sym (start_alike h path other)) stay E T among lost
+      nothing.nothing_lost s laws mode locked (with_extras given lines) (lined_are h good) before (disk_of first) settled (λ path other. sym (start_alike h path other)) stay E T among lost
 
   pub started : honest → IsAtRest means old → IsAllSettled (disk_of first) × AllStay (disk_of first) staying
   started h at_rest = rest_kept locked staying (disk_in means old) (disk_of first) at_rest.0 ((from.lost h).keeps staying at_rest.1).disk
@@ -262,7 +267,7 @@ module _ {F : Type 0} (honest : Type 0) (means : F → Meaning) (faults : F → 
     pub ran_mine : honest → (renamed : Bool) (q : Path) → is_in (held_locks (if renamed then None else packed) ran) q ≡ true → is_in mine q ≡ true
     ran_mine h renamed q within = ⊎_elim
         (λ p. packed_mine h q (unless_within packed renamed q p))
-        (λ e. any_right (λ r. bytes_eq r q) (packed_locks s before given) (locks_of s given) (subst (λ (l : List Path). is_in l q ≡ true) locks_are e))
+        (λ e. any_right (λ r. bytes_eq r q) (packed_locks s mode before given) (locks_of s given) (subst (λ (l : List Path). is_in l q ≡ true) locks_are e))
         (any_cases (λ r. bytes_eq r q) (map lock_of (packed_places (if renamed then None else packed))) (lock_paths ran) within)
 
     possible : (renamed : Bool) (q : Path) → is_in (held_locks (if renamed then None else packed) ran) q ≡ true → is_in (lock_of s.packed_path ∷ locks_of s given) q ≡ true
@@ -299,7 +304,7 @@ module _ {F : Type 0} (honest : Type 0) (means : F → Meaning) (faults : F → 
         (λ e. let at = lock_found ran q (subst (λ (l : List Path). is_in l q ≡ true) (sym locks_are) e) in
         subst (λ (r : Path). is_file (U r) ≡ false) at.2
         (by_lock at.0 at.1 (subst (λ (r : Path). is_in left r ≡ false) (sym at.2) out) (nat_lt at.0 done) refl (is_written_at ran at.0) refl))
-        (any_cases (λ r. bytes_eq r q) (packed_locks s before given) (locks_of s given) within)
+        (any_cases (λ r. bytes_eq r q) (packed_locks s mode before given) (locks_of s given) within)
       where
         by_packed : (b : Bool) → renamed ≡ b → is_in (map lock_of (packed_places packed)) q ≡ true → is_file (U q) ≡ false
         by_packed true is mine' =
@@ -318,7 +323,7 @@ module _ {F : Type 0} (honest : Type 0) (means : F → Meaning) (faults : F → 
           (locks_gone : honest → (k : ℕ) → k < length ran → stays_at ran 0 k ≡ true → is_in left (lock_at ran k) ≡ false → is_file (now.tree (lock_at ran k)) ≡ false)
           (ours : (q : Path) → is_in left q ≡ true → is_in (held_locks packed ran) q ≡ true)
           (once : (q : Path) → times q left ≤ times q (held_locks packed ran)) where
-        pub undecided_well : EveryStopIsOldOrNew honest means faults old start new given lines left
+        pub undecided_well : EveryStopIsOldOrNew honest means faults mode old start new given lines left
         undecided_well = record {
           began = λ h good. began h good;
           leaves = λ h.
@@ -332,14 +337,14 @@ module _ {F : Type 0} (honest : Type 0) (means : F → Meaning) (faults : F → 
           once = λ q. once_then q false (once q);
         }
 
-        pub undecided_lost : (h : honest) → HasGoodRecords means old → IsAtRest means old → EveryLossIsOldOrNew honest means faults old start new given lines
+        pub undecided_lost : (h : honest) → HasGoodRecords means old → IsAtRest means old → EveryLossIsOldOrNew honest means faults mode old start new given lines
         undecided_lost h good at_rest =
             let rest = started h at_rest in
             let same = as_before locked staying (disk_of first) rest.1 in
             let early = alone h locked staying (disk_of first) (λ q within. own q (packed_mine h q within)) same in
             record {
               began = λ T lost. lost_early h good rest.0 staying (disk_of first) T same lost;
-              loses = losses (IsLostWell s DeletionsOnly locked (with_lines given lines) (disk_of first) before) (λ E among T lost. lost_early h good rest.0 staying E T among lost)
+              loses = losses (IsLostWell s mode locked (with_extras given lines) (disk_of first) before) (λ E among T lost. lost_early h good rest.0 staying E T among lost)
                   (passes_joins early (only h locked staying [] (disk_of first) (λ q within. own q (ran_mine h false q within)) early.disk));
             }
 
@@ -365,10 +370,13 @@ module _ {F : Type 0} (honest : Type 0) (means : F → Meaning) (faults : F → 
             (subst (λ (m : readings.Store). AreLogsOf m (updates held) ran) meaning_is (logs_are (line_rules start committer) (view_of first.tree) 0 held ran (outcomes h)))
 
         -- the lines that logs gain are those that are due
-        own_lines : honest → lines_in ran ≡ lines
-        own_lines h = lines_are (line_rules start committer) (view_of first.tree) ran (asked held) (outcomes h)
+        own_lines : honest → extras_in ran ≡ lines
+        own_lines h =
+            extras_end ran
+            ∙ (ap (λ (ls : List (Option (List ℕ))). with_ends ls ran) (lines_are (line_rules start committer) (view_of first.tree) ran (asked held) (outcomes h))
+            ∙ ends_alike (lines_due means start committer held) ran held alike)
 
-        pub laid : honest → IsLaid s (kind_of old) before (disk_of decided) given ran packed
+        pub laid : honest → IsLaid s mode (kind_of old) before (disk_of decided) given ran packed
         laid h = record {
           references = are_references;
           lockable = from.held.lockable h;
@@ -392,7 +400,7 @@ module _ {F : Type 0} (honest : Type 0) (means : F → Meaning) (faults : F → 
                 ∙ put_other first.tree (lock_of path) (lock_of (s.place n)) (Some (File text.items))
                 (locks_apart path (s.place n) (λ e. laws.place_is_not_packed n is (sym e ∙ path_is path held')))
 
-        texts_same : (h : honest) (some : List RefEdit) → All (λ (e : RefEdit). s.is_reference (name_of e) ≡ true) some → HoldTexts s before first.tree some → HoldTexts s before decided.tree some
+        texts_same : (h : honest) (some : List RefEdit) → All (λ (e : RefEdit). s.is_reference (name_of e) ≡ true) some → HoldTexts s mode before first.tree some → HoldTexts s mode before decided.tree some
         texts_same h [] are texts = tt
         texts_same h (e ∷ some) are texts =
             (same_lock h (name_of e) (are 0 e (omega arith)) ∙ texts.0, texts_same h some (λ k d lt. are (suc k) d (omega (arith, lt))) texts.1)
@@ -408,10 +416,10 @@ module _ {F : Type 0} (honest : Type 0) (means : F → Meaning) (faults : F → 
                 let within = subst (λ (p : Option Path). is_in (map lock_of (packed_places p)) (lock_of path) ≡ true) (sym held') (in_here (lock_of path) (lock_of path) [] refl) in
                 subst (AddsLocks mine mine before) (sym e)
                 (put_adds (lock_of path) text.items before first.tree mine (packed_mine h (lock_of path) within)
-                (taken_was_free s before given (from.held.accepted h good).unlocked (lock_of path) (subst (λ ps. is_in (map lock_of ps) (lock_of path) ≡ true) (from.packed.due h) within))
+                (taken_was_free s mode before given (from.held.accepted h good).unlocked (lock_of path) (subst (λ ps. is_in (map lock_of ps) (lock_of path) ≡ true) (from.packed.due h) within))
                 (from.held.adds h))
 
-        pub ready : (h : honest) → HasGoodRecords means old → IsReady s (kind_of old) before decided.tree given ran
+        pub ready : (h : honest) → HasGoodRecords means old → IsReady s mode (kind_of old) before decided.tree given ran
         ready h good = record {
           accepted = from.held.accepted h good;
           texts = texts_same h given are_references (from.held.texts h good);
@@ -422,18 +430,19 @@ module _ {F : Type 0} (honest : Type 0) (means : F → Meaning) (faults : F → 
         }
 
         -- the new `packed-refs`, where it was well formed
-        pub repack : (h : honest) (good : HasGoodRecords means old) → packed ≢ None → IsRepack s (kind_of old) good.0 (planned given) rewrite
+        pub repack : (h : honest) (good : HasGoodRecords means old) → packed ≢ None → IsRepack s mode (kind_of old) good.0 (but_lines (with_extras given (extras_in ran))) rewrite
         repack h good some =
-            subst (λ (l : List plan.Edit). IsRepack s (kind_of old) good.0 l rewrite) planned_is
-            (at (subst (λ (l : List plan.Edit). AreEdits s l) (sym planned_is) (edits_are h good)) good.0 (records_there h good) (ids_are h good) some)
+            subst (λ (l : List plan.Edit). IsRepack s mode (kind_of old) good.0 l rewrite)
+            (sym (plans_alike ran held alike) ∙ plan_edits_are given ran (subst (AreSame given) (sym (updates_alike ran held alike)) (are_same given from.was (updates held) from.carried)))
+            (at (repacked_edits h good) good.0 (records_there h good) (ids_are h good) from.puts from.can_be_put some)
           where
             Repacks : readings.Store → Kind → Type 0
             Repacks m k =
-                AreEdits m (planned (updates held)) → (rs : List Record) → ArePackedRecords k (view_of first.tree m.packed_path) rs →
-                ids_in held ≡ ids_among m rs (updates held) → packed ≢ None → IsRepack m k rs (planned (updates held)) rewrite
+                AreEdits m (plan_edits held) → (rs : List Record) → ArePackedRecords k (view_of first.tree m.packed_path) rs →
+                ids_in held ≡ ids_among m rs (updates held) → HaveTheirPuts m mode held → AllCanBePut m k held → packed ≢ None → IsRepack m mode k rs (plan_edits held) rewrite
 
             at : Repacks s (kind_of old)
-            at = subst (Repacks s) from.held.same.of_kind (subst (λ (m : readings.Store). Repacks m (kind_of start)) meaning_is (repacks.made h))
+            at = subst (Repacks s) from.held.same.of_kind (subst (λ (m : readings.Store). Repacks m (kind_of start)) meaning_is (repacks.made h mode))
 
         pub text_held : (h : honest) (path : Path) (bytes : List ℕ) → packed ≡ Some path → IsText rewrite bytes → view_of decided.tree (lock_of path) ≡ Some bytes
         text_held h path bytes some is = by rewrite is (subst (λ (p : Option Path). IsFilled p rewrite first.tree decided.tree) some (filled h))
@@ -454,26 +463,26 @@ module _ {F : Type 0} (honest : Type 0) (means : F → Meaning) (faults : F → 
           pub gone_still : honest → (q : Path) → is_file (released.tree q) ≡ false → is_file (now.tree q) ≡ false
           gone_still h q none = no_file_still old.dirs paths released.tree now.tree q (tidies h).tree none
 
-          cut_well : (h : honest) → HasGoodRecords means old → (T : Tree) → IsLeftBy (bare_steps all_entries) decided.tree T → IsOldOrNew s given (lines_in ran) before T
+          cut_well : (h : honest) → HasGoodRecords means old → (T : Tree) → IsLeftBy (bare_steps all_entries) decided.tree T → IsOldOrNew s mode given (extras_in ran) before T
           cut_well h good T cut =
-              ends.stopped old.dirs old.namespace (kind_of old) old.prohibit_windows_device_names before (disk_of decided) given ran packed rewrite ways (out h) (laid h) (ready h good) good.0 good.1 (repack h good) (text_held h) T cut
+              ends.stopped old.dirs old.namespace (kind_of old) old.prohibit_windows_device_names mode before (disk_of decided) given ran packed rewrite ways (out h) (laid h) (ready h good) good.0 good.1 (repack h good) (text_held h) T cut
 
-          at_stop : (h : honest) → HasGoodRecords means old → (T : Tree) → IsLeftBy (bare_steps all_entries) decided.tree T → IsOldOrNew s given lines before T
-          at_stop h good T cut = subst (λ (ls : List (Option (List ℕ))). IsOldOrNew s given ls before T) (own_lines h) (cut_well h good T cut)
+          at_stop : (h : honest) → HasGoodRecords means old → (T : Tree) → IsLeftBy (bare_steps all_entries) decided.tree T → IsOldOrNew s mode given lines before T
+          at_stop h good T cut = subst (λ (ls : List Extra). IsOldOrNew s mode given ls before T) (own_lines h) (cut_well h good T cut)
 
           -- and behind it, where locks were removed, or folders
-          well_then : (h : honest) → HasGoodRecords means old → (T U : Tree) → IsOldOrNew s given (lines_in ran) before T → IsSameButLocks locked (view_of U) (view_of T) → IsOldOrNew s given (lines_in ran) before U
+          well_then : (h : honest) → HasGoodRecords means old → (T U : Tree) → IsOldOrNew s mode given (extras_in ran) before T → IsSameButLocks locked (view_of U) (view_of T) → IsOldOrNew s mode given (extras_in ran) before U
           well_then h good T U well same =
-              ends.left_then old.dirs old.namespace (kind_of old) old.prohibit_windows_device_names before (disk_of decided) given ran packed rewrite ways (out h) (laid h) (ready h good) good.0 good.1 (repack h good) (text_held h) T U well same
+              ends.left_then old.dirs old.namespace (kind_of old) old.prohibit_windows_device_names mode before (disk_of decided) given ran packed rewrite ways (out h) (laid h) (ready h good) good.0 good.1 (repack h good) (text_held h) T U well same
 
-          released_well : (h : honest) → HasGoodRecords means old → (T : Tree) → RemovesLocks mine mid.tree T → IsOldOrNew s given (lines_in ran) before T
+          released_well : (h : honest) → HasGoodRecords means old → (T : Tree) → RemovesLocks mine mid.tree T → IsOldOrNew s mode given (extras_in ran) before T
           released_well h good T less = well_then h good mid.tree T (cut_well h good mid.tree (runs h).tree) (less_alike mid.tree T less)
 
-          then_well : (h : honest) → HasGoodRecords means old → (T : Tree) → RemovesLocks mine mid.tree T → IsOldOrNew s given lines before T
-          then_well h good T less = subst (λ (ls : List (Option (List ℕ))). IsOldOrNew s given ls before T) (own_lines h) (released_well h good T less)
+          then_well : (h : honest) → HasGoodRecords means old → (T : Tree) → RemovesLocks mine mid.tree T → IsOldOrNew s mode given lines before T
+          then_well h good T less = subst (λ (ls : List Extra). IsOldOrNew s mode given ls before T) (own_lines h) (released_well h good T less)
 
-          tidied_well : (h : honest) → HasGoodRecords means old → (T : Tree) → FoldersGo old.dirs paths released.tree T → IsOldOrNew s given lines before T
-          tidied_well h good T goes = subst (λ (ls : List (Option (List ℕ))). IsOldOrNew s given ls before T) (own_lines h)
+          tidied_well : (h : honest) → HasGoodRecords means old → (T : Tree) → FoldersGo old.dirs paths released.tree T → IsOldOrNew s mode given lines before T
+          tidied_well h good T goes = subst (λ (ls : List Extra). IsOldOrNew s mode given ls before T) (own_lines h)
               (well_then h good released.tree T (released_well h good released.tree (removes h)) (λ path other. same_files old.dirs paths released.tree T goes path))
 
           pub ran_well : (done : ℕ) →
@@ -482,7 +491,7 @@ module _ {F : Type 0} (honest : Type 0) (means : F → Meaning) (faults : F → 
               (honest → (k : ℕ) → k < length ran → stays_at ran done k ≡ true → is_in left (lock_at ran k) ≡ false → is_file (released.tree (lock_at ran k)) ≡ false) →
               (honest → (k : ℕ) → k < length ran → k < done → is_written_at ran k ≡ true → is_file (released.tree (lock_at ran k)) ≡ false) →
               ((q : Path) → is_in left q ≡ true → is_in (held_locks (if renamed then None else packed) ran) q ≡ true) →
-              ((q : Path) → times q left ≤ times q (held_locks (if renamed then None else packed) ran)) → EveryStopIsOldOrNew honest means faults old start new given lines left
+              ((q : Path) → times q left ≤ times q (held_locks (if renamed then None else packed) ran)) → EveryStopIsOldOrNew honest means faults mode old start new given lines left
           ran_well done packed_gone packed_done locks_gone done_gone ours once = record {
             began = λ h good. began h good;
             leaves = λ h.
@@ -498,13 +507,13 @@ module _ {F : Type 0} (honest : Type 0) (means : F → Meaning) (faults : F → 
           pub whole_gone : (honest → IsAfter (bare_steps all_entries) decided.tree mid.tree) → honest → (k : ℕ) → k < length ran → is_written_at ran k ≡ true → is_file (released.tree (lock_at ran k)) ≡ false
           whole_gone after h k lt written =
               subst (λ (p : Path). is_file (released.tree p) ≡ false) (sym (lock_is ran k lt))
-              (ends.all_gone old.dirs old.namespace (kind_of old) old.prohibit_windows_device_names before (disk_of decided) given ran packed rewrite ways (out h) (laid h) (place_at ran k) mid.tree released.tree
+              (ends.all_gone old.dirs old.namespace (kind_of old) old.prohibit_windows_device_names mode before (disk_of decided) given ran packed rewrite ways (out h) (laid h) (place_at ran k) mid.tree released.tree
               (cleared_rename (lock_of (place_at ran k)) (folder_lists ways) (planned_entries old.dirs ran packed rewrite)
               (subst (λ (p : Path). HasRename p (planned_entries old.dirs ran packed rewrite)) (lock_is ran k lt) (renamed_in_all old.dirs (length ran) ran packed rewrite k written))) (after h) (removes h))
 
           pub whole_packed_gone : (honest → IsAfter (bare_steps all_entries) decided.tree mid.tree) → honest → renames_packed rewrite ≡ true → (path : Path) → packed ≡ Some path → is_file (released.tree (lock_of path)) ≡ false
           whole_packed_gone after h text path some =
-              ends.all_gone old.dirs old.namespace (kind_of old) old.prohibit_windows_device_names before (disk_of decided) given ran packed rewrite ways (out h) (laid h) path mid.tree released.tree
+              ends.all_gone old.dirs old.namespace (kind_of old) old.prohibit_windows_device_names mode before (disk_of decided) given ran packed rewrite ways (out h) (laid h) path mid.tree released.tree
               (cleared_rename (lock_of path) (folder_lists ways) (planned_entries old.dirs ran packed rewrite) (packed_renamed_in_all old.dirs (length ran) ran packed rewrite path some text)) (after h) (removes h)
 
           -- and after one that ended before a step or at it
@@ -514,7 +523,7 @@ module _ {F : Type 0} (honest : Type 0) (means : F → Meaning) (faults : F → 
               let at = e.ended h in
               let c = cut_at e.before (e.step, about) e.rest e.cut in
               subst (λ (p : Path). is_file (released.tree p) ≡ false) (sym (lock_is ran k lt))
-              (ends.cut_gone old.dirs old.namespace (kind_of old) old.prohibit_windows_device_names before (disk_of decided) given ran packed rewrite ways (out h) (laid h) (place_at ran k) e.before (e.step, about) e.rest cause at.0 mid.tree released.tree
+              (ends.cut_gone old.dirs old.namespace (kind_of old) old.prohibit_windows_device_names mode before (disk_of decided) given ran packed rewrite ways (out h) (laid h) (place_at ran k) e.before (e.step, about) e.rest cause at.0 mid.tree released.tree
               e.cut (subst (λ (p : Path). HasRename p e.before) (lock_is ran k lt) (c.renames (lock_at ran k)
               (renamed_before old.dirs (length ran) ran packed rewrite c.seen c.step c.later c.cut k (subst (λ (a : About). k < done_before (length ran) a) (sym c.about) early) written))) at.1 at.2 (removes h))
 
@@ -542,7 +551,7 @@ module _ {F : Type 0} (honest : Type 0) (means : F → Meaning) (faults : F → 
           cut_synced n fault e h lt =
               let at = e.ended h in
               subst (λ (p : Path). is_file (released.tree p) ≡ false) (sym (lock_is ran n lt))
-              (ends.synced_gone old.dirs old.namespace (kind_of old) old.prohibit_windows_device_names before (disk_of decided) given ran packed rewrite ways (out h) (laid h) (place_at ran n) e.before (e.step, about.Rename n) e.rest fault at.0 mid.tree released.tree
+              (ends.synced_gone old.dirs old.namespace (kind_of old) old.prohibit_windows_device_names mode before (disk_of decided) given ran packed rewrite ways (out h) (laid h) (place_at ran n) e.before (e.step, about.Rename n) e.rest fault at.0 mid.tree released.tree
               e.cut (subst (λ (p : Path). IsRenameOf p (bare e.step)) (lock_is ran n lt) (synced_rename n fault e h)) at.2 (removes h))
 
           pub cut_gone : (u : Unfinished) → EndsIn honest all_entries decided.tree mid.tree u → honest → (k : ℕ) → k < length ran → k < done_of (length ran) u → is_written_at ran k ≡ true → is_file (released.tree (lock_at ran k)) ≡ false
@@ -563,7 +572,7 @@ module _ {F : Type 0} (honest : Type 0) (means : F → Meaning) (faults : F → 
           cut_packed_gone (AtStep (about.Removal n) cause) e h text path some =
               let at = e.ended h in
               let c = cut_at e.before (e.step, about.Removal n) e.rest e.cut in
-              ends.cut_gone old.dirs old.namespace (kind_of old) old.prohibit_windows_device_names before (disk_of decided) given ran packed rewrite ways (out h) (laid h) path e.before (e.step, about.Removal n) e.rest cause at.0 mid.tree released.tree
+              ends.cut_gone old.dirs old.namespace (kind_of old) old.prohibit_windows_device_names mode before (disk_of decided) given ran packed rewrite ways (out h) (laid h) path e.before (e.step, about.Removal n) e.rest cause at.0 mid.tree released.tree
               e.cut (c.renames (lock_of path) (packed_renamed_before old.dirs (length ran) ran packed rewrite path some text c.seen c.step c.later c.cut (ap packed_before c.about))) at.1 at.2 (removes h)
           cut_packed_gone no_memory e h text path some = clash text refl
           cut_packed_gone (AtStep (about.Folders n) cause) e h text path some = clash text refl
@@ -572,16 +581,16 @@ module _ {F : Type 0} (honest : Type 0) (means : F → Meaning) (faults : F → 
           cut_packed_gone (AtStep (about.LogRemoval n) cause) e h text path some = clash text refl
           cut_packed_gone (AtStep about.Packed (Sync fault)) e h text path some =
               let at = e.ended h in
-              ends.synced_gone old.dirs old.namespace (kind_of old) old.prohibit_windows_device_names before (disk_of decided) given ran packed rewrite ways (out h) (laid h) path e.before (e.step, about.Packed) e.rest fault at.0 mid.tree released.tree
+              ends.synced_gone old.dirs old.namespace (kind_of old) old.prohibit_windows_device_names mode before (disk_of decided) given ran packed rewrite ways (out h) (laid h) path e.before (e.step, about.Packed) e.rest fault at.0 mid.tree released.tree
               e.cut (synced_packed fault e h path some text) at.2 (removes h)
           cut_packed_gone (AtStep about.Packed (Fault fault)) e h text path some = clash text refl
           cut_packed_gone (AtStep about.Packed Unexpected) e h text path some = clash text refl
           cut_packed_gone (AtStep about.Packed Asked) e h text path some = clash text refl
 
           pub committed : (h : honest) → HasGoodRecords means old → IsAfter (bare_steps all_entries) decided.tree mid.tree →
-              ((q : Path) → is_in mine q ≡ true → is_in left q ≡ false → is_file (now.tree q) ≡ false) → AreCommitted s given lines before left now.tree
-          committed h good after gone = subst (λ (ls : List (Option (List ℕ))). AreCommitted s given ls before left now.tree) (own_lines h)
-              (ends.commits old.dirs old.namespace (kind_of old) old.prohibit_windows_device_names before (disk_of decided) given ran packed rewrite ways (out h) (laid h) (ready h good) good.0 good.1 (repack h good) (text_held h)
+              ((q : Path) → is_in mine q ≡ true → is_in left q ≡ false → is_file (now.tree q) ≡ false) → AreCommitted s mode given lines before left now.tree
+          committed h good after gone = subst (λ (ls : List Extra). AreCommitted s mode given ls before left now.tree) (own_lines h)
+              (ends.commits old.dirs old.namespace (kind_of old) old.prohibit_windows_device_names mode before (disk_of decided) given ran packed rewrite ways (out h) (laid h) (ready h good) good.0 good.1 (repack h good) (text_held h)
               mid.tree now.tree left after
               (λ path other. same_files old.dirs paths released.tree now.tree (tidies h).tree path ∙ less_alike mid.tree released.tree (removes h) path other) gone)
 
@@ -606,20 +615,20 @@ module _ {F : Type 0} (honest : Type 0) (means : F → Meaning) (faults : F → 
             module _ (good : HasGoodRecords means old) where
               abbrev pub Inside : Disk → Type 0
               Inside = IsWithin (IsSpokenOf locked (disk_of decided))
-                  (ends.all_writes old.dirs old.namespace (kind_of old) old.prohibit_windows_device_names before (disk_of decided) given ran packed rewrite ways (out h) (laid h) (ready h good) good.0 good.1 (repack h good) (text_held h)) (view_of decided.tree)
+                  (ends.all_writes old.dirs old.namespace (kind_of old) old.prohibit_windows_device_names mode before (disk_of decided) given ran packed rewrite ways (out h) (laid h) (ready h good) good.0 good.1 (repack h good) (text_held h)) (view_of decided.tree)
 
               ran_inside : Passes decided mid (IsReachedBy (steps_in all_entries) (disk_of decided)) → Passes decided released Inside
               ran_inside passes =
-                  ends.within_run old.dirs old.namespace (kind_of old) old.prohibit_windows_device_names before (disk_of decided) given ran packed rewrite ways (out h) (laid h) (ready h good) good.0 good.1 (repack h good) (text_held h)
+                  ends.within_run old.dirs old.namespace (kind_of old) old.prohibit_windows_device_names mode before (disk_of decided) given ran packed rewrite ways (out h) (laid h) (ready h good) good.0 good.1 (repack h good) (text_held h)
                   decided mid released refl settled_then.1 passes only_mine
 
               -- a loss of power leaves each reference as before or as edited
               abbrev pub EndsWell : Disk → Type 0
-              EndsWell E = (T : Tree) → Lost E T → IsLostWell s DeletionsOnly locked (with_lines given lines) (disk_of decided) before T
+              EndsWell E = (T : Tree) → Lost E T → IsLostWell s mode locked (with_extras given lines) (disk_of decided) before T
 
               inside_well : (E : Disk) → Inside E → EndsWell E
-              inside_well E inside T loss = subst (λ (ls : List (Option (List ℕ))). IsLostWell s DeletionsOnly locked (with_lines given ls) (disk_of decided) before T) (own_lines h)
-                  (ends.lost_well old.dirs old.namespace (kind_of old) old.prohibit_windows_device_names before (disk_of decided) given ran packed rewrite ways (out h) (laid h) (ready h good) good.0 good.1 (repack h good) (text_held h)
+              inside_well E inside T loss = subst (λ (ls : List Extra). IsLostWell s mode locked (with_extras given ls) (disk_of decided) before T) (own_lines h)
+                  (ends.lost_well old.dirs old.namespace (kind_of old) old.prohibit_windows_device_names mode before (disk_of decided) given ran packed rewrite ways (out h) (laid h) (ready h good) good.0 good.1 (repack h good) (text_held h)
                   settled_then.0 E T inside loss)
 
               -- and so where empty folders are removed behind the run
@@ -630,15 +639,15 @@ module _ {F : Type 0} (honest : Type 0) (means : F → Meaning) (faults : F → 
                   (passes_weaken tidied
                   (λ E less T loss.
                   let early = less T loss in
-                  lost_well_alike s DeletionsOnly locked (with_lines given lines) (disk_of decided) before T early.0 early.2 (inside_well (disk_of released) inside.disk early.0 early.1)))
+                  lost_well_alike s mode locked (with_extras given lines) (disk_of decided) before T early.0 early.2 (inside_well (disk_of released) inside.disk early.0 early.1)))
 
-              pub lost : Passes decided mid (IsReachedBy (steps_in all_entries) (disk_of decided)) → Passes released now (LosesNoMore (disk_of released)) → EveryLossIsOldOrNew honest means faults old start new given lines
+              pub lost : Passes decided mid (IsReachedBy (steps_in all_entries) (disk_of decided)) → Passes released now (LosesNoMore (disk_of released)) → EveryLossIsOldOrNew honest means faults mode old start new given lines
               lost passes tidied = record {
                 began = λ T loss. lost_early h good rest.0 staying (disk_of first) T (as_before locked staying (disk_of first) rest.1) loss;
-                loses = losses (IsLostWell s DeletionsOnly locked (with_lines given lines) (disk_of first) before)
+                loses = losses (IsLostWell s mode locked (with_extras given lines) (disk_of first) before)
                     (λ E among T loss. ⊎_elim
                     (λ same. lost_early h good rest.0 staying E T same loss)
-                    (λ well. nothing.lost_before s locked staying (with_lines given lines) (disk_of first) (disk_of decided) before T early.disk (well T loss))
+                    (λ well. nothing.lost_before s mode locked staying (with_extras given lines) (disk_of first) (disk_of decided) before T early.disk (well T loss))
                     among)
                     (passes_joins (passes_weaken early (λ E same. inl same)) (passes_weaken (all_well passes tidied) (λ E well. inr well)));
               }
@@ -646,6 +655,6 @@ module _ {F : Type 0} (honest : Type 0) (means : F → Meaning) (faults : F → 
             -- a whole run leaves all settled
             pub settled : IsSyncedAfter (steps_in all_entries) (disk_of decided) (disk_of mid) → OnlyFolders old.dirs released now → new.dirs ≡ start.dirs → new.namespace ≡ start.namespace → IsAtRest means new
             settled done folders dirs_same namespace_same =
-                let end = ends.settles old.dirs old.namespace (kind_of old) old.prohibit_windows_device_names before (disk_of decided) given ran packed rewrite ways (out h) (laid h) mid (disk_of now) settled_then.0 settled_then.1 done
+                let end = ends.settles old.dirs old.namespace (kind_of old) old.prohibit_windows_device_names mode before (disk_of decided) given ran packed rewrite ways (out h) (laid h) mid (disk_of now) settled_then.0 settled_then.1 done
                 (λ same. (as_left folders same).disk) in
                 (end.0, subst (λ (f : Layout). AllStay (disk_of now) (roots f)) (sym (ap (λ (dirs : Dirs). folders_of dirs new.namespace) (dirs_same ∙ from.held.same.dirs) ∙ ap (folders_of old.dirs) (namespace_same ∙ from.held.same.namespace))) end.1)

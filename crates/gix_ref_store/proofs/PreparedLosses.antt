@@ -3,6 +3,7 @@ use Rattle.std.proofs.Common.{◌≡◌, true, List, []}
 use Rattle.gix_ref_files.specs.Files.{Meaning}
 use Rattle.gix_ref_files.specs.Tree.{Path}
 use Rattle.gix_ref_files.proofs.Moments.{passes_starts, passes_weaken}
+use Rattle.gix_ref_theory.specs.Edits.{Mode}
 use Rattle.gix_ref_theory.specs.Views.{IsOwnLock}
 use Rattle.gix_ref_theory.proofs.LockDisks.{as_before}
 use Rattle.gix_ref_theory.proofs.RunLosses.{within_loses}
@@ -20,12 +21,12 @@ module _ {F : Type 0} (means : F → Meaning) where
     loses = within_loses places [] (means (files_of old)) (means (files_of new)) (passes_weaken (keeps [] tt) (λ D among. among.0));
   }
 
-  pub kept_loses : (old new : Store F) (edits : List RefEdit) → KeepsAll means old new edits → LosesNothing means old new edits
-  kept_loses old new edits keeps = loses_but old new (places_in means old edits) keeps
+  pub kept_loses : (mode : Mode) (old new : Store F) (edits : List RefEdit) → KeepsAll means mode old new edits → LosesNothing means mode old new edits
+  kept_loses mode old new edits keeps = loses_but old new (places_in means mode old edits) keeps
 
   -- nothing was done
-  pub untouched_loses : (store : Store F) (edits : List RefEdit) → LosesNothing means store store edits
-  untouched_loses store edits = kept_loses store store edits (λ staying stays. passes_starts (means (files_of store)) _ (as_before (places_in means store edits) staying (disk_in means store) stays))
+  pub untouched_loses : (mode : Mode) (store : Store F) (edits : List RefEdit) → LosesNothing means mode store store edits
+  untouched_loses mode store edits = kept_loses mode store store edits (λ staying stays. passes_starts (means (files_of store)) _ (as_before (places_in means mode store edits) staying (disk_in means store) stays))
 
   -- some locks of these places were removed
   pub removing_loses : (old new : Store F) (locks places : List Path) → OnlyRemoves locks (means (files_of old)) (means (files_of new)) → ((q : Path) → is_in locks q ≡ true → IsOwnLock places q) →

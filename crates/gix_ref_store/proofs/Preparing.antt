@@ -1,33 +1,43 @@
 -- A transaction that is prepared, from what its locks and the edits that carry what was found say of it.
-use Rattle.std.proofs.Common.{◌≡◌, inl, ◌∙◌, ℕ, List, Option, ◌++◌, length, take, sym, ap, subst, arith, Result, Ok, Err, IfOk, IfErr}
+use Rattle.std.proofs.Common.{◌≡◌, inl, ◌∙◌, ℕ, List, [], Option, ◌++◌, length, take, sym, ap, subst, arith, Result, Ok, Err, IfOk, IfErr}
 use Rattle.std.proofs.Math.Seq.{take-append_seam}
 use Rattle.std.proofs.lemmas.List.{length-map}
 use Rattle.gix_ref_files.specs.Files.{Meaning}
 use Rattle.gix_ref_files.specs.Tree.{Path}
+use Rattle.gix_ref_hash.specs.declared.hash.ObjectId.{ObjectId}
+use Rattle.gix_ref_object.specs.Objects.{Stored}
+use Rattle.gix_ref_theory.specs.Edits.{Mode}
 use Rattle.gix_ref_theory.specs.OnRealTrees.{view_of}
+use Rattle.gix_ref_lookup.specs.StoreLayout.{git_options}
+use Rattle.gix_ref_lookup.proofs.Laying.{folders_laid}
+use Rattle.gix_ref_transaction.specs.Peels.{ArePut}
+use Rattle.gix_ref_transaction.proofs.Apart.{references}
+use Rattle.gix_ref_commit.proofs.Alike.{AreSame, are_same}
+use Rattle.gix_ref_commit.proofs.CanBePut.{all_can_be_put, carried_can, carried_puts, have_their_puts}
 use Rattle.gix_ref_edits.specs.declared.transaction.RefEdit.{RefEdit}
 use Rattle.gix_ref_transaction.specs.CarriedEdits.{AreCarried}
 use Rattle.gix_ref_transaction.specs.Parents.{parents_in}
 use Rattle.gix_ref_transaction.specs.OwnLocks.{paths_of}
 use Rattle.gix_ref_transaction.specs.declared.prepare.hold.HeldLocks.{HeldLocks}
 use Rattle.gix_ref_transaction.specs.declared.prepare.hold.LockFailure.{LockFailure}
-use Rattle.gix_ref_transaction.specs.PrepareSteps.{AreWholeLocks, effects_of, effects_on, files_at, ids_in, packed_ids, place_paths, places_of, seen_files, targets_of, updates}
+use Rattle.gix_ref_transaction.specs.PrepareSteps.{puts_in, AreWholeLocks, effects_of, effects_on, files_at, ids_in, packed_ids, place_paths, places_of, seen_files, targets_of, updates}
 use Rattle.gix_ref_transaction.specs.declared.edit.Edit.{Edit}
 use Rattle.gix_ref_store.specs.ComposedEdits.{AreAskedAs}
 use Rattle.gix_ref_store.specs.Prepared.{HasGoodRecords, HaveParents, HoldsFrom, HoldsGiven, HoldsPacked, LosesNothing, PreparesFrom, PreparesGiven, RefusesFrom, RefusesGiven, SplitsFrom, disk_in, locks_in, tree_of}
-use Rattle.gix_ref_store.specs.Store.{meaning_of}
+use Rattle.gix_ref_store.specs.Store.{folders, kind_of, meaning_of}
 use Rattle.gix_ref_store.specs.declared.file.store.Store.{Store}
 
 -- `seen` are the edits that are held, and `after` those that carry what was found of them: as many
-pub prepares : {F : Type 0} (honest : Type 0) (means : F → Meaning) (faults : F → ℕ) (old new : Store F) (given : List RefEdit) (len : ℕ) (packed : Option Path) (held seen after rest : List Edit) →
-    seen ≡ held → length seen ≡ len → HoldsGiven honest means faults old new given packed held →
-    AreCarried (updates seen) (targets_of seen) (updates after) → place_paths after ≡ place_paths seen → parents_in after ≡ parents_in seen → effects_of after ≡ effects_of seen → seen_files after ≡ seen_files seen → ids_in after ≡ ids_in seen →
-    PreparesGiven honest means faults old new given packed (take len (after ++ rest))
-prepares honest means faults old new given len packed held seen after rest are all holds carried same_places same_parents same_effects same_files same_ids = record {
+pub prepares : {F : Type 0} (honest : Type 0) (means : F → Meaning) (faults : F → ℕ) (claims : Type 0) (meaning : ObjectId → Stored) (mode : Mode) (old new : Store F) (given : List RefEdit) (len : ℕ) (packed : Option Path) (held seen after rest : List Edit) →
+    seen ≡ held → length seen ≡ len → HoldsGiven honest means faults claims meaning mode old new given packed held →
+    AreCarried (updates seen) (targets_of seen) (updates after) → place_paths after ≡ place_paths seen → parents_in after ≡ parents_in seen → effects_of after ≡ effects_of seen → seen_files after ≡ seen_files seen → ids_in after ≡ ids_in seen → puts_in after ≡ puts_in seen →
+    PreparesGiven honest means faults claims meaning mode old new given packed (take len (after ++ rest))
+prepares honest means faults claims meaning mode old new given len packed held seen after rest are all holds carried same_places same_parents same_effects same_files same_ids same_puts = record {
   split = updates held;
   splits = holds.splits;
   parents = λ h. ap parents_in over ∙ (same_parents ∙ (ap parents_in are ∙ holds.parents h));
-  prepared = subst (λ (l : List Edit). PreparesFrom honest means faults old new (updates held) packed l) (sym over) (record {
+  put = subst (λ (l : List Edit). ArePut claims meaning (meaning_of old) mode (kind_of old) l) (sym over) (carried_puts (meaning_of old) mode (kind_of old) claims meaning held after same puts (holds.put));
+  prepared = subst (λ (l : List Edit). PreparesFrom honest means faults mode old new (updates held) packed l) (sym over) (record {
     was = targets_of held;
     held = holds.held;
     lost = holds.lost;
@@ -38,29 +48,41 @@ prepares honest means faults old new given len packed held seen after rest are a
     effects = λ h good. same_effects ∙ (ap effects_of are ∙ holds.effects h good);
     files = λ h good. same_files ∙ (ap seen_files are ∙ holds.files h good);
     ids = λ h good. same_ids ∙ (ap ids_in are ∙ holds.ids h good);
+    puts = have_their_puts old.dirs old.namespace (kind_of old) old.prohibit_windows_device_names mode claims meaning after (carried_puts (meaning_of old) mode (kind_of old) claims meaning held after same puts (holds.put));
+    can_be_put = carried_can (meaning_of old) mode (kind_of old) held after same puts
+        (all_can_be_put old.dirs old.namespace (kind_of old) old.prohibit_windows_device_names mode claims meaning [] held
+        (references (folders old) (git_options (kind_of old) old.prohibit_windows_device_names) (folders_laid old.dirs old.namespace) (kind_of old) [] (updates held) holds.held.valid)
+        holds.held.valid holds.put);
   });
 }
   where
+    same : AreSame (updates held) (updates after)
+    same = are_same (updates held) (targets_of held) (updates after) (subst (λ (l : List Edit). AreCarried (updates l) (targets_of l) (updates after)) are carried)
+
+    puts : puts_in after ≡ puts_in held
+    puts = same_puts ∙ ap puts_in are
+
     over : take len (after ++ rest) ≡ after
     over =
         ap (λ n. take n (after ++ rest)) (omega (arith, all, carried.len, length-map after (λ (e : Edit). e.update), length-map seen (λ (e : Edit). e.update)))
         ∙ take-append_seam after rest
 
 -- locks that are held of the edits that are asked for are held of those that are given
-module _ {F : Type 0} (honest : Type 0) (means : F → Meaning) (faults : F → ℕ) (old new : Store F) (given asked : List RefEdit) (composed : AreAskedAs old.precompose_unicode given asked) where
+module _ {F : Type 0} (honest : Type 0) (means : F → Meaning) (faults : F → ℕ) (claims : Type 0) (meaning : ObjectId → Stored) (mode : Mode) (old new : Store F) (given asked : List RefEdit) (composed : AreAskedAs old.precompose_unicode given asked) where
   pub holds_given : (r : Result HeldLocks LockFailure) →
       IfOk r (λ held. SplitsFrom honest means faults old asked (updates held.edits.items)) →
       (honest → IfOk r (λ held. HaveParents honest means faults old asked held.edits.items)) →
-      IfOk r (λ held. HoldsFrom honest means faults old new (updates held.edits.items) (targets_of held.edits.items)) →
-      (honest → IfOk r (λ held. LosesNothing means old new (updates held.edits.items))) →
-      (honest → IfOk r (λ held. AreWholeLocks (disk_in means new) (locks_in means old (updates held.edits.items)))) →
-      IfOk r (λ held. HoldsPacked honest means faults old new (updates held.edits.items) held.packed) →
+      IfOk r (λ held. HoldsFrom honest means faults mode old new (updates held.edits.items) (targets_of held.edits.items)) →
+      (honest → IfOk r (λ held. LosesNothing means mode old new (updates held.edits.items))) →
+      (honest → IfOk r (λ held. AreWholeLocks (disk_in means new) (locks_in means mode old (updates held.edits.items)))) →
+      IfOk r (λ held. HoldsPacked honest means faults mode old new (updates held.edits.items) held.packed) →
       IfOk r (λ held. place_paths held.edits.items ≡ places_of (meaning_of old) (updates held.edits.items)) →
-      (honest → HasGoodRecords means old → IfOk r (λ held. effects_of held.edits.items ≡ effects_on (meaning_of old) (view_of (tree_of means old)) (updates held.edits.items))) →
+      (honest → HasGoodRecords means old → IfOk r (λ held. effects_of held.edits.items ≡ effects_on (meaning_of old) mode (view_of (tree_of means old)) (updates held.edits.items))) →
       (honest → HasGoodRecords means old → IfOk r (λ held. seen_files held.edits.items ≡ files_at (meaning_of old) (tree_of means old) (updates held.edits.items))) →
       (honest → HasGoodRecords means old → IfOk r (λ held. ids_in held.edits.items ≡ packed_ids (meaning_of old) (tree_of means old) (updates held.edits.items))) →
-      IfOk r (λ held. HoldsGiven honest means faults old new given held.packed held.edits.items)
-  holds_given (Ok held) splits parents holds lost whole packed places effects files ids = record {
+      IfOk r (λ held. ArePut claims meaning (meaning_of old) mode (kind_of old) held.edits.items) →
+      IfOk r (λ held. HoldsGiven honest means faults claims meaning mode old new given held.packed held.edits.items)
+  holds_given (Ok held) splits parents holds lost whole packed places effects files ids put = record {
     splits = record { asked = asked; composed = composed; from = splits };
     parents = parents;
     held = holds;
@@ -71,12 +93,13 @@ module _ {F : Type 0} (honest : Type 0) (means : F → Meaning) (faults : F → 
     effects = effects;
     files = files;
     ids = ids;
+    put = put;
   }
-  holds_given (Err failure) splits parents holds lost whole packed places effects files ids = tt
+  holds_given (Err failure) splits parents holds lost whole packed places effects files ids put = tt
 
   -- and a refusal of the one is one of the other
   pub refuses_given : (read : Type 0) (r : Result HeldLocks LockFailure) →
-      IfErr r (λ failure. RefusesFrom honest read means faults old new asked failure.error (paths_of failure.locks_left.items)) →
-      IfErr r (λ failure. RefusesGiven honest read means faults old new given failure.error (paths_of failure.locks_left.items))
+      IfErr r (λ failure. RefusesFrom honest read means faults claims meaning mode old new asked failure.error (paths_of failure.locks_left.items)) →
+      IfErr r (λ failure. RefusesGiven honest read means faults claims meaning mode old new given failure.error (paths_of failure.locks_left.items))
   refuses_given read (Ok held) refused = tt
   refuses_given read (Err failure) refused = record { asked = asked; composed = inl composed; refuses = refused }

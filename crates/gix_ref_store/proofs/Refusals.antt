@@ -7,7 +7,8 @@ use Rattle.gix_ref_files.specs.Tree.{Path}
 use Rattle.gix_ref_files.specs.Files.{Meaning, Leaves}
 use Rattle.gix_ref_edits.specs.DoubledNames.{NoneDoubled}
 use Rattle.gix_ref_edits.specs.declared.transaction.RefEdit.{RefEdit}
-use Rattle.gix_ref_transaction.specs.Causes.{IsLockCause, IsPackedLocked, names_of, packed_taken}
+use Rattle.gix_ref_transaction.specs.Causes.{IsPackedLocked, names_of, packed_taken}
+use Rattle.gix_ref_transaction.specs.Peels.{IsLockCause}
 use Rattle.gix_ref_transaction.specs.HeldLocks.{HoldAllLocks, AreRemovedAgain, HoldsPackedLock, IsHeldBack, OnlyTakes}
 use Rattle.gix_ref_transaction.specs.LeftLocks.{HasRoom}
 use Rattle.gix_ref_transaction.specs.OwnLocks.{AddsLocks, paths_of}
@@ -16,6 +17,9 @@ use Rattle.gix_ref_transaction.specs.Parents.{parents_in}
 use Rattle.gix_ref_transaction.specs.PrepareSteps.{AreLockable, AreWholeLocks, ids_in, packed_ids, possible_locks, effects_of, effects_on, files_at, seen_files, HoldTexts, old_targets, place_paths, targets_of, updates}
 use Rattle.gix_ref_transaction.specs.declared.edit.Edit.{Edit}
 use Rattle.gix_ref_transaction.proofs.PackedLemmas.{parents_alike, places_alike, updates_alike}
+use Rattle.gix_ref_hash.specs.declared.hash.ObjectId.{ObjectId}
+use Rattle.gix_ref_object.specs.Objects.{Stored}
+use Rattle.gix_ref_theory.specs.Edits.{Mode}
 use Rattle.gix_ref_theory.specs.OnRealTrees.{view_of}
 use Rattle.gix_ref_transaction.specs.declared.prepare.hold.HeldLocks.{HeldLocks}
 use Rattle.gix_ref_transaction.specs.declared.prepare.hold.LockFailure.{LockFailure}
@@ -23,14 +27,14 @@ use Rattle.gix_ref_store.specs.Prepared.{HasGoodRecords, HoldsFrom, HoldsPacked,
 use Rattle.gix_ref_store.specs.Store.{files_of, kind_of, meaning_of, IsSameStore}
 use Rattle.gix_ref_store.specs.declared.file.store.Store.{Store}
 
-pub refused_split : {F : Type 0} (honest read : Type 0) (means : F → Meaning) (faults : F → ℕ) (old new : Store F) (edits : List RefEdit) (r : Result HeldLocks LockFailure) →
+pub refused_split : {F : Type 0} (honest read : Type 0) (means : F → Meaning) (faults : F → ℕ) (claims : Type 0) (meaning : ObjectId → Stored) (mode : Mode) (old new : Store F) (edits : List RefEdit) (r : Result HeldLocks LockFailure) →
     IsSameStore old new → NoneDoubled (names_of edits) →
-    IfErr r (λ u. IsHeldBack honest means faults read (meaning_of old) (kind_of old) edits (IsLockCause (meaning_of old) (kind_of old) (tree_of means old) edits) (files_of old) (files_of new) u.error) →
-    IfErr r (λ u. AreRemovedAgain honest means faults (locks_in means old edits) (possible_locks (meaning_of old) edits) u.locks_left (files_of old) (files_of new)) →
-    OnlyTakes honest means faults (locks_in means old edits) (files_of old) (files_of new) →
-    IfErr r (λ u. RefusesSplit honest read means faults old new edits u.error (paths_of u.locks_left.items))
-refused_split honest read means faults old new edits (Ok t) same single back removed takes = tt
-refused_split honest read means faults old new edits (Err u) same single back removed takes = record {
+    IfErr r (λ u. IsHeldBack honest means faults read (meaning_of old) (kind_of old) edits (IsLockCause claims meaning (meaning_of old) mode (kind_of old) (tree_of means old) edits) (files_of old) (files_of new) u.error) →
+    IfErr r (λ u. AreRemovedAgain honest means faults (locks_in means mode old edits) (possible_locks (meaning_of old) edits) u.locks_left (files_of old) (files_of new)) →
+    OnlyTakes honest means faults (locks_in means mode old edits) (files_of old) (files_of new) →
+    IfErr r (λ u. RefusesSplit honest read means faults claims meaning mode old new edits u.error (paths_of u.locks_left.items))
+refused_split honest read means faults claims meaning mode old new edits (Ok t) same single back removed takes = tt
+refused_split honest read means faults claims meaning mode old new edits (Err u) same single back removed takes = record {
   cause = λ h good. ⊎_elim (λ outside. inl outside) (λ first. inr (inr (single, first))) (back.cause h good);
   opened = back.opened;
   unread = back.unread;
@@ -44,13 +48,13 @@ refused_split honest read means faults old new edits (Err u) same single back re
 }
 
 -- the edits that are held, from those that were begun with the split list
-module _ {F : Type 0} (honest : Type 0) (means : F → Meaning) (faults : F → ℕ) (old new : Store F) (begun : Vec Edit Global) (room : Remains) (split : List RefEdit) (asked : updates begun.items ≡ split) where
+module _ {F : Type 0} (honest : Type 0) (means : F → Meaning) (faults : F → ℕ) (mode : Mode) (old new : Store F) (begun : Vec Edit Global) (room : Remains) (split : List RefEdit) (asked : updates begun.items ≡ split) where
   -- what is ensured of them, and of the lock of `packed-refs`
   abbrev Held : HeldLocks → Type 0
-  Held h = HoldAllLocks honest (HasGoodRecords means old) (meaning_of old) (kind_of old) (locks_in means old (updates begun.items)) (means (files_of old)) (means (files_of new)) begun.items h.edits.items room h.remains
+  Held h = HoldAllLocks honest (HasGoodRecords means old) (meaning_of old) mode (kind_of old) (locks_in means mode old (updates begun.items)) (means (files_of old)) (means (files_of new)) begun.items h.edits.items room h.remains
 
   abbrev HeldPacked : HeldLocks → Type 0
-  HeldPacked h = HoldsPackedLock honest (meaning_of old) (tree_of means old) (tree_of means new) (updates begun.items) h.packed
+  HeldPacked h = HoldsPackedLock honest (meaning_of old) mode (tree_of means old) (tree_of means new) (updates begun.items) h.packed
 
   pub held_asked : (r : Result HeldLocks LockFailure) → IfOk r Held → IfOk r (λ h. updates h.edits.items ≡ split)
   held_asked (Ok h) held = updates_alike begun.items h.edits.items held.asked ∙ asked
@@ -64,8 +68,8 @@ module _ {F : Type 0} (honest : Type 0) (means : F → Meaning) (faults : F → 
   held_parents (Ok h) held parents are = parents_alike begun.items h.edits.items held.asked ∙ are
   held_parents (Err failure) held parents are = tt
 
-  pub held_effects : (r : Result HeldLocks LockFailure) → IfOk r Held → honest → HasGoodRecords means old → IfOk r (λ h. effects_of h.edits.items ≡ effects_on (meaning_of old) (view_of (tree_of means old)) split)
-  held_effects (Ok h) held honestly good = ((held.taken honestly).settled good).what ∙ ap (effects_on (meaning_of old) (view_of (tree_of means old))) asked
+  pub held_effects : (r : Result HeldLocks LockFailure) → IfOk r Held → honest → HasGoodRecords means old → IfOk r (λ h. effects_of h.edits.items ≡ effects_on (meaning_of old) mode (view_of (tree_of means old)) split)
+  held_effects (Ok h) held honestly good = ((held.taken honestly).settled good).what ∙ ap (effects_on (meaning_of old) mode (view_of (tree_of means old))) asked
   held_effects (Err failure) held honestly good = tt
 
   pub held_files : (r : Result HeldLocks LockFailure) → IfOk r Held → honest → HasGoodRecords means old → IfOk r (λ h. seen_files h.edits.items ≡ files_at (meaning_of old) (tree_of means old) split)
@@ -76,36 +80,36 @@ module _ {F : Type 0} (honest : Type 0) (means : F → Meaning) (faults : F → 
   held_ids (Ok h) held honestly good = ((held.taken honestly).settled good).ids ∙ ap (packed_ids (meaning_of old) (tree_of means old)) asked
   held_ids (Err failure) held honestly good = tt
 
-  pub held_whole : (r : Result HeldLocks LockFailure) → IfOk r Held → honest → IfOk r (λ h. AreWholeLocks (disk_in means new) (locks_in means old split))
-  held_whole (Ok h) held honestly = subst (λ (u : List RefEdit). AreWholeLocks (disk_in means new) (locks_in means old u)) asked (held.taken honestly).whole
+  pub held_whole : (r : Result HeldLocks LockFailure) → IfOk r Held → honest → IfOk r (λ h. AreWholeLocks (disk_in means new) (locks_in means mode old split))
+  held_whole (Ok h) held honestly = subst (λ (u : List RefEdit). AreWholeLocks (disk_in means new) (locks_in means mode old u)) asked (held.taken honestly).whole
   held_whole (Err failure) held honestly = tt
 
   pub held_split : (r : Result HeldLocks LockFailure) → IfOk r Held → IfOk r HeldPacked → IsSameStore old new → AllValid (meaning_of old) (kind_of old) [] split → NoneDoubled (names_of split) →
-      OnlyTakes honest means faults (locks_in means old (updates begun.items)) (files_of old) (files_of new) → IfOk r (λ h. HoldsFrom honest means faults old new split (targets_of h.edits.items))
+      OnlyTakes honest means faults (locks_in means mode old (updates begun.items)) (files_of old) (files_of new) → IfOk r (λ h. HoldsFrom honest means faults mode old new split (targets_of h.edits.items))
   held_split (Err failure) held packed same valid single takes = tt
   held_split (Ok h) held packed same valid single takes = record {
     accepted = λ honestly good. record {
       sound = valid;
       single = single;
-      unlocked = subst (λ (u : List RefEdit). IsPackedLocked (meaning_of old) (tree_of means old) u → ⊥) asked (packed.free honestly);
+      unlocked = subst (λ (u : List RefEdit). IsPackedLocked (meaning_of old) mode (tree_of means old) u → ⊥) asked (packed.free honestly);
       no_cause = subst (λ (u : List RefEdit). NoCause (meaning_of old) (kind_of old) (tree_of means old) [] u) asked ((held.taken honestly).settled good).no_cause;
     };
     found = λ honestly good. ((held.taken honestly).settled good).was ∙ ap (old_targets (meaning_of old) (tree_of means old)) asked;
-    texts = λ honestly good. subst (λ (u : List RefEdit). HoldTexts (meaning_of old) (tree_of means old) (tree_of means new) u) asked ((held.taken honestly).settled good).texts;
+    texts = λ honestly good. subst (λ (u : List RefEdit). HoldTexts (meaning_of old) mode (tree_of means old) (tree_of means new) u) asked ((held.taken honestly).settled good).texts;
     valid = valid;
     lockable = λ honestly. subst (λ (u : List RefEdit). AreLockable (meaning_of old) (kind_of old) (tree_of means old) [] u) asked (held.taken honestly).lockable;
-    adds = λ honestly. subst (λ (u : List RefEdit). AddsLocks (locks_in means old u) (locks_in means old u) (tree_of means old) (tree_of means new)) asked (held.adds honestly);
-    leaves = λ honestly. subst (λ (u : List RefEdit). Leaves (means (files_of old)) (means (files_of new)) (AddsLocks (locks_in means old u) (locks_in means old u) (tree_of means old))) asked (takes.leaves honestly);
+    adds = λ honestly. subst (λ (u : List RefEdit). AddsLocks (locks_in means mode old u) (locks_in means mode old u) (tree_of means old) (tree_of means new)) asked (held.adds honestly);
+    leaves = λ honestly. subst (λ (u : List RefEdit). Leaves (means (files_of old)) (means (files_of new)) (AddsLocks (locks_in means mode old u) (locks_in means mode old u) (tree_of means old))) asked (takes.leaves honestly);
     no_fewer = takes.no_fewer;
     same = same;
   }
 
   -- the lock of `packed-refs`
-  pub held_packed : (r : Result HeldLocks LockFailure) → IfOk r HeldPacked → IfOk r (λ h. HoldsPacked honest means faults old new split h.packed)
+  pub held_packed : (r : Result HeldLocks LockFailure) → IfOk r HeldPacked → IfOk r (λ h. HoldsPacked honest means faults mode old new split h.packed)
   held_packed (Err failure) packed = tt
   held_packed (Ok h) packed = record {
     place = packed.place;
-    due = λ honestly. packed.due honestly ∙ ap (packed_taken (meaning_of old) (tree_of means old)) asked;
+    due = λ honestly. packed.due honestly ∙ ap (packed_taken (meaning_of old) mode (tree_of means old)) asked;
     empty = packed.empty;
   }
 

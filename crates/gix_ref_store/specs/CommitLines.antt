@@ -12,6 +12,7 @@ use Rattle.gix_ref_transaction.specs.declared.edit.Edit.{Edit}
 use Rattle.gix_ref_lines.specs.AskedEdits.{asked}
 use Rattle.gix_ref_lines.specs.DueLines.{LogRules, due_lines}
 use Rattle.gix_ref_lines.specs.LineCauses.{AllHaveNoCause}
+use Rattle.gix_ref_commit.specs.LogEffects.{Extra, with_ends}
 use Rattle.gix_ref_store.specs.Prepared.{tree_of}
 use Rattle.gix_ref_store.specs.Store.{meaning_of}
 use Rattle.gix_ref_store.specs.declared.file.store.Store.{Store}
@@ -30,6 +31,11 @@ abbrev pub lines_due : {F : Type 0} (means : F → Meaning) → Store F →
     (committer : Option SignatureRef) → List Edit → List (Option (List ℕ))
 lines_due means store committer held = due_lines (line_rules store committer)
     (view_of (tree_of means store)) (asked held)
+
+-- and with each the object at the end of the tags of what its edit puts into `packed-refs`
+abbrev pub extras_due : {F : Type 0} (means : F → Meaning) → Store F →
+    (committer : Option SignatureRef) → List Edit → List Extra
+extras_due means store committer held = with_ends (lines_due means store committer held) held
 
 -- each line that is due can be made and added: there is a committer, its signature and the message can be written, and no file is in the
 -- path of the log

@@ -13,14 +13,14 @@ use Rattle.gix_ref_lookup.specs.Lookups.{ArePackedRecords}
 use Rattle.gix_ref_lookup.specs.declared.folders.Dirs.{Dirs}
 use Rattle.gix_ref_rewrite.specs.declared.outcome.Rewrite.{Rewrite}
 use Rattle.gix_ref_theory.specs.Between.{AreEdits}
-use Rattle.gix_ref_theory.specs.Edits.Mode.{DeletionsOnly}
+use Rattle.gix_ref_theory.specs.Edits.{Mode}
 use Rattle.gix_ref_theory.specs.Losses.{IsLostWell}
 use Rattle.gix_ref_theory.specs.OnRealTrees.{view_of}
 use Rattle.gix_ref_edits.specs.declared.transaction.RefEdit.{RefEdit}
 use Rattle.gix_ref_transaction.specs.CommitRenames.{SeeLogs, place_at}
-use Rattle.gix_ref_transaction.specs.CommittedEdits.{planned}
 use Rattle.gix_ref_transaction.specs.OwnLocks.{is_in, paths_of, times, RemovesLocks}
 use Rattle.gix_ref_transaction.specs.PackedCauses.{ids_among}
+use Rattle.gix_ref_transaction.specs.Packing.{HaveTheirPuts, plan_edits}
 use Rattle.gix_ref_transaction.specs.PrepareSteps.{held_locks, ids_in, possible_locks, updates, IsPackedPlace}
 use Rattle.gix_ref_transaction.specs.declared.edit.Edit.{Edit}
 use Rattle.gix_ref_log.specs.declared.actor.SignatureRef.{SignatureRef}
@@ -30,26 +30,26 @@ use Rattle.gix_ref_lines.specs.LineCauses.{FirstFails}
 use Rattle.gix_ref_lines.specs.declared.create_or_update.Error.{Error as LogError}
 use Rattle.gix_ref_lines.specs.declared.create_or_update.Error.TheVariants.{CreateLeadingDirectories, Append}
 use Rattle.gix_ref_repack.specs.Refusals.{IsBadLine, IsReadFile}
-use Rattle.gix_ref_repack.specs.Repacks.{IsRepack, removes_record}
+use Rattle.gix_ref_repack.specs.Repacks.{AllCanBePut, IsRepack, alters_record}
 use Rattle.gix_ref_repack.specs.declared.error.Error.TheVariants as repack
 use Rattle.gix_ref_commit.specs.Cleared.{AllInWay, AreAllFolders, FoldersGo, HasEntries, HoldsMore, all_removed, commit_entries, folder_lists, is_seen, removals}
 use Rattle.gix_ref_commit.specs.CommittedTrees.{AreCommitted, IsOldOrNew}
 use Rattle.gix_ref_commit.specs.Decided.{IsFilled, IsPackedLockEmpty}
 use Rattle.gix_ref_commit.specs.Entries.{Entry, planned_entries}
 use Rattle.gix_ref_commit.specs.Failures.{IsNameAt}
-use Rattle.gix_ref_commit.specs.LogEffects.{with_lines}
+use Rattle.gix_ref_commit.specs.LogEffects.{Extra, with_extras}
 use Rattle.gix_ref_commit.specs.Unfinished.{EndsAtStep}
 use Rattle.gix_ref_commit.specs.declared.error.Error.{Error}
 use Rattle.gix_ref_commit.specs.declared.error.Error.TheVariants.{CreateOrUpdateRefLog, PackedTransactionCommit, LockCommit, DeleteReference, DeleteReflog, FolderInPlace, PreprocessingFailed, Memory}
 use Rattle.gix_ref_commit.specs.declared.folders.InWay.{InWay}
 use Rattle.gix_ref_commit.specs.declared.plan.About.{About}
 use Rattle.gix_ref_commit.specs.declared.plan.About.TheVariants.{Folders, Line, Rename, LogRemoval, Packed, Removal}
-use Rattle.gix_ref_store.specs.CommitLines.{LinesPass, line_rules, lines_due, log_path_at}
+use Rattle.gix_ref_store.specs.CommitLines.{LinesPass, extras_due, line_rules, log_path_at}
 use Rattle.gix_ref_store.specs.Prepared.{PreparesFrom, HasGoodRecords, tree_of, disk_in, IsAtRest, locks_in, places_in}
 use Rattle.gix_ref_store.specs.Store.{files_of, kind_of, meaning_of}
 use Rattle.gix_ref_store.specs.declared.file.store.Store.{Store}
 use Rattle.gix_ref_store.specs.declared.file.transaction.outcome.Done.{Done}
-use Rattle.gix_ref_store.specs.declared.file.transaction.packed_refs.PackedRefs.{PackedRefs}
+use Rattle.gix_ref_transaction.specs.declared.packing.PackedRefs.{PackedRefs}
 use Rattle.gix_ref_store.specs.declared.file.transaction.outcome.Failed.{Failed}
 
 module _ {T : Type 0} where
@@ -75,14 +75,15 @@ ChangesLocks locks before T = (q : Path) → is_in locks q ≡ false → T q ≡
 module _ {F : Type 0} (honest : Type 0) (means : F → Meaning) (faults : F → ℕ) where
   -- A commit, from the store `start` with these edits of a `prepare` that began with the store `old`: where `packed-refs` was well
   -- formed, every stop leaves each reference as before or as edited; of the locks only those stay that are named, and one is named only where a fault came.
-  pub record EveryStopIsOldOrNew (old start new : Store F) (given : List RefEdit)
-      (lines : List (Option (List ℕ))) (left : List Path) : Type 0 where
+  pub record EveryStopIsOldOrNew (mode : Mode) (old start new : Store F) (given : List RefEdit)
+      (extras : List Extra) (left : List Path) : Type 0 where
     -- the tree with which it begins, which a stop before its first change leaves
     pub began : honest → HasGoodRecords means old →
-        IsOldOrNew (meaning_of old) given lines (tree_of means old) (tree_of means start)
+        IsOldOrNew (meaning_of old) mode given extras (tree_of means old) (tree_of means start)
     pub leaves : honest → Leaves (means (files_of start)) (means (files_of new)) (λ T.
-        HasGoodRecords means old → IsOldOrNew (meaning_of old) given lines (tree_of means old) T)
-    pub gone : honest → (q : Path) → is_in (locks_in means old given) q ≡ true →
+        HasGoodRecords
+        means old → IsOldOrNew (meaning_of old) mode given extras (tree_of means old) T)
+    pub gone : honest → (q : Path) → is_in (locks_in means mode old given) q ≡ true →
         is_in left q ≡ false → is_file (tree_of means new q) ≡ false
     pub ours : (q : Path) → is_in left q ≡ true →
         is_in (possible_locks (meaning_of old) given) q ≡ true
@@ -93,35 +94,39 @@ module _ {F : Type 0} (honest : Type 0) (means : F → Meaning) (faults : F → 
   abbrev pub EveryStopFrom : (start new : Store F) → Option SignatureRef → Option Path → List Edit →
       List Path → Type 0
   EveryStopFrom start new committer packed held left =
-      (old : Store F) (given : List RefEdit) →
-      PreparesFrom honest means faults old start given packed held →
-      EveryStopIsOldOrNew old start new given (lines_due means start committer held) left
+      (old : Store F) (mode : Mode) (given : List RefEdit) →
+      PreparesFrom honest means faults mode old start given packed held →
+      EveryStopIsOldOrNew mode old start new given (extras_due means start committer held) left
 
   -- a commit that succeeds: the edits are committed
   abbrev pub CommitsFrom : (start new : Store F) → Option SignatureRef → Option Path → List Edit →
       List Path → Type 0
   CommitsFrom start new committer packed held left =
-      (old : Store F) (given : List RefEdit) → PreparesFrom honest means faults old start given
+      (old : Store F) (mode : Mode) (given : List RefEdit) →
+      PreparesFrom honest means faults mode old start given
       packed held → honest → HasGoodRecords means old →
-      AreCommitted (meaning_of old) given (lines_due means start committer held)
+      AreCommitted (meaning_of old) mode given (extras_due means start committer held)
       (tree_of means old) left (tree_of means new)
 
-  -- where the record of a deleted reference was found, each line of `packed-refs` is a record
+  -- where a record was put, or that of a deleted reference was found, each line of `packed-refs` is a record
   abbrev pub ReadsPacked : Store F → Option Path → List Edit → Type 0
   ReadsPacked start packed held =
-      honest → packed ≢ None → list_any removes_record held ≡ true →
+      honest → packed ≢ None → list_any alters_record held ≡ true →
       IsReadFile (kind_of start) (tree_of means start (meaning_of start).packed_path)
 
   -- What was decided of `packed-refs`, where its lock is held.
   pub record RepacksFrom (start : Store F) (packed : Option Path) (held : List Edit)
       (rewrite : Rewrite) : Type 0 where
-    -- where it was well formed, it is that without the records of deleted references
+    -- where it was well formed, it is that with what was put and without the records of deleted references
     pub made :
-        honest → AreEdits (meaning_of start) (planned (updates held)) → (rs : List Record) →
+        honest →
+        (mode : Mode) → AreEdits (meaning_of start) (plan_edits held) → (rs : List Record) →
         ArePackedRecords (kind_of start)
         (view_of (tree_of means start) (meaning_of start).packed_path) rs →
-        ids_in held ≡ ids_among (meaning_of start) rs (updates held) → packed ≢ None →
-        IsRepack (meaning_of start) (kind_of start) rs (planned (updates held)) rewrite
+        ids_in held ≡ ids_among (meaning_of start) rs (updates held) →
+        HaveTheirPuts (meaning_of start) mode held →
+        AllCanBePut (meaning_of start) (kind_of start) held → packed ≢ None →
+        IsRepack (meaning_of start) mode (kind_of start) rs (plan_edits held) rewrite
     -- of any file, no line was passed over
     pub read : ReadsPacked start packed held
 
@@ -295,31 +300,34 @@ module _ {F : Type 0} (honest : Type 0) (means : F → Meaning) (faults : F → 
   -- where `packed-refs` was well formed, none of its lines is the cause
   abbrev pub NoBadLineFrom : (start : Store F) → Option Path → List Edit → Error → Type 0
   NoBadLineFrom start packed held error =
-      (old : Store F) (given : List RefEdit) → PreparesFrom honest means faults old start given
+      (old : Store F) (mode : Mode) (given : List RefEdit) →
+      PreparesFrom honest means faults mode old start given
       packed held → honest → HasGoodRecords means old → IsOfBadLine error → ⊥
 
   -- Every loss of power inside a commit, from the store `start` with these edits of a `prepare` that began with the store `old`,
   -- where all was at rest: each reference reads as before or as edited, and all else is as it was, but for locks.
-  pub record EveryLossIsOldOrNew (old start new : Store F) (given : List RefEdit)
-      (lines : List (Option (List ℕ))) : Type 0 where
+  pub record EveryLossIsOldOrNew (mode : Mode) (old start new : Store F)
+      (given : List RefEdit) (extras : List Extra) : Type 0 where
     -- on the disk with which it begins
     pub began : (T : Tree) → Lost (disk_in means start) T →
-        IsLostWell (meaning_of old) DeletionsOnly (places_in means old given)
-        (with_lines given lines) (disk_in means start) (tree_of means old) T
+        IsLostWell (meaning_of old) mode (places_in means mode old given)
+        (with_extras given extras) (disk_in means start) (tree_of means old) T
     pub loses : Loses (means (files_of start)) (means (files_of new))
-        (IsLostWell (meaning_of old) DeletionsOnly (places_in means old given)
-        (with_lines given lines) (disk_in means start) (tree_of means old))
+        (IsLostWell (meaning_of old) mode (places_in means mode old given)
+        (with_extras given extras) (disk_in means start) (tree_of means old))
 
   abbrev pub EveryLossFrom : (start new : Store F) → Option SignatureRef → Option Path →
       List Edit → Type 0
   EveryLossFrom start new committer packed held =
-      (old : Store F) (given : List RefEdit) → PreparesFrom honest means faults old start given
+      (old : Store F) (mode : Mode) (given : List RefEdit) →
+      PreparesFrom honest means faults mode old start given
       packed held → honest → HasGoodRecords means old → IsAtRest means old →
-      EveryLossIsOldOrNew old start new given (lines_due means start committer held)
+      EveryLossIsOldOrNew mode old start new given (extras_due means start committer held)
 
   -- a commit that succeeds leaves all at rest: a later loss of power leaves what it did
   abbrev pub SettlesFrom : (start new : Store F) → Option Path → List Edit → Type 0
   SettlesFrom start new packed held =
-      (old : Store F) (given : List RefEdit) →
-      PreparesFrom honest means faults old start given packed held → honest → IsAtRest means old →
+      (old : Store F) (mode : Mode) (given : List RefEdit) →
+      PreparesFrom
+      honest means faults mode old start given packed held → honest → IsAtRest means old →
       IsAtRest means new

@@ -7,7 +7,7 @@ use Rattle.gix_ref_lookup.specs.Lookups.{ArePackedRecords}
 use Rattle.gix_ref_theory.specs.Between.{AreEdits}
 use Rattle.gix_ref_theory.specs.OnRealTrees.{view_of}
 use Rattle.gix_ref_transaction.specs.CommitRenames.{SeeLogs}
-use Rattle.gix_ref_transaction.specs.CommittedEdits.{planned}
+use Rattle.gix_ref_transaction.specs.Packing.{plan_edits}
 use Rattle.gix_ref_transaction.specs.PrepareSteps.{updates, AreWholeLocks}
 use Rattle.gix_ref_transaction.specs.declared.edit.Edit.{Edit}
 use Rattle.gix_ref_log.specs.declared.actor.SignatureRef.{SignatureRef}
@@ -59,7 +59,7 @@ module _ {F : Type 0} (honest : Type 0) (means : F → Meaning) (faults : F → 
       IsFaultBetween honest means faults start new fault
   IsUndecided start new committer held (PackedTransactionCommit (repack.Iteration line)) =
       (honest → IsBadLine (kind_of start) (tree_of means start (meaning_of start).packed_path) line)
-      × (honest → AreEdits (meaning_of start) (planned (updates held)) → (rs : List Record) →
+      × (honest → AreEdits (meaning_of start) (plan_edits held) → (rs : List Record) →
       ArePackedRecords (kind_of start)
       (view_of (tree_of means start) (meaning_of start).packed_path) rs → ⊥)
       × LinesPass honest means start committer held

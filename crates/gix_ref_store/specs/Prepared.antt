@@ -1,20 +1,26 @@
 -- What `prepare` returns and leaves.
 use Rattle.std.specs.Prelude.{◌≡◌, ◌≤◌, ◌⊎◌, ℕ, List, [], true, false, Option, All, map, length}
 use Rattle.gix_ref_base.specs.Targets.{TargetValue}
+use Rattle.gix_ref_hash.specs.declared.hash.ObjectId.{ObjectId}
+use Rattle.gix_ref_object.specs.Objects.{Stored}
 use Rattle.gix_ref_files.specs.Tree.{Tree, Path, is_file}
 use Rattle.gix_ref_files.specs.Disk.{Disk}
 use Rattle.gix_ref_files.specs.Files.{Meaning, disk_of, Leaves, Passes, Loses, HasRisenBy}
 use Rattle.gix_ref_files.specs.Lock.{lock_of}
 use Rattle.gix_ref_files.specs.Settled.{AllStay, IsAllSettled}
+use Rattle.gix_ref_theory.specs.Edits.{Mode}
 use Rattle.gix_ref_theory.specs.OnDisks.{IsSpokenOf, IsAsBefore}
 use Rattle.gix_ref_theory.specs.OnRealTrees.{view_of}
 use Rattle.gix_ref_theory.specs.Roots.{roots}
 use Rattle.gix_ref_theory.specs.Views.{IsOwnLock}
 use Rattle.gix_ref_transaction.specs.OwnLocks.{is_in, times, AddsLocks, RemovesLocks, OnlyRemoves}
-use Rattle.gix_ref_transaction.specs.Causes.{AllValid, IsAccepted, IsCountedWith, IsDoubling, IsFindCause, IsIoOrMemory, IsLockCause, IsPackedRefusal, IsPackedWell, names_of, packed_taken}
+use Rattle.gix_ref_transaction.specs.Causes.{AllValid, IsAccepted, IsCountedWith, IsDoubling, IsFindCause, IsIoOrMemory, IsPackedRefusal, IsPackedWell, names_of, packed_taken}
 use Rattle.gix_ref_store.specs.Store.{files_of, kind_of, folders, meaning_of, IsSameStore}
 use Rattle.gix_ref_transaction.specs.PrepareSteps.{AreEmpty, AreLockable, AreWholeLocks, effects_of, effects_on, HoldTexts, ids_in, packed_ids, IsPackedPlace, old_targets, own_locks, own_places, packed_places, place_paths, places_of, possible_locks, targets_of, updates, files_at, seen_files}
 use Rattle.gix_ref_transaction.specs.CarriedEdits.{AreCarried}
+use Rattle.gix_ref_transaction.specs.Packing.{HaveTheirPuts}
+use Rattle.gix_ref_transaction.specs.Peels.{ArePut, IsLockCause}
+use Rattle.gix_ref_repack.specs.Repacks.{AllCanBePut}
 use Rattle.gix_ref_transaction.specs.Parents.{parents_in, split_parents}
 use Rattle.gix_ref_transaction.specs.Splits.{all_rounds, AreDirect, AreSplit, CanFollow, name_led_to, Refuses, values_of}
 use Rattle.gix_ref_edits.specs.DoubledNames.{NoneDoubled}
@@ -36,11 +42,11 @@ module _ {F : Type 0} (means : F → Meaning) where
   disk_in store = disk_of (means (files_of store))
 
   -- the locks of a transaction that begins with a store, and their places
-  abbrev pub locks_in : Store F → List RefEdit → List Path
-  locks_in store edits = own_locks (meaning_of store) (tree_of store) edits
+  abbrev pub locks_in : Mode → Store F → List RefEdit → List Path
+  locks_in mode store edits = own_locks (meaning_of store) mode (tree_of store) edits
 
-  abbrev pub places_in : Store F → List RefEdit → List Path
-  places_in store edits = own_places (meaning_of store) (tree_of store) edits
+  abbrev pub places_in : Mode → Store F → List RefEdit → List Path
+  places_in mode store edits = own_places (meaning_of store) mode (tree_of store) edits
 
   -- its `packed-refs` is well formed, or there is none
   abbrev pub HasGoodRecords : Store F → Type 0
@@ -59,8 +65,8 @@ module _ {F : Type 0} (means : F → Meaning) where
       Passes (means (files_of old)) (means (files_of new)) (IsAsBefore places staying (disk_in old))
 
   -- and but for the locks of a transaction of these edits
-  abbrev pub KeepsAll : (old new : Store F) → List RefEdit → Type 0
-  KeepsAll old new edits = KeepsAllBut old new (places_in old edits)
+  abbrev pub KeepsAll : Mode → (old new : Store F) → List RefEdit → Type 0
+  KeepsAll mode old new edits = KeepsAllBut old new (places_in mode old edits)
 
   -- Every loss of power meanwhile leaves each file that was settled, but for the locks of these places; and all stays as settled as it
   -- was.
@@ -71,10 +77,11 @@ module _ {F : Type 0} (means : F → Meaning) where
         view_of T q ≡ view_of (tree_of old) q)
 
   -- and so but for the locks of a transaction of these edits
-  abbrev pub LosesNothing : (old new : Store F) → List RefEdit → Type 0
-  LosesNothing old new edits = LosesNothingBut old new (places_in old edits)
+  abbrev pub LosesNothing : Mode → (old new : Store F) → List RefEdit → Type 0
+  LosesNothing mode old new edits = LosesNothingBut old new (places_in mode old edits)
 
-module _ {F : Type 0} (honest read : Type 0) (means : F → Meaning) (faults : F → ℕ) where
+module _ {F : Type 0} (honest read : Type 0) (means : F → Meaning) (faults : F → ℕ)
+    (claims : Type 0) (meaning : ObjectId → Stored) (mode : Mode) where
   -- A refusal. Where `packed-refs` is well formed, its error is the first cause that applies; `Packed` is returned for a `packed-refs` that is
   -- refused, and `PackedFind` where the record of an edit cannot be read; a fault of files came with a rise of their count, or a read by a reader failed; all is as before but for the locks that are
   -- named, and folders that lead to locks; those that are named are locks of the edits, and one is named only where a fault came.
@@ -86,13 +93,13 @@ module _ {F : Type 0} (honest read : Type 0) (means : F → Meaning) (faults : F
         ⊎ (tried ≡ given)
     pub direct : AreDirect given → tried ≡ given
     pub cause : honest → HasGoodRecords means old →
-        Refuses (meaning_of old) (kind_of old) (tree_of means old) given error
+        Refuses claims meaning (meaning_of old) mode (kind_of old) (tree_of means old) given error
     pub opened : honest → IsPackedRefusal (kind_of old)
         (tree_of means old (meaning_of old).packed_path) error
     pub unread : honest → IsFindCause (meaning_of old) (kind_of old)
         (view_of (tree_of means old) (meaning_of old).packed_path) tried error
     pub counted : IsCountedWith honest read (faults (files_of old)) (faults (files_of new)) error
-    pub as_before : honest → AddsLocks left (locks_in means old tried) (tree_of means old)
+    pub as_before : honest → AddsLocks left (locks_in means mode old tried) (tree_of means old)
         (tree_of means new)
     pub ours : (q : Path) → is_in left q ≡ true →
         is_in (possible_locks (meaning_of old) tried) q ≡ true
@@ -100,8 +107,9 @@ module _ {F : Type 0} (honest read : Type 0) (means : F → Meaning) (faults : F
     pub once : (q : Path) → times q left ≤ times q (possible_locks (meaning_of old) tried)
     pub named : HasRisenBy (length left) (faults (files_of old)) (faults (files_of new))
     pub leaves : honest → Leaves (means (files_of old)) (means (files_of new))
-        (AddsLocks (locks_in means old tried) (locks_in means old tried) (tree_of means old))
-    pub lost : honest → LosesNothing means old new tried
+        (AddsLocks
+        (locks_in means mode old tried) (locks_in means mode old tried) (tree_of means old))
+    pub lost : honest → LosesNothing means mode old new tried
     pub same : IsSameStore old new
 
   -- A refusal of edits that are given: of the edits that are asked for, if there was memory for their names.
@@ -117,71 +125,78 @@ module _ {F : Type 0} (honest read : Type 0) (means : F → Meaning) (faults : F
       (left : List Path) : Type 0 where
     pub cause : honest → HasGoodRecords means old → IsIoOrMemory error
         ⊎ (IsDoubling split error ⊎ (NoneDoubled (names_of split)
-        × IsLockCause (meaning_of old) (kind_of old) (tree_of means old) split error))
+        × IsLockCause
+        claims meaning (meaning_of old) mode (kind_of old) (tree_of means old) split error))
     pub opened : honest → IsPackedRefusal (kind_of old)
         (tree_of means old (meaning_of old).packed_path) error
     pub unread : honest → IsFindCause (meaning_of old) (kind_of old)
         (view_of (tree_of means old) (meaning_of old).packed_path) split error
     pub counted : IsCountedWith honest read (faults (files_of old)) (faults (files_of new)) error
-    pub as_before : honest → AddsLocks left (locks_in means old split) (tree_of means old)
+    pub as_before : honest → AddsLocks left (locks_in means mode old split) (tree_of means old)
         (tree_of means new)
     pub ours : (q : Path) → is_in left q ≡ true →
         is_in (possible_locks (meaning_of old) split) q ≡ true
     pub once : (q : Path) → times q left ≤ times q (possible_locks (meaning_of old) split)
     pub named : HasRisenBy (length left) (faults (files_of old)) (faults (files_of new))
     pub leaves : honest → Leaves (means (files_of old)) (means (files_of new))
-        (AddsLocks (locks_in means old split) (locks_in means old split) (tree_of means old))
+        (AddsLocks
+        (locks_in means mode old split) (locks_in means mode old split) (tree_of means old))
     pub same : IsSameStore old new
 
 module _ {F : Type 0} (honest : Type 0) (means : F → Meaning) (faults : F → ℕ) where
   -- Locks that are held. Where `packed-refs` is well formed, no cause applies; this was found of each edit; each lock has its whole text.
   -- In any case each edit is valid by itself, its lock was free, and nothing else was added but folders that lead to locks.
-  pub record HoldsFrom (old new : Store F) (edits : List RefEdit)
+  pub record HoldsFrom (mode : Mode) (old new : Store F) (edits : List RefEdit)
       (was : List (Option TargetValue)) : Type 0 where
     pub accepted : honest → HasGoodRecords means old →
-        IsAccepted (meaning_of old) (kind_of old) (tree_of means old) edits
+        IsAccepted (meaning_of old) mode (kind_of old) (tree_of means old) edits
     pub found : honest → HasGoodRecords means old →
         was ≡ old_targets (meaning_of old) (tree_of means old) edits
     pub texts : honest → HasGoodRecords means old →
-        HoldTexts (meaning_of old) (tree_of means old) (tree_of means new) edits
+        HoldTexts (meaning_of old) mode (tree_of means old) (tree_of means new) edits
     pub valid : AllValid (meaning_of old) (kind_of old) [] edits
     pub lockable : honest → AreLockable (meaning_of old) (kind_of old) (tree_of means old) [] edits
-    pub adds : honest → AddsLocks (locks_in means old edits) (locks_in means old edits)
+    pub adds : honest → AddsLocks (locks_in means mode old edits) (locks_in means mode old edits)
         (tree_of means old) (tree_of means new)
     pub leaves : honest → Leaves (means (files_of old)) (means (files_of new))
-        (AddsLocks (locks_in means old edits) (locks_in means old edits) (tree_of means old))
+        (AddsLocks
+        (locks_in means mode old edits) (locks_in means mode old edits) (tree_of means old))
     pub no_fewer : faults (files_of old) ≤ faults (files_of new)
     pub same : IsSameStore old new
 
   -- The lock of `packed-refs` is held where it is due, and is empty.
-  pub record HoldsPacked (old new : Store F) (edits : List RefEdit)
+  pub record HoldsPacked (mode : Mode) (old new : Store F) (edits : List RefEdit)
       (packed_place : Option Path) : Type 0 where
     pub place : IsPackedPlace (meaning_of old) packed_place
     pub due : honest → packed_places packed_place
-        ≡ packed_taken (meaning_of old) (tree_of means old) edits
+        ≡ packed_taken (meaning_of old) mode (tree_of means old) edits
     pub empty : honest → AreEmpty (tree_of means new) (map lock_of (packed_places packed_place))
 
   -- A transaction whose split list is prepared: its locks are held, that of `packed-refs` too; its edits carry what was found, and are
   -- those of the list, with their places.
-  pub record PreparesFrom (old new : Store F) (edits : List RefEdit) (packed_place : Option Path)
+  pub record PreparesFrom
+      (mode : Mode) (old new : Store F) (edits : List RefEdit) (packed_place : Option Path)
       (after : List Edit) : Type 0 where
     pub was : List (Option TargetValue)
-    pub held : HoldsFrom old new edits was
-    pub lost : honest → LosesNothing means old new edits
+    pub held : HoldsFrom mode old new edits was
+    pub lost : honest → LosesNothing means mode old new edits
     -- each lock is whole: a loss of power once it is renamed leaves all of its text
-    pub whole : honest → AreWholeLocks (disk_in means new) (locks_in means old edits)
+    pub whole : honest → AreWholeLocks (disk_in means new) (locks_in means mode old edits)
     pub carried : AreCarried edits was (updates after)
     pub places : place_paths after ≡ places_of (meaning_of old) edits
-    pub packed : HoldsPacked old new edits packed_place
+    pub packed : HoldsPacked mode old new edits packed_place
     -- what becomes of each loose file is decided by the files before
     pub effects : honest → HasGoodRecords means old →
-        effects_of after ≡ effects_on (meaning_of old) (view_of (tree_of means old)) edits
+        effects_of after ≡ effects_on (meaning_of old) mode (view_of (tree_of means old)) edits
     -- whether there was one is by these too
     pub files : honest → HasGoodRecords means old →
         seen_files after ≡ files_at (meaning_of old) (tree_of means old) edits
     -- and the ids of their records are those of the files before
     pub ids : honest → HasGoodRecords means old →
         ids_in after ≡ packed_ids (meaning_of old) (tree_of means old) edits
+    -- what each puts into `packed-refs` is by the mode, and can be read as a record
+    pub puts : HaveTheirPuts (meaning_of old) mode after
+    pub can_be_put : AllCanBePut (meaning_of old) (kind_of old) after
 
   -- What becomes of the edits that are given: their split list, in which each that was looked up may be, and which is theirs where none
   -- follows.
@@ -206,29 +221,35 @@ module _ {F : Type 0} (honest : Type 0) (means : F → Meaning) (faults : F → 
 
   -- The edits of a split list as they are held: each with what was found of it, its place, its parent, what becomes of its loose file, and
   -- the id of its record.
-  pub record HoldsGiven (old new : Store F) (given : List RefEdit) (packed_place : Option Path)
+  pub record HoldsGiven (claims : Type 0) (meaning : ObjectId → Stored) (mode : Mode)
+      (old new : Store F) (given : List RefEdit) (packed_place : Option Path)
       (edits : List Edit) : Type 0 where
     pub splits : SplitsGiven old given (updates edits)
     pub parents : honest → HaveParents old splits.asked edits
-    pub held : HoldsFrom old new (updates edits) (targets_of edits)
-    pub lost : honest → LosesNothing means old new (updates edits)
-    pub whole : honest → AreWholeLocks (disk_in means new) (locks_in means old (updates edits))
-    pub packed : HoldsPacked old new (updates edits) packed_place
+    pub held : HoldsFrom mode old new (updates edits) (targets_of edits)
+    pub lost : honest → LosesNothing means mode old new (updates edits)
+    pub whole : honest → AreWholeLocks (disk_in means new) (locks_in means mode old (updates edits))
+    pub packed : HoldsPacked mode old new (updates edits) packed_place
     pub places : place_paths edits ≡ places_of (meaning_of old) (updates edits)
     pub effects : honest → HasGoodRecords means old →
-        effects_of edits ≡ effects_on (meaning_of old) (view_of (tree_of means old)) (updates edits)
+        effects_of
+        edits ≡ effects_on (meaning_of old) mode (view_of (tree_of means old)) (updates edits)
     pub files : honest → HasGoodRecords means old →
         seen_files edits ≡ files_at (meaning_of old) (tree_of means old) (updates edits)
     pub ids : honest → HasGoodRecords means old →
         ids_in edits ≡ packed_ids (meaning_of old) (tree_of means old) (updates edits)
+    pub put : ArePut claims meaning (meaning_of old) mode (kind_of old) edits
 
   -- A transaction that is prepared from given edits: their split list is.
-  pub record PreparesGiven (old new : Store F) (given : List RefEdit) (packed : Option Path)
+  pub record PreparesGiven (claims : Type 0) (meaning : ObjectId → Stored) (mode : Mode)
+      (old new : Store F) (given : List RefEdit) (packed : Option Path)
       (after : List Edit) : Type 0 where
     pub split : List RefEdit
     pub splits : SplitsGiven old given split
-    pub prepared : PreparesFrom old new split packed after
+    pub prepared : PreparesFrom mode old new split packed after
     pub parents : honest → HaveParents old splits.asked after
+    -- and what is put has the objects at the end of tags, if the finder claims what it has
+    pub put : ArePut claims meaning (meaning_of old) mode (kind_of old) after
 
   -- A transaction that is given up: of its locks only those stay that are named, and one is named only where a fault came.
   pub record RollsBackFrom (old new : Store F) (locks left : List Path) : Type 0 where

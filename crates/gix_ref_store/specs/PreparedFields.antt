@@ -2,7 +2,7 @@
 use Rattle.std.specs.Prelude.{List, Option}
 use Rattle.gix_ref_files.specs.Tree.{Path}
 use Rattle.gix_ref_object.specs.declared.object.Find.{Ghosts}
-use Rattle.gix_ref_store.specs.declared.file.transaction.packed_refs.PackedRefs.{PackedRefs}
+use Rattle.gix_ref_transaction.specs.declared.packing.PackedRefs.{PackedRefs}
 use Rattle.gix_ref_store.specs.declared.file.transaction.Plan.{Plan}
 use Rattle.gix_ref_transaction.specs.PrepareSteps.{updates}
 use Rattle.gix_ref_transaction.specs.declared.edit.Edit.{Edit}

@@ -1,12 +1,13 @@
 -- The locks of edits with safe names: none is at a place, at `packed-refs` or on the way to another one.
-use Rattle.std.proofs.Common.{◌≡◌, ⊎_elim, ℕ, List, [], ◌∷◌, ◌++◌, Bool, true, false, codes, refl, sym, ◌∙◌, ap, append_assoc, if◌then◌else◌, All}
+use Rattle.std.proofs.Common.{arith, ◌≡◌, ⊎_elim, ℕ, List, [], ◌∷◌, ◌++◌, Bool, true, false, codes, refl, sym, ◌∙◌, ap, append_assoc, if◌then◌else◌, All}
 use Rattle.std.specs.Prelude.{bytes_eq, is_none, ◌&&◌, ◌==◌}
 use Rattle.std.proofs.lemmas.Bool.{eqb-true}
-use Rattle.std.proofs.lemmas.List.{append_cancel_right}
+use Rattle.std.proofs.lemmas.List.{append_cancel_left, append_cancel_right}
 use Rattle.std.proofs.lemmas.List.Elements.{All-nil, All-cons}
 use Rattle.gix_ref_hash.specs.declared.hash.Kind.{Kind}
 use Rattle.gix_ref_base.specs.Layout.{Layout, IsLayout, below}
 use Rattle.gix_ref_base.specs.Locations.{is_safe}
+use Rattle.gix_ref_base.proofs.LocationLemmas.{head}
 use Rattle.gix_ref_files.specs.Tree.{Path, fronts, fronts_after}
 use Rattle.gix_ref_files.specs.Lock.{lock_of}
 use Rattle.gix_ref_theory.specs.Readings.{Store}
@@ -17,6 +18,7 @@ use Rattle.gix_ref_transaction.specs.OwnLocks.{is_in}
 use Rattle.gix_ref_transaction.specs.Causes.{AllValid, IsApartFromPacked, LocksAreApart, locks_of}
 use Rattle.gix_ref_edits.specs.RefEdits.{name_of}
 use Rattle.gix_ref_edits.specs.declared.transaction.RefEdit.{RefEdit}
+use Rattle.gix_ref_transaction.proofs.PackedBelow.{no_packed_below}
 use Rattle.gix_ref_transaction.proofs.Adds.{false_is_true, is_false, in_one, any_cases}
 
 -- a path goes on behind each of its fronts with a slash
@@ -63,7 +65,17 @@ module _ (f : Layout) (o : Options) (laid : IsLayout f) (kind : Kind) where
         let front = front_of (lock_of (s.place (name_of edit))) (lock_of s.packed_path) within in
         no_lock_below_packed f o laid (name_of edit) front.0 is front.1);
     place = (laws_hold f o laid).place_is_no_lock (name_of edit) s.packed_path is;
+    behind = is_false (is_in (fronts (lock_of s.packed_path)) (lock_of (s.place (name_of edit)))) (λ within.
+        let front = front_of (lock_of s.packed_path) (lock_of (s.place (name_of edit))) within in
+        no_packed_below f o laid (name_of edit) front.0 is front.1);
   }
+
+  -- a place is not on the way to its lock
+  on_way : (p : Path) → is_in (fronts (lock_of p)) p ≡ false
+  on_way p = is_false (is_in (fronts (lock_of p)) p) (λ within.
+      let front = front_of (lock_of p) p within in
+      let ends : codes ".lock" ≡ 47 ∷ front.0 = append_cancel_left p (codes ".lock") (47 ∷ front.0) front.1 in
+      let first : ◌≡◌ {A = ℕ} 46 47 = ap head ends in absurd (omega (arith, first)))
 
   pub apart : (edits : List RefEdit) → AllValid s kind [] edits → LocksAreApart s edits
   apart edits valid = record {
@@ -80,4 +92,5 @@ module _ (f : Layout) (o : Options) (laid : IsLayout f) (kind : Kind) where
         (laws_hold f o laid).packed_is_no_lock (s.place m.0) (sym m.2));
     packed_locks = λ k d lt. from_packed _ (references [] edits valid k d lt);
     packed_lock = (laws_hold f o laid).packed_is_no_lock s.packed_path;
+    packed_way = on_way s.packed_path;
   }

@@ -15,9 +15,10 @@ use Rattle.gix_ref_theory.specs.OnRealTrees.{view_of}
 use Rattle.gix_ref_theory.specs.Readings.{Store}
 use Rattle.gix_ref_edits.specs.RefEdits.{name_of}
 use Rattle.gix_ref_edits.specs.declared.transaction.RefEdit.{RefEdit}
+use Rattle.gix_ref_theory.specs.Edits.{Mode}
 use Rattle.gix_ref_transaction.specs.OwnLocks.{AddsLocks, OnlyLocks, is_in}
 use Rattle.gix_ref_transaction.specs.Causes.{found, packed_of, IsFirstCause, IsIoOrMemory, IsMismatch, LocksAreApart, NoCause, locks_of}
-use Rattle.gix_ref_transaction.specs.PrepareSteps.{AreLockable, AreSettled, AreWholeLocks, FillingOn, FillsLock, HoldTexts, IsDecided, IsNewLock, IsRefusedLock, IsSomeWhole, all_given, effect_value, effects_of, effects_on, files_at, given, ids_in, old_targets, packed_ids, place_paths, places_of, seen_files, targets_of, updates}
+use Rattle.gix_ref_transaction.specs.PrepareSteps.{Given, AreLockable, AreSettled, AreWholeLocks, FillingOn, FillsLock, HoldTexts, IsDecided, IsNewLock, IsRefusedLock, IsSomeWhole, all_given, effect_value, effects_of, effects_on, files_at, given, ids_in, old_targets, packed_ids, place_paths, places_of, seen_files, targets_of, updates}
 use Rattle.gix_ref_transaction.specs.declared.edit.Edit.{Edit}
 use Rattle.gix_ref_transaction.specs.declared.prepare.error.Error.{Error}
 use Rattle.gix_ref_transaction.proofs.Adds.{any_right, clash, in_here}
@@ -53,13 +54,13 @@ module _ (s : Store) (kind : Kind) (all : List RefEdit) (first : Meaning) where
 
   -- And where the ids of their records are known, what was found and decided of them is by the tree at the beginning, and the rest gives the
   -- result of all.
-  pub record Finds (i : ℕ) (now : Meaning) (edits : List Edit) : Type 0 where
+  pub record Finds (mode : Mode) (i : ℕ) (now : Meaning) (edits : List Edit) : Type 0 where
     pub was : targets_of (take i edits) ≡ old_targets s first.tree (take i all)
     pub files : seen_files (take i edits) ≡ files_at s first.tree (take i all)
-    pub what : effects_of (take i edits) ≡ effects_on s (view_of first.tree) (take i all)
+    pub what : effects_of (take i edits) ≡ effects_on s mode (view_of first.tree) (take i all)
     pub fault : (error : Error) → IsFirstCause s kind first.tree (take i all) (drop i all) error → IsFirstCause s kind first.tree [] all error
     pub pass : NoCause s kind first.tree (take i all) (drop i all) → NoCause s kind first.tree [] all
-    pub texts : HoldTexts s first.tree now.tree (take i all)
+    pub texts : HoldTexts s mode first.tree now.tree (take i all)
 
   -- before the first
   pub goes_first : Goes 0 first
@@ -74,7 +75,7 @@ module _ (s : Store) (kind : Kind) (all : List RefEdit) (first : Meaning) where
     passes = λ locked staying D own here. passes_starts first _ here;
   }
 
-  pub finds_first : (edits : List Edit) → Finds 0 first edits
+  pub finds_first : {mode : Mode} (edits : List Edit) → Finds mode 0 first edits
   finds_first edits = record { was = refl; files = refl; what = refl; fault = λ error h. h; pass = λ h. h; texts = tt }
 
   -- after the last
@@ -84,34 +85,34 @@ module _ (s : Store) (kind : Kind) (all : List RefEdit) (first : Meaning) where
   pub whole_all : (i : ℕ) (now : Meaning) → length all ≤ i → Goes i now → AreWholeLocks (disk_of now) locks
   whole_all i now end goes = subst (λ (l : List RefEdit). AreWholeLocks (disk_of now) (locks_of s l)) (take_all i all end) goes.whole
 
-  pub settled_all : (i : ℕ) (now : Meaning) (edits given : List Edit) → length all ≤ i → length edits ≤ i → updates given ≡ all → ids_in edits ≡ packed_ids s first.tree (updates given) → Finds i now edits → AreSettled s kind first.tree now.tree given edits
-  settled_all i now edits given end ends is ids finds =
+  pub settled_all : {mode : Mode} (i : ℕ) (now : Meaning) (edits given : List Edit) → length all ≤ i → length edits ≤ i → updates given ≡ all → ids_in edits ≡ packed_ids s first.tree (updates given) → Finds mode i now edits → AreSettled s mode kind first.tree now.tree given edits
+  settled_all {mode = mode} i now edits given end ends is ids finds =
       let whole = take_all i all end in
       let every = take_all i edits ends in
       record {
         was = subst (λ (l : List Edit). targets_of l ≡ old_targets s first.tree (updates given)) every (finds.was ∙ ap (old_targets s first.tree) (whole ∙ sym is));
         files = subst (λ (l : List Edit). seen_files l ≡ files_at s first.tree (updates given)) every (finds.files ∙ ap (files_at s first.tree) (whole ∙ sym is));
-        what = subst (λ (l : List Edit). effects_of l ≡ effects_on s (view_of first.tree) (updates given)) every (finds.what ∙ ap (effects_on s (view_of first.tree)) (whole ∙ sym is));
+        what = subst (λ (l : List Edit). effects_of l ≡ effects_on s mode (view_of first.tree) (updates given)) every (finds.what ∙ ap (effects_on s mode (view_of first.tree)) (whole ∙ sym is));
         ids = ids;
         no_cause = subst (λ (l : List RefEdit). NoCause s kind first.tree [] l) (sym is) (finds.pass (subst (λ (l : List RefEdit). NoCause s kind first.tree (take i all) l) (sym (drop_all i all end)) tt));
-        texts = subst (λ (l : List RefEdit). HoldTexts s first.tree now.tree l) (whole ∙ sym is) finds.texts;
+        texts = subst (λ (l : List RefEdit). HoldTexts s mode first.tree now.tree l) (whole ∙ sym is) finds.texts;
       }
 
 -- edits that were given the same have the same ids
-ids_given : (edits : List Edit) → ids_in edits ≡ map (λ (g : RefEdit × Path × Option ObjectId × Option ℕ). g.2) (all_given edits)
+ids_given : (edits : List Edit) → ids_in edits ≡ map (λ (g : Given). g.2) (all_given edits)
 ids_given [] = refl
 ids_given (e ∷ edits) = ap (λ (l : List (Option ObjectId)). e.packed ∷ l) (ids_given edits)
 
 pub same_ids : (a b : List Edit) → all_given a ≡ all_given b → ids_in a ≡ ids_in b
-same_ids a b same = ids_given a ∙ (ap (map (λ (g : RefEdit × Path × Option ObjectId × Option ℕ). g.2)) same ∙ sym (ids_given b))
+same_ids a b same = ids_given a ∙ (ap (map (λ (g : Given). g.2)) same ∙ sym (ids_given b))
 
 -- and the same places
-places_given : (edits : List Edit) → place_paths edits ≡ map (λ (g : RefEdit × Path × Option ObjectId × Option ℕ). g.1) (all_given edits)
+places_given : (edits : List Edit) → place_paths edits ≡ map (λ (g : Given). g.1) (all_given edits)
 places_given [] = refl
 places_given (e ∷ edits) = ap (λ (l : List Path). e.lock ∷ l) (places_given edits)
 
 same_places : (a b : List Edit) → all_given a ≡ all_given b → place_paths a ≡ place_paths b
-same_places a b same = places_given a ∙ (ap (map (λ (g : RefEdit × Path × Option ObjectId × Option ℕ). g.1)) same ∙ sym (places_given b))
+same_places a b same = places_given a ∙ (ap (map (λ (g : Given). g.1)) same ∙ sym (places_given b))
 
 -- the lock of an edit is among those of the edits up to it
 lock_among : (s : Store) (all : List RefEdit) (k i : ℕ) → k < i → i ≤ length all → is_in (locks_of s (take i all)) (lock_of (get_or (places_of s all) k [])) ≡ true
@@ -220,7 +221,7 @@ module _ (s : Store) (old : List Edit) (t : Turn old) where
         subst (λ (p : Path). has_folders mid.tree p ≡ true) (get_or-map (λ (x : Edit). x.lock) now i e [] lt ∙ ap (λ (x : Edit). x.lock) (sym is))
         (leads (led_before shaped some))
 
-    pub took_refused : (error : Error) (edits : List Edit) → Finds s kind all first i mid edits → IsRefusedLock mid.tree (name_of e.update) lock error → IsFirstCause s kind first.tree [] all error
+    pub took_refused : {mode : Mode} (error : Error) (edits : List Edit) → Finds s kind all first mode i mid edits → IsRefusedLock mid.tree (name_of e.update) lock error → IsFirstCause s kind first.tree [] all error
     took_refused error edits finds why = finds.fault error (rounds.lock_refused s kind all apart first mid i e.update lt_all update_is lock at held goes.run error why)
 
     pub took_still : (T : Tree) → AddsLocks [] (lock ∷ []) mid.tree T → AddsLocks (locks_of s (take i all)) (locks_of s all) first.tree T
@@ -236,7 +237,7 @@ module _ (s : Store) (old : List Edit) (t : Turn old) where
       pub id_then : ids_in old ≡ packed_ids s first.tree all → e.packed ≡ packed_of s (view_of one.tree) (name_of e.update)
       id_then ids = rounds.id_as_first s kind all apart first mid i e.update lt_all update_is lock at held goes.run one took new e.packed (id_is first.tree ids)
 
-      pub found_refused : (error : Error) (edits : List Edit) → Finds s kind all first i mid edits →
+      pub found_refused : {mode : Mode} (error : Error) (edits : List Edit) → Finds s kind all first mode i mid edits →
           IsIoOrMemory error ⊎ IsMismatch kind e.update (found s (view_of one.tree) (name_of e.update)) error → IsFirstCause s kind first.tree [] all error
       found_refused error edits finds why = finds.fault error (rounds.found_refused s kind all apart first mid i e.update lt_all update_is lock at held goes.run one took new error why)
 
@@ -270,18 +271,18 @@ module _ (s : Store) (old : List Edit) (t : Turn old) where
             passes = text_passes;
           }
 
-        pub finds_then : (done : Edit) → given done ≡ given e → IsDecided s one.tree two.tree e done → Finds s kind all first i mid now → Finds s kind all first (i + 1) two (set now i done)
-        finds_then done like decided finds = record {
+        pub finds_then : {mode : Mode} (done : Edit) → given done ≡ given e → IsDecided s mode one.tree two.tree e done → Finds s kind all first mode i mid now → Finds s kind all first mode (i + 1) two (set now i done)
+        finds_then {mode = mode} done like decided finds = record {
           was = subst (λ (l : List Edit). targets_of l ≡ old_targets s first.tree (take (i + 1) all)) (sym more)
               (rounds.found_then s kind all apart first mid i e.update lt_all update_is lock at held goes.run one took new (take i now) done finds.was decided.was);
           files = subst (λ (l : List Edit). seen_files l ≡ files_at s first.tree (take (i + 1) all)) (sym more)
               (rounds.files_then s kind all apart first mid i e.update lt_all update_is lock at held goes.run one took new (take i now) done finds.files decided.file);
-          what = subst (λ (l : List Edit). effects_of l ≡ effects_on s (view_of first.tree) (take (i + 1) all)) (sym more)
-              (rounds.effects_then s kind all apart first mid i e.update lt_all update_is lock at held goes.run one took new (take i now) done finds.what
+          what = subst (λ (l : List Edit). effects_of l ≡ effects_on s mode (view_of first.tree) (take (i + 1) all)) (sym more)
+              (rounds.effects_then s kind all apart first mid i e.update lt_all update_is lock at held goes.run one took new mode (take i now) done finds.what
               (ap (λ p. effect_value p.change done.effect) (ap (λ p. p.0) like) ∙ decided.what));
           fault = λ error later. finds.fault error (rounds.later_fault s kind all apart first mid i e.update lt_all update_is lock at held goes.run one took new decided.expects error later);
           pass = λ later. finds.pass (rounds.all_pass s kind all apart first mid i e.update lt_all update_is lock at held goes.run one took new decided.expects later);
-          texts = rounds.texts_then s kind all apart first mid i e.update lt_all update_is lock at held goes.run one took new two.tree finds.texts decided.filled;
+          texts = rounds.texts_then s kind all apart first mid i e.update lt_all update_is lock at held goes.run one took new mode two.tree finds.texts decided.filled;
         }
           where
             more : take (i + 1) (set now i done) ≡ take i now ++ done ∷ []

@@ -10,12 +10,14 @@ pub mod Led
 pub mod LockRounds
 pub mod Locking
 pub mod LookupLemmas
+pub mod PackedBelow
 pub mod PackedHeld
 pub mod PackedLemmas
 pub mod PackedLocks
 pub mod PackedRelease
 pub mod PackedRuns
 pub mod Removing
+pub mod Puts
 pub mod Renames
 pub mod Rounds
 pub mod SplitLemmas

@@ -10,6 +10,7 @@ use Rattle.gix_ref_files.specs.Files.{Meaning, disk_of, Leaves, Passes}
 use Rattle.gix_ref_files.specs.Lock.{lock_of, LockingOn}
 use Rattle.gix_ref_files.specs.Settled.{IsWholeAt}
 use Rattle.gix_ref_files.proofs.Moments.{passes_weaken, passes_joins}
+use Rattle.gix_ref_theory.specs.Edits.{Mode}
 use Rattle.gix_ref_theory.specs.OnDisks.{IsAsBefore}
 use Rattle.gix_ref_theory.specs.Readings.{Store}
 use Rattle.gix_ref_theory.specs.Views.{IsOwnLock}
@@ -46,23 +47,23 @@ owned_any (p ∷ ps) q (inl here) = in_here (lock_of p) q (map lock_of ps) (sym 
 owned_any (p ∷ ps) q (inr later) = any_right (λ r. bytes_eq r q) (lock_of p ∷ []) (map lock_of ps) (owned_any ps q later)
 
 -- and so all locks of edits, with that of `packed-refs`
-module _ (s : Store) (T : Tree) (edits : List RefEdit) where
-  by_places : own_locks s T edits ≡ map lock_of (own_places s T edits)
+module _ (s : Store) (mode : Mode) (T : Tree) (edits : List RefEdit) where
+  by_places : own_locks s mode T edits ≡ map lock_of (own_places s mode T edits)
   by_places =
-      ap (λ ls. packed_locks s T edits ++ ls) (sym (map-map lock_of (λ (e : RefEdit). s.place (name_of e)) edits))
-      ∙ sym (map-append lock_of (packed_taken s T edits) (places_of s edits))
+      ap (λ ls. packed_locks s mode T edits ++ ls) (sym (map-map lock_of (λ (e : RefEdit). s.place (name_of e)) edits))
+      ∙ sym (map-append lock_of (packed_taken s mode T edits) (places_of s edits))
 
-  pub own_all : (q : Path) → is_in (own_locks s T edits) q ≡ true → IsOwnLock (own_places s T edits) q
-  own_all q within = own_any (own_places s T edits) q (subst (λ (l : List Path). is_in l q ≡ true) by_places within)
+  pub own_all : (q : Path) → is_in (own_locks s mode T edits) q ≡ true → IsOwnLock (own_places s mode T edits) q
+  own_all q within = own_any (own_places s mode T edits) q (subst (λ (l : List Path). is_in l q ≡ true) by_places within)
 
-  pub owned_all : (q : Path) → IsOwnLock (own_places s T edits) q → is_in (own_locks s T edits) q ≡ true
-  owned_all q own = subst (λ (l : List Path). is_in l q ≡ true) (sym by_places) (owned_any (own_places s T edits) q own)
+  pub owned_all : (q : Path) → IsOwnLock (own_places s mode T edits) q → is_in (own_locks s mode T edits) q ≡ true
+  owned_all q own = subst (λ (l : List Path). is_in l q ≡ true) (sym by_places) (owned_any (own_places s mode T edits) q own)
 
   -- those of the edits are among them
-  pub edit_lock : (q : Path) → is_in (locks_of s edits) q ≡ true → is_in (own_locks s T edits) q ≡ true
-  edit_lock q within = any_right (λ r. bytes_eq r q) (packed_locks s T edits) (locks_of s edits) within
+  pub edit_lock : (q : Path) → is_in (locks_of s edits) q ≡ true → is_in (own_locks s mode T edits) q ≡ true
+  edit_lock q within = any_right (λ r. bytes_eq r q) (packed_locks s mode T edits) (locks_of s edits) within
 
-  pub edit_own : (q : Path) → is_in (locks_of s edits) q ≡ true → IsOwnLock (own_places s T edits) q
+  pub edit_own : (q : Path) → is_in (locks_of s edits) q ≡ true → IsOwnLock (own_places s mode T edits) q
   edit_own q within = own_all q (edit_lock q within)
 
 module _ (locked staying : List Path) (first : Disk) where

@@ -11,10 +11,9 @@ use Rattle.gix_ref_base.specs.Targets.{TargetValue, target_value, stripped_targe
 use Rattle.gix_ref_base.specs.Targets.TargetValue.{object_id, symbolic_name}
 use Rattle.gix_ref_base.specs.Layout.{Layout}
 use Rattle.gix_ref_theory.specs.ConcreteStore.{store_of, loose_text}
-use Rattle.gix_ref_theory.specs.Edits.{Effect, effect_of_change, has_already}
+use Rattle.gix_ref_theory.specs.Edits.{Effect, Mode, effect_of_change, has_already, is_object, packs, packs_updates, removes_packed}
 use Rattle.gix_ref_theory.specs.Edits.Change.{Update}
 use Rattle.gix_ref_theory.specs.Edits.Effect.{Writes, Removes, Keeps}
-use Rattle.gix_ref_theory.specs.Edits.Mode.{DeletionsOnly}
 use Rattle.gix_ref_theory.specs.Readings.{Store, reading, reading_by, reading_of_loose, reading_of_record, reading_of_id, records_of_file, as_read}
 use Rattle.gix_ref_theory.specs.Readings.Reading.{Is, Fault, Absent}
 use Rattle.gix_ref_theory.specs.Views.{View}
@@ -28,7 +27,7 @@ use Rattle.gix_ref_edits.specs.declared.transaction.Change.{Change as GivenChang
 use Rattle.gix_ref_edits.specs.declared.transaction.Change.TheVariants as given
 use Rattle.gix_ref_edits.specs.declared.transaction.RefEdit.{RefEdit}
 use Rattle.gix_ref_transaction.specs.CarriedEdits.{change_of}
-use Rattle.gix_ref_transaction.specs.Causes.{found, found_by, decoded, id_of_record, packed_id}
+use Rattle.gix_ref_transaction.specs.Causes.{found, found_by, decoded, goes_alone, id_of_record, is_new_object, packed_id}
 use Rattle.gix_ref_files.specs.Tree.{Tree, Path, put}
 use Rattle.gix_ref_files.specs.Tree.Content.{File}
 use Rattle.gix_ref_transaction.specs.PrepareSteps.{decision, decision_of, effect_on, effect_value, is_damaged, is_found, is_loose_file, is_undecodable, lock_text, target_by, text_of_new}
@@ -73,9 +72,9 @@ by_decision Remove text = Removes
 by_decision Keep text = Keeps
 
 -- the effect of an edit is by its place and by `packed-refs` alone
-pub effect_alike : (s : Store) (view other : View) (edit : RefEdit) → view (s.place (name_of edit)) ≡ other (s.place (name_of edit)) → view s.packed_path ≡ other s.packed_path → effect_on s view edit ≡ effect_on s other edit
-effect_alike s view other edit same packed =
-    ap (λ r. if is_of_reference (mode_of edit.change) then effect_of_change s DeletionsOnly (s.key (name_of edit)) r (change_of edit.change) else Keeps)
+pub effect_alike : (mode : Mode) (s : Store) (view other : View) (edit : RefEdit) → view (s.place (name_of edit)) ≡ other (s.place (name_of edit)) → view s.packed_path ≡ other s.packed_path → effect_on s mode view edit ≡ effect_on s mode other edit
+effect_alike mode s view other edit same packed =
+    ap (λ r. if is_of_reference (mode_of edit.change) then effect_of_change s mode (s.key (name_of edit)) r (change_of edit.change) else Keeps)
     (ap (λ (file : Option (List ℕ)). if s.is_prohibited (s.place (name_of edit)) then Fault else reading_by s (s.key (name_of edit)) file (records_of_file s (view s.packed_path))) same
     ∙ ap (λ (file : Option (List ℕ)). if s.is_prohibited (s.place (name_of edit)) then Fault else reading_by s (s.key (name_of edit)) (other (s.place (name_of edit))) (records_of_file s file)) packed)
 
@@ -115,26 +114,54 @@ module _ (s : Store) where
       ap (λ b. has_already (if b then Fault else reading_by s (s.key name) (view (s.place name)) (records_of_file s (view s.packed_path))) t) allowed
       ∙ by_files (s.key name) (view (s.place name)) (records_of_file s (view s.packed_path)) t
 
+  -- an edit of the reference goes into `packed-refs` alone where the plan of a commit says so
+  alone_is : (mode : Mode) (edit : RefEdit) (new : TargetValue) → new_of edit.change ≡ Some new → is_of_reference (mode_of edit.change) ≡ true →
+      goes_alone s mode edit ≡ (removes_packed mode && packs mode (s.key (name_of edit)) new)
+  alone_is mode edit new is refers =
+      ap (λ o. removes_packed mode && ((packs_updates mode && is_new_object o) && (is_of_reference (mode_of edit.change) && is_some (s.key (name_of edit))))) is
+      ∙ (ap (λ b. removes_packed mode && ((packs_updates mode && is_object new) && (b && is_some (s.key (name_of edit))))) refers
+      ∙ ap (λ b. removes_packed mode && b) (turned (packs_updates mode) (is_object new) (is_some (s.key (name_of edit)))))
+    where
+      turned : (u o k : Bool) → ((u && o) && (true && k)) ≡ (u && k && o)
+      turned true true true = refl
+      turned true true false = refl
+      turned true false true = refl
+      turned true false false = refl
+      turned false true true = refl
+      turned false true false = refl
+      turned false false true = refl
+      turned false false false = refl
+
   -- what is decided of an update, by what was found and its file, is what becomes of the file
-  decided_update : (view : View) (name : List ℕ) (refers : Bool) (new : TargetValue) → s.is_prohibited (s.place name) ≡ false → s.text_of new ≡ loose_text new →
-      (d : Decision) → d ≡ (if refers then decision_of (Some new) (found s view name) (is_damaged s (view (s.place name))) else Keep) →
-      by_decision d (loose_text new) ≡ (if refers then effect_of_change s DeletionsOnly (s.key name) (reading s view name) (Update new) else Keeps)
-  decided_update view name true new allowed written d is =
+  decided_update : (mode : Mode) (view : View) (name : List ℕ) (refers : Bool) (new : TargetValue) (alone : Bool) → s.is_prohibited (s.place name) ≡ false → s.text_of new ≡ loose_text new →
+      (refers ≡ true → alone ≡ (removes_packed mode && packs mode (s.key name) new)) →
+      (d : Decision) → d ≡ (if refers then decision_of (Some new) alone (found s view name) (is_damaged s (view (s.place name))) else Keep) →
+      by_decision d (loose_text new) ≡ (if refers then effect_of_change s mode (s.key name) (reading s view name) (Update new) else Keeps)
+  decided_update mode view name true new alone allowed written goes d is =
       ap (λ x. by_decision x (loose_text new)) is
-      ∙ (pick (is_damaged s (view (s.place name))) (is_found (found s view name) new)
-      ∙ (ap (λ a. if a then Keeps else Writes (loose_text new)) (sym (already_is view name new allowed))
-      ∙ ap (λ t. if has_already (reading s view name) new then Keeps else Writes t) (sym written)))
+      ∙ (outer alone ∙ ap (λ a. if a then Removes else if has_already (reading s view name) new then Keeps else Writes (s.text_of new)) (goes refl))
     where
       pick : (damaged x : Bool) → by_decision (if damaged || not x then Write else Keep) (loose_text new) ≡ (if not damaged && x then Keeps else Writes (loose_text new))
       pick true x = refl
       pick false true = refl
       pick false false = refl
-  decided_update view name false new allowed written d is = ap (λ x. by_decision x (loose_text new)) is
+
+      inner : by_decision (if is_damaged s (view (s.place name)) || not (is_found (found s view name) new) then Write else Keep) (loose_text new) ≡ (if has_already (reading s view name) new then Keeps else Writes (s.text_of new))
+      inner =
+          pick (is_damaged s (view (s.place name))) (is_found (found s view name) new)
+          ∙ (ap (λ a. if a then Keeps else Writes (loose_text new)) (sym (already_is view name new allowed))
+          ∙ ap (λ t. if has_already (reading s view name) new then Keeps else Writes t) (sym written))
+
+      outer : (a : Bool) → by_decision (if a then Remove else if is_damaged s (view (s.place name)) || not (is_found (found s view name) new) then Write else Keep) (loose_text new)
+          ≡ (if a then Removes else if has_already (reading s view name) new then Keeps else Writes (s.text_of new))
+      outer true = refl
+      outer false = inner
+  decided_update mode view name false new alone allowed written goes d is = ap (λ x. by_decision x (loose_text new)) is
 
   -- and so it is of every change
-  pub decided_is : (view : View) (edit : RefEdit) → s.is_prohibited (s.place (name_of edit)) ≡ false → ((t : TargetValue) → s.text_of t ≡ loose_text t) →
-      (d : Decision) → d ≡ decision edit.change (found s view (name_of edit)) (is_damaged s (view (s.place (name_of edit)))) → effect_value edit.change d ≡ effect_on s view edit
-  decided_is view edit allowed written d is = by edit.change d is
+  pub decided_is : (mode : Mode) (view : View) (edit : RefEdit) → s.is_prohibited (s.place (name_of edit)) ≡ false → ((t : TargetValue) → s.text_of t ≡ loose_text t) → (alone : Bool) → alone ≡ goes_alone s mode edit →
+      (d : Decision) → d ≡ decision edit.change alone (found s view (name_of edit)) (is_damaged s (view (s.place (name_of edit)))) → effect_value edit.change d ≡ effect_on s mode view edit
+  decided_is mode view edit allowed written alone goes d is = by edit.change refl d is
     where
       removed : (refers : Bool) → by_decision (if refers then Remove else Keep) [] ≡ (if refers then Removes else Keeps)
       removed true = refl
@@ -145,10 +172,13 @@ module _ (s : Store) where
       value_is c Remove = refl
       value_is c Keep = refl
 
-      by : (c : GivenChange) (x : Decision) → x ≡ decision c (found s view (name_of edit)) (is_damaged s (view (s.place (name_of edit)))) →
-          effect_value c x ≡ (if is_of_reference (mode_of c) then effect_of_change s DeletionsOnly (s.key (name_of edit)) (reading s view (name_of edit)) (change_of c) else Keeps)
-      by (given.Update log e new) x told = value_is (given.Update log e new) x ∙ decided_update view (name_of edit) (is_of_reference log.mode) (target_value new) allowed (written (target_value new)) x told
-      by (given.Delete e log) x told = value_is (given.Delete e log) x ∙ (ap (λ y. by_decision y []) told ∙ removed (is_of_reference log))
+      by : (c : GivenChange) → edit.change ≡ c → (x : Decision) → x ≡ decision c alone (found s view (name_of edit)) (is_damaged s (view (s.place (name_of edit)))) →
+          effect_value c x ≡ (if is_of_reference (mode_of c) then effect_of_change s mode (s.key (name_of edit)) (reading s view (name_of edit)) (change_of c) else Keeps)
+      by (given.Update log e new) at x told =
+          value_is (given.Update log e new) x
+          ∙ decided_update mode view (name_of edit) (is_of_reference log.mode) (target_value new) alone allowed (written (target_value new))
+          (λ refers. goes ∙ alone_is mode edit (target_value new) (ap new_of at) (ap (λ c. is_of_reference (mode_of c)) at ∙ refers)) x told
+      by (given.Delete e log) at x told = value_is (given.Delete e log) x ∙ (ap (λ y. by_decision y []) told ∙ removed (is_of_reference log))
 
 -- What a lock holds once it got its text: the one of its effect.
 pub filled_with : (T T' W : Tree) (lock lock' : Path) (what what' : Effect) → T' ≡ T → lock' ≡ lock → what' ≡ what → T lock ≡ Some (File []) →

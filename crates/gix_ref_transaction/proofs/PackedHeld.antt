@@ -1,29 +1,41 @@
 -- Edits that are judged while the lock of `packed-refs` is held are judged as before.
-use Rattle.std.proofs.Common.{◌≡◌, ◌≢◌, inl, inr, ⊎_elim, ℕ, suc, List, [], ◌∷◌, ◌++◌, true, Bool, Option, is_some, Some, None, All, refl, sym, ◌∙◌, ap, subst, arith}
-use Rattle.std.specs.Prelude.{IsSome}
+use Rattle.std.proofs.Common.{◌≡◌, ◌≢◌, ◌⊎◌, inl, inr, ⊎_elim, ℕ, suc, List, [], ◌∷◌, ◌++◌, true, Bool, Option, is_some, Some, None, All, refl, sym, ◌∙◌, ap, subst, arith}
+use Rattle.std.specs.Prelude.{IsSome, ◌||◌, false}
 use Rattle.gix_ref_base.specs.Targets.{TargetValue}
 use Rattle.gix_ref_hash.specs.declared.hash.Kind.{Kind}
 use Rattle.gix_ref_files.specs.Lock.{lock_of}
 use Rattle.gix_ref_files.specs.Tree.{Tree, Path, Content, fronts, is_blocked, is_file}
-use Rattle.gix_ref_files.specs.Tree.Content.{File}
-use Rattle.gix_ref_files.proofs.Puts.{put_other}
-use Rattle.gix_ref_theory.specs.Edits.{Effect}
+use Rattle.gix_ref_files.specs.Tree.Content.{File, Folder}
+use Rattle.gix_ref_theory.specs.Edits.{Effect, Mode}
 use Rattle.gix_ref_theory.specs.OnRealTrees.{file_of, view_of}
 use Rattle.gix_ref_theory.specs.Readings.{Store, records_of_file}
 use Rattle.gix_ref_edits.specs.RefEdits.{name_of, expected_of, new_of, Expects}
 use Rattle.gix_ref_edits.specs.declared.transaction.RefEdit.{RefEdit}
 use Rattle.gix_ref_transaction.specs.Causes.{decoded, found, found_by, packed_id, packed_of, IsApartFromPacked, IsEditFault, IsFirstCause, IsLockable, IsMismatch, IsUnlockable, NoCause, IsEditAccepted}
-use Rattle.gix_ref_transaction.specs.OwnLocks.{is_in}
+use Rattle.gix_ref_transaction.specs.OwnLocks.{is_in, IsOurs}
 use Rattle.gix_ref_transaction.specs.PrepareSteps.{packed_ids, effect_on, effects_on, files_at, has_file_at, lock_text, old_targets, updates, AreLockable, AreSettled, HoldTexts, IsPackedPlace, TakesPacked}
 use Rattle.gix_ref_transaction.specs.declared.edit.Edit.{Edit}
 use Rattle.gix_ref_transaction.specs.declared.prepare.error.Error.{Error}
-use Rattle.gix_ref_transaction.specs.declared.prepare.error.Error.TheVariants.{UnsafeName, DeviceName, DeleteMustNotExist, TargetNotFull, OtherHashKind, PreprocessingFailed, PackedTransactionAcquire, Packed, PackedFind, PathCollision, LockAcquire, DeleteReferenceMustExist, MustExist, MustNotExist, ReferenceOutOfDate, ReferenceDecode, Io, Memory}
-use Rattle.gix_ref_transaction.proofs.Adds.{any_same, clash}
+use Rattle.gix_ref_transaction.specs.declared.prepare.error.Error.TheVariants.{UnsafeName, DeviceName, DeleteMustNotExist, TargetNotFull, OtherHashKind, PreprocessingFailed, PackedTransactionAcquire, Packed, PackedFind, PackedTransactionPrepare, PathCollision, LockAcquire, DeleteReferenceMustExist, MustExist, MustNotExist, ReferenceOutOfDate, ReferenceDecode, Io, Memory}
+use Rattle.gix_ref_transaction.proofs.Adds.{any_same, clash, in_one}
 use Rattle.gix_ref_transaction.proofs.LookupLemmas.{effect_alike}
 
-module _ (s : Store) (kind : Kind) (plain held : Tree) (off : (q : Path) → q ≢ lock_of s.packed_path → held q ≡ plain q) (packed_lock : s.packed_path ≢ lock_of s.packed_path) where
+-- At a path there is what was there before, or a new folder that leads to the lock.
+abbrev pub IsSameButWay : Path → (plain held : Tree) → Path → Type 0
+IsSameButWay lock plain held q = (held q ≡ plain q)
+    ⊎ ((plain q ≡ None) × (held q ≡ Some Folder) × (is_in (fronts lock) q ≡ true))
+
+module _ (s : Store) (kind : Kind) (plain held : Tree) (off : (q : Path) → q ≢ lock_of s.packed_path → IsSameButWay (lock_of s.packed_path) plain held q) (packed_lock : s.packed_path ≢ lock_of s.packed_path) where
+  -- what does not see folders is the same
+  off_file : {X : Type 0} (look : Option Content → X) → look (Some Folder) ≡ look None → (q : Path) → q ≢ lock_of s.packed_path → look (held q) ≡ look (plain q)
+  off_file look blind q other = ⊎_elim (λ same. ap look same) (λ new. ap look new.1 ∙ (blind ∙ ap look (sym new.0))) (off q other)
+
+  -- off the way to the lock all is the same
+  pub off_way : (q : Path) → q ≢ lock_of s.packed_path → is_in (fronts (lock_of s.packed_path)) q ≡ false → held q ≡ plain q
+  off_way q other out = ⊎_elim (λ same. same) (λ new. clash new.2 out) (off q other)
+
   pub same_packed : view_of held s.packed_path ≡ view_of plain s.packed_path
-  same_packed = ap file_of (off s.packed_path packed_lock)
+  same_packed = off_file file_of refl s.packed_path packed_lock
 
   -- one edit
   module _ (edit : RefEdit) (apart : IsApartFromPacked s edit) where
@@ -32,13 +44,13 @@ module _ (s : Store) (kind : Kind) (plain held : Tree) (off : (q : Path) → q �
 
     same_way : is_blocked held lock ≡ is_blocked plain lock
     same_way = any_same (λ f. is_file (held f)) (λ f. is_file (plain f)) (fronts lock)
-        (λ f within. ap is_file (off f (λ same. clash (subst (λ (p : Path). is_in (fronts lock) p ≡ true) same within) apart.way)))
+        (λ f within. off_file is_file refl f (λ same. clash (subst (λ (p : Path). is_in (fronts lock) p ≡ true) same within) apart.way))
 
     at_lock : held lock ≡ plain lock
-    at_lock = off lock apart.lock
+    at_lock = off_way lock apart.lock apart.behind
 
     same_place : view_of held (s.place (name_of edit)) ≡ view_of plain (s.place (name_of edit))
-    same_place = ap file_of (off (s.place (name_of edit)) apart.place)
+    same_place = off_file file_of refl (s.place (name_of edit)) apart.place
 
     same_file : has_file_at s held edit ≡ has_file_at s plain edit
     same_file = ap is_some same_place
@@ -48,8 +60,8 @@ module _ (s : Store) (kind : Kind) (plain held : Tree) (off : (q : Path) → q �
         ap (λ (file : Option (List ℕ)). found_by s (decoded s file) (packed_of s (view_of held) (name_of edit))) same_place
         ∙ ap (λ (file : Option (List ℕ)). found_by s (decoded s (view_of plain (s.place (name_of edit)))) (packed_id (s.key (name_of edit)) (records_of_file s file))) same_packed
 
-    same_effect : effect_on s (view_of held) edit ≡ effect_on s (view_of plain) edit
-    same_effect = effect_alike s (view_of held) (view_of plain) edit same_place same_packed
+    same_effect : (mode : Mode) → effect_on s mode (view_of held) edit ≡ effect_on s mode (view_of plain) edit
+    same_effect mode = effect_alike mode s (view_of held) (view_of plain) edit same_place same_packed
 
     lockable_on : (seen : List RefEdit) → IsLockable s kind held seen edit → IsLockable s kind plain seen edit
     lockable_on seen can = record { way = sym same_way ∙ can.way; free = sym at_lock ∙ can.free; ours = can.ours }
@@ -75,6 +87,7 @@ module _ (s : Store) (kind : Kind) (plain held : Tree) (off : (q : Path) → q �
     unlockable_on seen (MustExist name expected) why = absurd why
     unlockable_on seen (MustNotExist name actual new) why = absurd why
     unlockable_on seen (ReferenceOutOfDate name expected actual) why = absurd why
+    unlockable_on seen (PackedTransactionPrepare source) why = absurd why
     unlockable_on seen (ReferenceDecode source) why = absurd why
 
     fault_on : (seen : List RefEdit) (error : Error) → IsEditFault s kind held seen edit error → IsEditFault s kind plain seen edit error
@@ -105,9 +118,9 @@ module _ (s : Store) (kind : Kind) (plain held : Tree) (off : (q : Path) → q �
   lockable_all_on seen [] apart can = tt
   lockable_all_on seen (e ∷ some) apart can = (lockable_on e (first e some apart) seen can.0, lockable_all_on (seen ++ e ∷ []) some (others e some apart) can.1)
 
-  texts_on : (T : Tree) (some : List RefEdit) → AreApart some → HoldTexts s held T some → HoldTexts s plain T some
-  texts_on T [] apart hold = tt
-  texts_on T (e ∷ some) apart hold = (hold.0 ∙ ap (λ (w : Effect). Some (File (lock_text w))) (same_effect e (first e some apart)), texts_on T some (others e some apart) hold.1)
+  texts_on : (mode : Mode) (T : Tree) (some : List RefEdit) → AreApart some → HoldTexts s mode held T some → HoldTexts s mode plain T some
+  texts_on mode T [] apart hold = tt
+  texts_on mode T (e ∷ some) apart hold = (hold.0 ∙ ap (λ (w : Effect). Some (File (lock_text w))) (same_effect e (first e some apart) mode), texts_on mode T some (others e some apart) hold.1)
 
   targets_on : (some : List RefEdit) → AreApart some → old_targets s held some ≡ old_targets s plain some
   targets_on [] apart = refl
@@ -117,9 +130,9 @@ module _ (s : Store) (kind : Kind) (plain held : Tree) (off : (q : Path) → q �
   files_on [] apart = refl
   files_on (e ∷ some) apart = ap (λ (b : Bool). b ∷ files_at s held some) (same_file e (first e some apart)) ∙ ap (λ (l : List Bool). has_file_at s plain e ∷ l) (files_on some (others e some apart))
 
-  effects_as : (some : List RefEdit) → AreApart some → effects_on s (view_of held) some ≡ effects_on s (view_of plain) some
-  effects_as [] apart = refl
-  effects_as (e ∷ some) apart = ap (λ (w : Effect). w ∷ effects_on s (view_of held) some) (same_effect e (first e some apart)) ∙ ap (λ (l : List Effect). effect_on s (view_of plain) e ∷ l) (effects_as some (others e some apart))
+  effects_as : (mode : Mode) (some : List RefEdit) → AreApart some → effects_on s mode (view_of held) some ≡ effects_on s mode (view_of plain) some
+  effects_as mode [] apart = refl
+  effects_as mode (e ∷ some) apart = ap (λ (w : Effect). w ∷ effects_on s mode (view_of held) some) (same_effect e (first e some apart) mode) ∙ ap (λ (l : List Effect). effect_on s mode (view_of plain) e ∷ l) (effects_as mode some (others e some apart))
 
   ids_on : (some : List RefEdit) → packed_ids s held some ≡ packed_ids s plain some
   ids_on [] = refl
@@ -127,22 +140,33 @@ module _ (s : Store) (kind : Kind) (plain held : Tree) (off : (q : Path) → q �
       ap (λ (file : Option (List ℕ)). packed_id (s.key (name_of e)) (records_of_file s file) ∷ packed_ids s held some) same_packed
       ∙ ap (λ l. packed_of s (view_of plain) (name_of e) ∷ l) (ids_on some)
 
-  pub settled_on : (T : Tree) (old new : List Edit) → AreApart (updates old) → AreSettled s kind held T old new → AreSettled s kind plain T old new
-  settled_on T old new apart settled = record {
+  pub settled_on : {mode : Mode} (T : Tree) (old new : List Edit) → AreApart (updates old) → AreSettled s mode kind held T old new → AreSettled s mode kind plain T old new
+  settled_on {mode = mode} T old new apart settled = record {
     was = settled.was ∙ targets_on (updates old) apart;
     files = settled.files ∙ files_on (updates old) apart;
-    what = settled.what ∙ effects_as (updates old) apart;
+    what = settled.what ∙ effects_as mode (updates old) apart;
     ids = settled.ids ∙ ids_on (updates old);
     no_cause = no_cause_on [] (updates old) apart settled.no_cause;
-    texts = texts_on T (updates old) apart settled.texts;
+    texts = texts_on mode T (updates old) apart settled.texts;
   }
 
 -- elsewhere the tree is as before the lock was taken
-pub off_lock : (s : Store) (plain held : Tree) (packed : Option Path) → IsPackedPlace s packed → TakesPacked plain packed held → (q : Path) → q ≢ lock_of s.packed_path → held q ≡ plain q
-off_lock s plain held None place takes q other = ap (λ (T : Tree). T q) takes
+pub off_lock : (s : Store) (plain held : Tree) (packed : Option Path) → IsPackedPlace s packed → TakesPacked plain packed held → (q : Path) → q ≢ lock_of s.packed_path → IsSameButWay (lock_of s.packed_path) plain held q
+off_lock s plain held None place takes q other = inl (ap (λ (T : Tree). T q) takes)
 off_lock s plain held (Some place) (inl none) takes q other = cc
 off_lock s plain held (Some place) (inr is) takes q other =
-    ap (λ (T : Tree). T q) takes.1 ∙ put_other plain (lock_of place) q (Some (File [])) (λ same. other (sym same ∙ ap lock_of (inner is)))
+    ⊎_elim (λ same. inl same)
+    (λ new. inr (by (held q) refl (subst (λ (p : Path). IsOurs (lock_of p ∷ []) (lock_of p ∷ []) q (held q)) (inner is) new.1) new.0))
+    (takes.2 q)
   where
     inner : {x y : Path} → Some x ≡ Some y → x ≡ y
     inner e = cc
+
+    or_none : (b : Bool) → (b || false) ≡ b
+    or_none true = refl
+    or_none false = refl
+
+    by : (n : Option Content) → held q ≡ n → IsOurs (lock_of s.packed_path ∷ []) (lock_of s.packed_path ∷ []) q n → plain q ≡ None → (plain q ≡ None) × (held q ≡ Some Folder) × (is_in (fronts (lock_of s.packed_path)) q ≡ true)
+    by (Some (File bytes)) at ours none = absurd (other (sym (in_one (lock_of s.packed_path) q ours)))
+    by (Some Folder) at ours none = (none, at, sym (or_none (is_in (fronts (lock_of s.packed_path)) q)) ∙ ours)
+    by None at ours none = absurd ours

@@ -4,8 +4,9 @@ use Rattle.std.proofs.Math.ListN.{set}
 use Rattle.std.proofs.lemmas.Simd.{map-map}
 use Rattle.std.proofs.lemmas.List.{map-append, take_more_set, take_more, get_or-map, length-map}
 use Rattle.std.proofs.Math.Seq.{take-append_seam}
+use Rattle.gix_ref_theory.specs.Edits.{Mode}
 use Rattle.gix_ref_transaction.specs.Parents.{parents_in}
-use Rattle.gix_ref_transaction.specs.PrepareSteps.{AreSettled, HoldTexts, all_asked, all_given, given, effects_of, effects_on, files_at, ids_in, old_targets, packed_ids, place_paths, seen_files, targets_of, updates}
+use Rattle.gix_ref_transaction.specs.PrepareSteps.{Given, AreSettled, HoldTexts, all_asked, all_given, given, effects_of, effects_on, files_at, ids_in, old_targets, packed_ids, place_paths, seen_files, targets_of, updates}
 use Rattle.gix_ref_transaction.specs.Causes.{NoCause}
 use Rattle.gix_ref_transaction.specs.declared.edit.Edit.{Edit}
 use Rattle.gix_ref_hash.specs.declared.hash.Kind.{Kind}
@@ -31,7 +32,7 @@ use Rattle.gix_ref_theory.specs.OnRealTrees.{view_of}
 use Rattle.gix_ref_edits.specs.RefEdits.{name_of}
 use Rattle.gix_ref_edits.specs.declared.transaction.RefEdit.{RefEdit}
 use Rattle.gix_ref_transaction.specs.declared.prepare.error.Error.{Error}
-use Rattle.gix_ref_transaction.specs.declared.prepare.error.Error.TheVariants.{UnsafeName, DeviceName, DeleteMustNotExist, PackedTransactionAcquire, DeleteReferenceMustExist, TargetNotFull, OtherHashKind, PreprocessingFailed, Packed, PackedFind, PathCollision, LockAcquire, MustExist, MustNotExist, ReferenceOutOfDate, ReferenceDecode, Io, Memory as NoMemory}
+use Rattle.gix_ref_transaction.specs.declared.prepare.error.Error.TheVariants.{UnsafeName, DeviceName, DeleteMustNotExist, PackedTransactionAcquire, DeleteReferenceMustExist, TargetNotFull, OtherHashKind, PreprocessingFailed, Packed, PackedFind, PackedTransactionPrepare, PathCollision, LockAcquire, MustExist, MustNotExist, ReferenceOutOfDate, ReferenceDecode, Io, Memory as NoMemory}
 
 -- why no record is found, as it is reported
 pub counted_cause : (honest fault unreadable read : Type 0) (refused : OpenError → Type 0) (before now : ℕ) (error : LookupError) → (fault → HasRisen before now ⊎ read) →
@@ -67,6 +68,7 @@ counted_by honest other read before now (DeleteReferenceMustExist name) follows 
 counted_by honest other read before now (MustExist name expected) follows told = told
 counted_by honest other read before now (MustNotExist name actual new) follows told = told
 counted_by honest other read before now (ReferenceOutOfDate name expected actual) follows told = told
+counted_by honest other read before now (PackedTransactionPrepare source) follows told = told
 counted_by honest other read before now (ReferenceDecode source) follows told = told
 counted_by honest other read before now NoMemory follows told = told
 
@@ -137,6 +139,7 @@ not_packed kind packed before now (DeleteReferenceMustExist name) told = (tt, λ
 not_packed kind packed before now (MustExist name expected) told = (tt, λ honest read. told)
 not_packed kind packed before now (MustNotExist name actual new) told = (tt, λ honest read. told)
 not_packed kind packed before now (ReferenceOutOfDate name expected actual) told = (tt, λ honest read. told)
+not_packed kind packed before now (PackedTransactionPrepare source) told = (tt, λ honest read. told)
 not_packed kind packed before now (ReferenceDecode source) told = (tt, λ honest read. told)
 not_packed kind packed before now NoMemory told = (tt, λ honest read. told)
 not_packed kind packed before now (Io error) told = (tt, λ honest read. told)
@@ -163,6 +166,7 @@ counted_later honest read a b d (DeleteReferenceMustExist name) le told = tt
 counted_later honest read a b d (MustExist name expected) le told = tt
 counted_later honest read a b d (MustNotExist name actual new) le told = tt
 counted_later honest read a b d (ReferenceOutOfDate name expected actual) le told = tt
+counted_later honest read a b d (PackedTransactionPrepare source) le told = tt
 counted_later honest read a b d (ReferenceDecode source) le told = tt
 counted_later honest read a b d NoMemory le told = tt
 
@@ -187,6 +191,7 @@ counted_on honest read a b d (DeleteReferenceMustExist name) le told = tt
 counted_on honest read a b d (MustExist name expected) le told = tt
 counted_on honest read a b d (MustNotExist name actual new) le told = tt
 counted_on honest read a b d (ReferenceOutOfDate name expected actual) le told = tt
+counted_on honest read a b d (PackedTransactionPrepare source) le told = tt
 counted_on honest read a b d (ReferenceDecode source) le told = tt
 counted_on honest read a b d NoMemory le told = tt
 
@@ -211,9 +216,9 @@ parents_alike old now same =
 
 pub asked_alike : (old now : List Edit) → all_given now ≡ all_given old → all_asked now ≡ all_asked old
 asked_alike old now same =
-    sym (map-map {C = RefEdit × Path × Option ℕ} (λ (p : RefEdit × Path × Option ObjectId × Option ℕ). (p.0, p.1, p.3)) given now)
-    ∙ (ap (map {B = RefEdit × Path × Option ℕ} (λ (p : RefEdit × Path × Option ObjectId × Option ℕ). (p.0, p.1, p.3))) same
-    ∙ map-map {C = RefEdit × Path × Option ℕ} (λ (p : RefEdit × Path × Option ObjectId × Option ℕ). (p.0, p.1, p.3)) given old)
+    sym (map-map {C = RefEdit × Path × Option ℕ} (λ (p : Given). (p.0, p.1, p.3)) given now)
+    ∙ (ap (map {B = RefEdit × Path × Option ℕ} (λ (p : Given). (p.0, p.1, p.3))) same
+    ∙ map-map {C = RefEdit × Path × Option ℕ} (λ (p : Given). (p.0, p.1, p.3)) given old)
 
 -- a list that was written over in whole, by one that asks for the same
 pub asked_over : (len : ℕ) (old now rest : List Edit) → all_asked now ≡ all_asked old → length old ≡ len → take len (now ++ rest) ≡ now
@@ -227,14 +232,14 @@ if_ok (Ok x) wider holds = wider x holds
 if_ok (Err e) wider holds = tt
 
 -- edits are settled by what is asked for
-pub settled_alike : (s : Store) (kind : Kind) (before T : Tree) (a b new : List Edit) → updates a ≡ updates b → AreSettled s kind before T a new → AreSettled s kind before T b new
-settled_alike s kind before T a b new same settled = record {
+pub settled_alike : {mode : Mode} (s : Store) (kind : Kind) (before T : Tree) (a b new : List Edit) → updates a ≡ updates b → AreSettled s mode kind before T a new → AreSettled s mode kind before T b new
+settled_alike {mode = mode} s kind before T a b new same settled = record {
   was = subst (λ (u : List RefEdit). targets_of new ≡ old_targets s before u) same settled.was;
   files = subst (λ (u : List RefEdit). seen_files new ≡ files_at s before u) same settled.files;
-  what = subst (λ (u : List RefEdit). effects_of new ≡ effects_on s (view_of before) u) same settled.what;
+  what = subst (λ (u : List RefEdit). effects_of new ≡ effects_on s mode (view_of before) u) same settled.what;
   ids = subst (λ (u : List RefEdit). ids_in new ≡ packed_ids s before u) same settled.ids;
   no_cause = subst (NoCause s kind before []) same settled.no_cause;
-  texts = subst (HoldTexts s before T) same settled.texts;
+  texts = subst (HoldTexts s mode before T) same settled.texts;
 }
 
 -- one more edit of a list has its id

@@ -1,35 +1,30 @@
 -- The lock of `packed-refs`: where it is taken, and what it leaves of the edits.
 use Rattle.std.proofs.Common.{◌≡◌, ◌⊎◌, inl, inr, ⊎_elim, ℕ, List, [], ◌∷◌, Bool, true, false, Option, Some, None, Result, Ok, Err, IfOk, OnOk, map, if◌then◌else◌, refl, sym, ◌∙◌, ap, subst}
-use Rattle.std.specs.Prelude.{bytes_eq, is_some, IsSome, ◌||◌, ◌&&◌}
+use Rattle.std.specs.Prelude.{is_some, IsSome, MatchBool, ◌||◌, ◌&&◌}
 use Rattle.std.specs.List.{list_all, list_any}
 use Rattle.std.specs.Option.{option_map, unwrap_or}
 use Rattle.gix_ref_base.specs.Layout.{Layout}
 use Rattle.gix_ref_base.specs.Locations.{Location, location, key_outside, no_namespace, paths_at, row_of}
 use Rattle.gix_ref_base.specs.Locations.Location.{Common, ThisWorktree, MainWorktree, LinkedWorktree}
-use Rattle.gix_ref_files.specs.Tree.{Tree, Path, Content, file_of, fronts, is_blocked, is_file, is_folder, node_at, node_of, put}
+use Rattle.gix_ref_files.specs.Tree.{Tree, Path, Content, IsShaped, has_folders, file_of, fronts, is_blocked, is_file, is_folder, node_at, node_of}
 use Rattle.gix_ref_files.specs.Tree.Content.{File, Folder}
-use Rattle.gix_ref_files.specs.Calls.{Creating, IsFree}
-use Rattle.gix_ref_files.specs.Disk.{Disk}
-use Rattle.gix_ref_files.specs.DiskCalls.{CreatingOn}
-use Rattle.gix_ref_files.proofs.Puts.{put_at, put_other}
+use Rattle.gix_ref_files.specs.Calls.{IsFree}
 use Rattle.gix_ref_files.specs.declared.files.Node.{Node}
 use Rattle.gix_ref_files.specs.declared.files.Node.TheVariants as node
 use Rattle.gix_ref_files.specs.Files.{Meaning, disk_of}
 use Rattle.gix_ref_files.specs.Lock.{lock_of}
-use Rattle.gix_ref_theory.specs.OnDisks.{IsAsBefore, IsSpokenOf, Rests}
 use Rattle.gix_ref_theory.specs.OnRealTrees.{view_of}
 use Rattle.gix_ref_theory.specs.Readings.{Store}
-use Rattle.gix_ref_theory.specs.Views.{IsOwnLock}
-use Rattle.gix_ref_theory.proofs.Reached.{rests_create}
 use Rattle.gix_ref_edits.specs.declared.transaction.RefEdit.{RefEdit}
-use Rattle.gix_ref_transaction.specs.Causes.{ask_packed, has_key, packed_taken, IsInTheWay, IsPackedCause, IsPackedLocked}
+use Rattle.gix_ref_theory.specs.Edits.{Mode}
+use Rattle.gix_ref_transaction.specs.Causes.{ask_packed, has_key, may_change, packed_taken, packs_edit, packs_some, IsInTheWay, IsPackedCause, IsPackedLocked}
 use Rattle.gix_ref_transaction.specs.PackedLock.{IsPackedTakenWhereDue}
-use Rattle.gix_ref_transaction.specs.PrepareSteps.{updates, packed_locks, packed_places, AreWholeLocks, TakesPacked}
+use Rattle.gix_ref_transaction.specs.PrepareSteps.{updates, packed_locks, packed_places, AreEmpty, AreWholeLocks, TakesPacked}
 use Rattle.gix_ref_transaction.specs.declared.edit.Edit.{Edit}
 use Rattle.gix_ref_transaction.specs.declared.prepare.error.Error.{Error}
 use Rattle.gix_ref_transaction.specs.declared.prepare.error.Error.TheVariants.{PackedTransactionAcquire}
-use Rattle.gix_ref_transaction.specs.OwnLocks.{is_in, AddsLocks, IsOurs}
-use Rattle.gix_ref_transaction.proofs.Adds.{clash, either_way, in_here, in_one, is_same_path, same_path}
+use Rattle.gix_ref_transaction.specs.OwnLocks.{is_in, AddsLocks}
+use Rattle.gix_ref_transaction.proofs.Adds.{clash, in_one}
 
 -- a name has a key in a namespace where it has one outside
 keys_alike : (f : Layout) (name : List ℕ) → is_some (paths_at f name).key ≡ is_some (key_outside name)
@@ -75,19 +70,19 @@ no_file_there T p = by (T p) (is_blocked T p)
     by None blocked is = refl
 
 -- where an edit may have a record, and the lock was not taken, `packed-refs` is no file
-pub absent_by : (s : Store) (T : Tree) (edits : List Edit) (packed : Option Path) (asks : Bool) → asks ≡ list_any (λ (e : Edit). has_key s e.update) edits → is_some packed ≡ false →
-    packed_places packed ≡ packed_taken s T (updates edits) → asks ≡ true → view_of T s.packed_path ≡ None
-absent_by s T edits packed asks is none taken may =
-    absent_from (T s.packed_path) (no_places packed none ∙ (taken ∙ ap (λ b. if b && is_file (T s.packed_path) then s.packed_path ∷ [] else []) (asked s edits asks is ∙ may)))
+pub absent_by : (s : Store) (mode : Mode) (T : Tree) (edits : List Edit) (packed : Option Path) (asks : Bool) → asks ≡ list_any (λ (e : Edit). has_key s e.update) edits → is_some packed ≡ false →
+    packed_places packed ≡ packed_taken s mode T (updates edits) → asks ≡ true → view_of T s.packed_path ≡ None
+absent_by s mode T edits packed asks is none taken may =
+    absent_from (T s.packed_path) (packs_some s mode (updates edits)) (no_places packed none ∙ (taken ∙ ap (λ b. if b && may_change s mode T (updates edits) then s.packed_path ∷ [] else []) (asked s edits asks is ∙ may)))
   where
     no_places : (p : Option Path) → is_some p ≡ false → [] ≡ packed_places p
     no_places None is = refl
     no_places (Some path) is = cc
 
-    absent_from : (content : Option Content) → [] ≡ (if true && is_file content then s.packed_path ∷ [] else []) → file_of content ≡ None
-    absent_from (Some (File bytes)) e = cc
-    absent_from (Some Folder) e = refl
-    absent_from None e = refl
+    absent_from : (content : Option Content) (packs : Bool) → [] ≡ (if true && (is_file content || packs) then s.packed_path ∷ [] else []) → file_of content ≡ None
+    absent_from (Some (File bytes)) packs e = cc
+    absent_from (Some Folder) packs e = refl
+    absent_from None packs e = refl
 
 -- any other answer than a file
 pub other_there : (T : Tree) (p : Path) (n : Node) → n ≡ node_at T p → (n ≡ node.Folder) ⊎ ((n ≡ node.Nothing) ⊎ (n ≡ node.Blocked)) → is_file (T p) ≡ false
@@ -128,83 +123,106 @@ pub free_way : (T : Tree) (lock : Path) → IsFree T lock → IsInTheWay T lock 
 free_way T lock free way = ⊎_elim (λ some. no_some some free.0) (λ blocked. clash blocked (not_blocked T (fronts lock) free.1)) way
 
 -- where the lock is not asked for
-module _ (s : Store) (T : Tree) (edits : List RefEdit) (unasked : ask_packed s edits ≡ false) where
-  pub unasked_taken : [] ≡ packed_taken s T edits
-  unasked_taken = sym (ap (λ b. if b && is_file (T s.packed_path) then s.packed_path ∷ [] else []) unasked)
+module _ (s : Store) (mode : Mode) (T : Tree) (edits : List RefEdit) (unasked : ask_packed s edits ≡ false) where
+  pub unasked_taken : [] ≡ packed_taken s mode T edits
+  unasked_taken = sym (ap (λ b. if b && may_change s mode T edits then s.packed_path ∷ [] else []) unasked)
 
-  pub unasked_free : IsPackedLocked s T edits → ⊥
+  pub unasked_free : IsPackedLocked s mode T edits → ⊥
   unasked_free locked = clash locked.0 unasked
 
 -- where it is
-module _ (s : Store) (T : Tree) (edits : List RefEdit) (asks : ask_packed s edits ≡ true) where
-  pub file_taken : is_file (T s.packed_path) ≡ true → s.packed_path ∷ [] ≡ packed_taken s T edits
-  file_taken file = sym (ap (λ b. if b && is_file (T s.packed_path) then s.packed_path ∷ [] else []) asks ∙ ap (λ b. if b then s.packed_path ∷ [] else []) file)
+module _ (s : Store) (mode : Mode) (T : Tree) (edits : List RefEdit) (asks : ask_packed s edits ≡ true) where
+  pub due_taken : may_change s mode T edits ≡ true → s.packed_path ∷ [] ≡ packed_taken s mode T edits
+  due_taken due = sym (ap (λ b. if b && may_change s mode T edits then s.packed_path ∷ [] else []) asks ∙ ap (λ b. if b then s.packed_path ∷ [] else []) due)
 
-  pub none_taken : is_file (T s.packed_path) ≡ false → [] ≡ packed_taken s T edits
-  none_taken none = sym (ap (λ b. if b && is_file (T s.packed_path) then s.packed_path ∷ [] else []) asks ∙ ap (λ b. if b then s.packed_path ∷ [] else []) none)
+  pub none_taken : may_change s mode T edits ≡ false → [] ≡ packed_taken s mode T edits
+  none_taken none = sym (ap (λ b. if b && may_change s mode T edits then s.packed_path ∷ [] else []) asks ∙ ap (λ b. if b then s.packed_path ∷ [] else []) none)
 
-  -- `packed-refs` is a file
-  module _ (file : is_file (T s.packed_path) ≡ true) (lock : Path) (at : lock ≡ s.packed_path) where
-    pub in_the_way : (e : Error) → IsInTheWay T (lock_of lock) → e ≡ PackedTransactionAcquire → IsPackedCause s T edits e
-    in_the_way e way is = subst (IsPackedCause s T edits) (sym is) (asks, inr (file, subst (λ (p : Path). IsInTheWay T (lock_of p)) at way))
+  -- `packed-refs` may change
+  module _ (due : may_change s mode T edits ≡ true) (lock : Path) (at : lock ≡ s.packed_path) where
+    pub in_the_way : (e : Error) → IsInTheWay T (lock_of lock) → e ≡ PackedTransactionAcquire → IsPackedCause s mode T edits e
+    in_the_way e way is = subst (IsPackedCause s mode T edits) (sym is) (asks, inr (due, subst (λ (p : Path). IsInTheWay T (lock_of p)) at way))
 
     -- the lock was free
-    pub was_free : (IsInTheWay T (lock_of lock) → ⊥) → IsPackedLocked s T edits → ⊥
+    pub was_free : (IsInTheWay T (lock_of lock) → ⊥) → IsPackedLocked s mode T edits → ⊥
     was_free free locked = ⊎_elim
         (λ some. free (inl (subst (λ (p : Path). IsSome (T (lock_of p))) (sym at) some)))
         (λ way. free (subst (λ (p : Path). IsInTheWay T (lock_of p)) (sym at) way.1))
         locked.1
 
-  -- it is no file
-  module _ (none : is_file (T s.packed_path) ≡ false) (lock : Path) (at : lock ≡ s.packed_path) where
-    pub pass_free : T (lock_of lock) ≡ None → IsPackedLocked s T edits → ⊥
+  -- it does not
+  module _ (none : may_change s mode T edits ≡ false) (lock : Path) (at : lock ≡ s.packed_path) where
+    pub pass_free : T (lock_of lock) ≡ None → IsPackedLocked s mode T edits → ⊥
     pass_free free locked = ⊎_elim
         (λ some. no_some (subst (λ (p : Path). IsSome (T (lock_of p))) (sym at) some) free)
         (λ way. clash way.0 none)
         locked.1
 
-    pub something_there : (e : Error) → IsSome (T (lock_of lock)) → e ≡ PackedTransactionAcquire → IsPackedCause s T edits e
-    something_there e some is = subst (IsPackedCause s T edits) (sym is) (asks, inl (subst (λ (p : Path). IsSome (T (lock_of p))) at some))
+    pub something_there : (e : Error) → IsSome (T (lock_of lock)) → e ≡ PackedTransactionAcquire → IsPackedCause s mode T edits e
+    something_there e some is = subst (IsPackedCause s mode T edits) (sym is) (asks, inl (subst (λ (p : Path). IsSome (T (lock_of p))) at some))
 
--- the result of the look at its path, where `packed-refs` is no file
-pub passed : (honest : Type 0) (s : Store) (edits : List RefEdit) (old mid new : Meaning) → ask_packed s edits ≡ true → (honest → is_file (old.tree s.packed_path) ≡ false) → (lock : Path) → lock ≡ s.packed_path →
+-- whether an object is put, by the edits that are asked for
+pub packs_asked : (s : Store) (mode : Mode) (edits : List Edit) (b : Bool) → b ≡ list_any (λ (e : Edit). packs_edit s mode e.update) edits → packs_some s mode (updates edits) ≡ b
+packs_asked s mode edits b is = sym (is ∙ any_map (packs_edit s mode) (λ (e : Edit). e.update) edits)
+
+-- `packed-refs` may change where it is a file, or where an object is put
+pub may_by_file : (s : Store) (mode : Mode) (T : Tree) (edits : List RefEdit) → is_file (T s.packed_path) ≡ true → may_change s mode T edits ≡ true
+may_by_file s mode T edits file = ap (λ b. b || packs_some s mode edits) file
+
+pub may_by_put : (s : Store) (mode : Mode) (T : Tree) (edits : List RefEdit) → is_file (T s.packed_path) ≡ false → (b : Bool) → packs_some s mode edits ≡ b → may_change s mode T edits ≡ b
+may_by_put s mode T edits none b is = ap (λ (c : Bool). c || packs_some s mode edits) none ∙ is
+
+-- by what is seen at its path, and the edits
+pub may_by : (s : Store) (mode : Mode) (T : Tree) (edits : List Edit) (n : Node) → n ≡ node_at T s.packed_path → (there : Bool) → MatchBool there (n ≡ node.File) (n ≡ node.File → ⊥) → (b : Bool) →
+    b ≡ (there || list_any (λ (e : Edit). packs_edit s mode e.update) edits) → may_change s mode T (updates edits) ≡ b
+may_by s mode T edits n is true file b by = ap (λ c. c || packs_some s mode (updates edits)) (file_there T s.packed_path (sym is ∙ file)) ∙ sym by
+may_by s mode T edits n is false none b by =
+    ap (λ (c : Bool). c || packs_some s mode (updates edits)) (no_file_there T s.packed_path (λ file. none (is ∙ file)))
+    ∙ packs_asked s mode edits b by
+
+pub on_true : (P N : Type 0) (b : Bool) → b ≡ true → MatchBool b P N → P
+on_true P N true is h = h
+on_true P N false is h = clash is refl
+
+-- a lock that is empty stays so while others are taken
+pub still_empty : (mid end : Tree) (all locks : List Path) → AddsLocks all all mid end → AreEmpty mid locks → AreEmpty end locks
+still_empty mid end all locks adds empty q within = ⊎_elim
+    (λ same. same ∙ empty q within)
+    (λ new. none_file (sym (empty q within) ∙ new.0))
+    (adds q)
+  where
+    none_file : {Q : Type 0} → ◌≡◌ {A = Option Content} (Some (File [])) None → Q
+    none_file e = cc
+
+pub taken_empty : (before T : Tree) (packed : Option Path) → TakesPacked before packed T → AreEmpty T (map lock_of (packed_places packed))
+taken_empty before T None takes q within = clash within refl
+taken_empty before T (Some place) takes q within = subst (λ (p : Path). T p ≡ Some (File [])) (in_one (lock_of place) q within) takes.1
+
+-- the result of the look at its path, where `packed-refs` may not change
+pub passed : (honest : Type 0) (s : Store) (mode : Mode) (edits : List RefEdit) (old mid new : Meaning) → ask_packed s edits ≡ true → (honest → may_change s mode old.tree edits ≡ false) → (lock : Path) → lock ≡ s.packed_path →
     (honest → mid.tree ≡ old.tree) → (honest → new.tree ≡ old.tree) → (r : Result (Option Path) Error) → IfOk r (λ packed. packed ≡ None) → (honest → OnOk r (mid.tree (lock_of lock) ≡ None)) →
-    IfOk r (IsPackedTakenWhereDue honest s edits old new)
-passed honest s edits old mid new asks none lock at still same (Err e) is free = tt
-passed honest s edits old mid new asks none lock at still same (Ok packed) is free = record {
+    IfOk r (IsPackedTakenWhereDue honest s mode edits old new)
+passed honest s mode edits old mid new asks none lock at still same (Err e) is free = tt
+passed honest s mode edits old mid new asks none lock at still same (Ok packed) is free = record {
   place = inl is;
-  due = λ h. ap packed_places is ∙ none_taken s old.tree edits asks (none h);
-  free = λ h. pass_free s old.tree edits asks (none h) lock at (ap (λ (T : Tree). T (lock_of lock)) (sym (still h)) ∙ free h);
+  due = λ h. ap packed_places is ∙ none_taken s mode old.tree edits asks (none h);
+  free = λ h. pass_free s mode old.tree edits asks (none h) lock at (ap (λ (T : Tree). T (lock_of lock)) (sym (still h)) ∙ free h);
   takes = λ h. subst (λ (p : Option Path). TakesPacked old.tree p new.tree) (sym is) (same h);
   whole = λ h. subst (λ (p : Option Path). AreWholeLocks (disk_of new) (map lock_of (packed_places p))) (sym is) tt;
 }
 
--- the disks that are found while a lock is made alone
-pub creating_as_before : (locked staying : List Path) (first D E : Disk) (p : Path) → IsOwnLock locked p → IsAsBefore locked staying first D → CreatingOn D p E → IsAsBefore locked staying first E
-creating_as_before locked staying first D E p own same found =
-    let after = rests_create (IsSpokenOf locked first) staying (λ q. None) (view_of first.tree) D E p (λ spoken. spoken.0 own) at_rest found in (after.files, after.stays)
+-- a file lies in folders
+pub file_led : (T : Tree) (p : Path) → IsShaped T → is_file (T p) ≡ true → has_folders T p ≡ true
+file_led T p shaped file = shaped p (there (T p) file)
   where
-    no_text : {X : Type 0} (bytes : List ℕ) → None ≡ Some bytes → X
-    no_text bytes e = cc
-
-    at_rest : Rests (IsSpokenOf locked first) staying (λ q. None) (view_of first.tree) D
-    at_rest = record { files = same.0; stays = same.1; whole = λ q bytes is. no_text bytes is }
-
--- the trees
-pub creating_adds : (T U : Tree) (lock : Path) → Creating T lock U → AddsLocks (lock ∷ []) (lock ∷ []) T U
-creating_adds T U lock (inl same) q = inl (ap (λ (R : Tree). R q) same)
-creating_adds T U lock (inr (free, is)) q =
-    either_way (bytes_eq lock q)
-    (λ here. let e = same_path lock q here in
-    inr (
-      subst (λ (p : Path). T p ≡ None) e free.0,
-      subst (λ (n : Option Content). IsOurs (lock ∷ []) (lock ∷ []) q n) (sym (ap (λ (R : Tree). R q) is ∙ subst (λ (p : Path). put T lock (Some (File [])) p ≡ Some (File [])) e (put_at T lock (Some (File []))))) (in_here lock q [] e),
-    ))
-    (λ other. inl (ap (λ (R : Tree). R q) is ∙ put_other T lock q (Some (File [])) (λ e. clash (is_same_path lock q e) other)))
+    there : (content : Option Content) → is_file content ≡ true → is_some content ≡ true
+    there (Some (File bytes)) h = refl
+    there (Some Folder) h = clash h refl
+    there None h = clash h refl
 
 -- it was free, where it is taken
-pub taken_was_free : (s : Store) (T : Tree) (edits : List RefEdit) → (IsPackedLocked s T edits → ⊥) → (q : Path) → is_in (packed_locks s T edits) q ≡ true → T q ≡ None
-taken_was_free s T edits unlocked q = by (ask_packed s edits) (is_file (T s.packed_path)) refl
+pub taken_was_free : (s : Store) (mode : Mode) (T : Tree) (edits : List RefEdit) → (IsPackedLocked s mode T edits → ⊥) → (q : Path) → is_in (packed_locks s mode T edits) q ≡ true → T q ≡ None
+taken_was_free s mode T edits unlocked q = by (ask_packed s edits) (may_change s mode T edits) refl
   where
     nothing : (content : Option Content) → (IsSome content → ⊥) → content ≡ None
     nothing None none = refl

@@ -14,7 +14,7 @@ use Rattle.gix_ref_transaction.specs.Causes.{IsCountedWith}
 use Rattle.gix_ref_transaction.specs.OwnLocks.{is_in, leads_to, AddsLocks, IsOurs, OnlyLocks, OnlyRemoves, RemovesLocks}
 use Rattle.gix_ref_transaction.specs.PrepareSteps.{packed_places, AreWholeLocks, IsPackedPlace, TakesPacked}
 use Rattle.gix_ref_transaction.specs.declared.prepare.error.Error.{Error}
-use Rattle.gix_ref_transaction.specs.declared.prepare.error.Error.TheVariants.{UnsafeName, DeviceName, DeleteMustNotExist, TargetNotFull, OtherHashKind, PreprocessingFailed, PackedTransactionAcquire, Packed, PackedFind, PathCollision, LockAcquire, DeleteReferenceMustExist, MustExist, MustNotExist, ReferenceOutOfDate, ReferenceDecode, Io, Memory}
+use Rattle.gix_ref_transaction.specs.declared.prepare.error.Error.TheVariants.{UnsafeName, DeviceName, DeleteMustNotExist, TargetNotFull, OtherHashKind, PreprocessingFailed, PackedTransactionAcquire, Packed, PackedFind, PackedTransactionPrepare, PathCollision, LockAcquire, DeleteReferenceMustExist, MustExist, MustNotExist, ReferenceOutOfDate, ReferenceDecode, Io, Memory}
 use Rattle.gix_ref_transaction.proofs.Adds.{adds_then, adds_wider, any_cases, any_left, any_right, clash, either_way, in_one}
 
 in_left : (xs ys : List Path) (q : Path) → is_in xs q ≡ true → is_in (xs ++ ys) q ≡ true
@@ -113,6 +113,7 @@ counted_after honest read a b d (DeleteReferenceMustExist name) le told = tt
 counted_after honest read a b d (MustExist name expected) le told = tt
 counted_after honest read a b d (MustNotExist name actual new) le told = tt
 counted_after honest read a b d (ReferenceOutOfDate name expected actual) le told = tt
+counted_after honest read a b d (PackedTransactionPrepare source) le told = tt
 counted_after honest read a b d (ReferenceDecode source) le told = tt
 counted_after honest read a b d Memory le told = tt
 

@@ -1,6 +1,6 @@
 -- One lock less.
 use Rattle.std.proofs.Common.{◌≡◌, ◌⊎◌, inl, inr, ⊎_elim, ℕ, List, [], ◌∷◌, ◌++◌, Bool, true, false, None, refl, sym, ◌∙◌, ap, subst, Vec, take, ◌+◌, ◌≤◌, arith}
-use Rattle.std.specs.Prelude.{bytes_eq, if◌then◌else◌, map, Option}
+use Rattle.std.specs.Prelude.{bytes_eq, if◌then◌else◌, map}
 use Rattle.std.specs.declared.alloc.Global.{Global}
 use Rattle.std.proofs.lemmas.List.{append-nil, map-append, take-map}
 use Rattle.std.proofs.lemmas.Simd.{map-map}
@@ -9,8 +9,7 @@ use Rattle.gix_ref_files.specs.Files.{Meaning, disk_of, Leaves, Passes}
 use Rattle.gix_ref_files.specs.DiskCalls.{RemovingFileOn}
 use Rattle.gix_ref_files.proofs.Moments.{weaken, joins, passes_weaken, passes_joins}
 use Rattle.gix_ref_transaction.specs.OwnLocks.{paths_of, is_in, times, RemovesLocks, OnlyRemoves, AddsLocks}
-use Rattle.gix_ref_transaction.specs.PrepareSteps.{lock_paths, place_paths, places_of, updates, given, all_given}
-use Rattle.gix_ref_hash.specs.declared.hash.ObjectId.{ObjectId}
+use Rattle.gix_ref_transaction.specs.PrepareSteps.{Given, lock_paths, place_paths, places_of, updates, given, all_given}
 use Rattle.gix_ref_transaction.specs.Causes.{locks_of}
 use Rattle.gix_ref_theory.proofs.LockDisks.{removing_among}
 use Rattle.gix_ref_theory.specs.Readings.{Store}
@@ -112,7 +111,7 @@ pub locks_given : (s : Store) (old now : List Own) (n : ℕ) → place_paths old
 locks_given s old now n places same =
     locks_front s (updates old) now n
     (locks_by_places s (updates old) now
-    (sym (map-map (λ (g : RefEdit × Path × Option ObjectId × Option ℕ). g.1) given now)
-    ∙ (ap (map (λ (g : RefEdit × Path × Option ObjectId × Option ℕ). g.1)) same
-    ∙ (map-map (λ (g : RefEdit × Path × Option ObjectId × Option ℕ). g.1) given old
+    (sym (map-map (λ (g : Given). g.1) given now)
+    ∙ (ap (map (λ (g : Given). g.1)) same
+    ∙ (map-map (λ (g : Given). g.1) given old
     ∙ places))))

@@ -8,6 +8,7 @@ use Rattle.gix_ref_files.specs.Tree.{Tree, Path, put}
 use Rattle.gix_ref_files.specs.Tree.Content.{File}
 use Rattle.gix_ref_files.specs.Files.{Meaning, Leaves}
 use Rattle.gix_ref_files.proofs.Moments.{weaken, joins}
+use Rattle.gix_ref_theory.specs.Edits.{Mode}
 use Rattle.gix_ref_transaction.specs.OwnLocks.{is_in, AddsLocks}
 use Rattle.gix_ref_theory.specs.OnRealTrees.{view_of}
 use Rattle.gix_ref_transaction.specs.Causes.{AllValid, IsPossible, IsValidEdit, found, packed_of, IsEditAccepted, IsEditFault, IsIoOrMemory, IsMismatch, NoCause, IsFirstCause, LocksAreApart, IsLockable, locks_of}
@@ -118,13 +119,13 @@ module _ (s : Store) (kind : Kind) (edits : List RefEdit) (apart : LocksAreApart
     file_as_first : has_file_at s one.tree edit ≡ has_file_at s T0 edit
     file_as_first = same_has_file s kind edits apart T0 seen known edit within mid.tree held one.tree adds' new' place_apart
 
-    effect_as_first : effect_on s (view_of one.tree) edit ≡ effect_on s (view_of T0) edit
-    effect_as_first = same_effect s kind edits apart T0 seen known edit within mid.tree held one.tree adds' new' place_apart
+    effect_as_first : (mode : Mode) → effect_on s mode (view_of one.tree) edit ≡ effect_on s mode (view_of T0) edit
+    effect_as_first mode = same_effect s kind edits apart T0 seen known edit within mid.tree held one.tree adds' new' place_apart mode
 
-    pub texts_then : (T : Tree) → HoldTexts s T0 mid.tree seen → T ≡ put one.tree lock (Some (File (lock_text (effect_on s (view_of one.tree) edit)))) → HoldTexts s T0 T (take (i + 1) edits)
-    texts_then T texts filled = subst (λ l. HoldTexts s T0 T l) (sym more)
-        (texts_more s kind edits apart T0 seen known edit within mid.tree held one.tree adds' new' T texts
-        (subst (λ e. T ≡ put one.tree (lock_of (s.place (name_of edit))) (Some (File (lock_text e)))) effect_as_first (subst (λ l. T ≡ put one.tree l (Some (File (lock_text (effect_on s (view_of one.tree) edit))))) at filled)))
+    pub texts_then : (mode : Mode) (T : Tree) → HoldTexts s mode T0 mid.tree seen → T ≡ put one.tree lock (Some (File (lock_text (effect_on s mode (view_of one.tree) edit)))) → HoldTexts s mode T0 T (take (i + 1) edits)
+    texts_then mode T texts filled = subst (λ l. HoldTexts s mode T0 T l) (sym more)
+        (texts_more s kind edits apart T0 seen known edit within mid.tree held one.tree adds' new' mode T texts
+        (subst (λ e. T ≡ put one.tree (lock_of (s.place (name_of edit))) (Some (File (lock_text e)))) (effect_as_first mode) (subst (λ l. T ≡ put one.tree l (Some (File (lock_text (effect_on s mode (view_of one.tree) edit))))) at filled)))
 
     pub found_then : (es : List Edit) (e : Edit) → targets_of es ≡ old_targets s T0 seen → value_of e.found ≡ found s (view_of one.tree) (name_of edit) → targets_of (es ++ e ∷ []) ≡ old_targets s T0 (take (i + 1) edits)
     found_then es e before here =
@@ -142,13 +143,13 @@ module _ (s : Store) (kind : Kind) (edits : List RefEdit) (apart : LocksAreApart
         ∙ sym (map-append (has_file_at s T0) seen (edit ∷ []))
         ∙ ap (files_at s T0) (sym more)
 
-    pub effects_then : (es : List Edit) (e : Edit) → effects_of es ≡ effects_on s (view_of T0) seen → effect_value e.update.change e.effect ≡ effect_on s (view_of one.tree) edit → effects_of (es ++ e ∷ []) ≡ effects_on s (view_of T0) (take (i + 1) edits)
-    effects_then es e before here =
+    pub effects_then : (mode : Mode) (es : List Edit) (e : Edit) → effects_of es ≡ effects_on s mode (view_of T0) seen → effect_value e.update.change e.effect ≡ effect_on s mode (view_of one.tree) edit → effects_of (es ++ e ∷ []) ≡ effects_on s mode (view_of T0) (take (i + 1) edits)
+    effects_then mode es e before here =
         map-append (λ (x : Edit). effect_value x.update.change x.effect) es (e ∷ [])
         ∙ ap (λ l. l ++ effect_value e.update.change e.effect ∷ []) before
-        ∙ ap (λ w. effects_on s (view_of T0) seen ++ w ∷ []) (here ∙ effect_as_first)
-        ∙ sym (map-append (effect_on s (view_of T0)) seen (edit ∷ []))
-        ∙ ap (effects_on s (view_of T0)) (sym more)
+        ∙ ap (λ w. effects_on s mode (view_of T0) seen ++ w ∷ []) (here ∙ effect_as_first mode)
+        ∙ sym (map-append (effect_on s mode (view_of T0)) seen (edit ∷ []))
+        ∙ ap (effects_on s mode (view_of T0)) (sym more)
 
     -- one lock more that can be taken
     pub lockable_then : AreLockable s kind T0 (take (i + 1) edits) (drop (i + 1) edits) → AreLockable s kind T0 seen (drop i edits)

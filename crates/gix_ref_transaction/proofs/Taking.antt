@@ -6,6 +6,7 @@ use Rattle.gix_ref_hash.specs.declared.hash.Kind.{Kind}
 use Rattle.gix_ref_files.specs.Tree.{Tree, Path, Content, fronts, is_file, is_blocked, put}
 use Rattle.gix_ref_files.specs.Tree.Content.{File}
 use Rattle.gix_ref_files.proofs.Puts.{put_at, put_other}
+use Rattle.gix_ref_theory.specs.Edits.{Mode}
 use Rattle.gix_ref_transaction.specs.OwnLocks.{is_in, leads_to, IsOurs, AddsLocks}
 use Rattle.gix_ref_theory.specs.OnRealTrees.{view_of, file_of}
 use Rattle.gix_ref_transaction.specs.Causes.{found, found_by, decoded, packed_id, packed_of, IsEditFault, IsLockable, LocksAreApart, locks_of}
@@ -15,7 +16,7 @@ use Rattle.gix_ref_edits.specs.RefEdits.{name_of}
 use Rattle.gix_ref_files.specs.Lock.{lock_of}
 use Rattle.gix_ref_edits.specs.declared.transaction.RefEdit.{RefEdit}
 use Rattle.gix_ref_transaction.specs.declared.prepare.error.Error.{Error}
-use Rattle.gix_ref_transaction.specs.declared.prepare.error.Error.TheVariants.{UnsafeName, DeviceName, DeleteMustNotExist, TargetNotFull, OtherHashKind, PreprocessingFailed, PackedTransactionAcquire, Packed, PackedFind, PathCollision, LockAcquire, DeleteReferenceMustExist, MustExist, MustNotExist, ReferenceOutOfDate, ReferenceDecode, Io, Memory}
+use Rattle.gix_ref_transaction.specs.declared.prepare.error.Error.TheVariants.{UnsafeName, DeviceName, DeleteMustNotExist, TargetNotFull, OtherHashKind, PreprocessingFailed, PackedTransactionAcquire, Packed, PackedFind, PackedTransactionPrepare, PathCollision, LockAcquire, DeleteReferenceMustExist, MustExist, MustNotExist, ReferenceOutOfDate, ReferenceDecode, Io, Memory}
 use Rattle.gix_ref_transaction.proofs.LookupLemmas.{effect_alike}
 use Rattle.gix_ref_transaction.proofs.Adds.{clash, is_false, either_way, any_left, any_right, any_cases, in_one, in_here, any_same, leads_in, leads_one, no_way, adds_wider, adds_then, same_view, same_lock, same_path, is_same_path}
 
@@ -38,14 +39,14 @@ front_in s kind edits n q h =
     (rw map-append (any_left (λ p. bytes_eq p q) (locks_of s (take n edits)) (locks_of s (drop n edits)) h))
 
 -- the texts of some locks, in another tree that has these locks too
-pub hold_on : (s : Store) (kind : Kind) (before S T : Tree) (edits : List RefEdit) → ((q : Path) → is_file (S q) ≡ true → T q ≡ S q) → HoldTexts s before S edits → HoldTexts s before T edits
-hold_on s kind before S T [] same holds = tt
-hold_on s kind before S T (edit ∷ edits) same holds =
-    (same (lock_of (s.place (name_of edit))) (ap is_file holds.0) ∙ holds.0, hold_on s kind before S T edits same holds.1)
+pub hold_on : (mode : Mode) (s : Store) (kind : Kind) (before S T : Tree) (edits : List RefEdit) → ((q : Path) → is_file (S q) ≡ true → T q ≡ S q) → HoldTexts s mode before S edits → HoldTexts s mode before T edits
+hold_on mode s kind before S T [] same holds = tt
+hold_on mode s kind before S T (edit ∷ edits) same holds =
+    (same (lock_of (s.place (name_of edit))) (ap is_file holds.0) ∙ holds.0, hold_on mode s kind before S T edits same holds.1)
 
-pub hold_more : (s : Store) (kind : Kind) (before T : Tree) (edits : List RefEdit) (edit : RefEdit) → HoldTexts s before T edits → T (lock_of (s.place (name_of edit))) ≡ Some (File (lock_text (effect_on s (view_of before) edit))) → HoldTexts s before T (edits ++ edit ∷ [])
-hold_more s kind before T [] edit holds here = (here, tt)
-hold_more s kind before T (e ∷ edits) edit holds here = (holds.0, hold_more s kind before T edits edit holds.1 here)
+pub hold_more : (mode : Mode) (s : Store) (kind : Kind) (before T : Tree) (edits : List RefEdit) (edit : RefEdit) → HoldTexts s mode before T edits → T (lock_of (s.place (name_of edit))) ≡ Some (File (lock_text (effect_on s mode (view_of before) edit))) → HoldTexts s mode before T (edits ++ edit ∷ [])
+hold_more mode s kind before T [] edit holds here = (here, tt)
+hold_more mode s kind before T (e ∷ edits) edit holds here = (holds.0, hold_more mode s kind before T edits edit holds.1 here)
 
 module _ (s : Store) (kind : Kind) (edits : List RefEdit) (apart : LocksAreApart s edits) (T0 : Tree) where
   abbrev all : List Path
@@ -90,6 +91,7 @@ module _ (s : Store) (kind : Kind) (edits : List RefEdit) (apart : LocksAreApart
     refused (MustExist name expected) why = absurd why
     refused (MustNotExist name actual new) why = absurd why
     refused (ReferenceOutOfDate name expected actual) why = absurd why
+    refused (PackedTransactionPrepare source) why = absurd why
     refused (ReferenceDecode source) why = absurd why
 
     wider : (xs : List Path) (S U : Tree) → AddsLocks xs (lock ∷ []) S U → AddsLocks xs all S U
@@ -139,8 +141,8 @@ module _ (s : Store) (kind : Kind) (edits : List RefEdit) (apart : LocksAreApart
         pub same_has_file : has_file_at s U edit ≡ has_file_at s T0 edit
         same_has_file = ap is_some (same_file (s.place (name_of edit)) apart_place)
 
-        pub same_effect : effect_on s (view_of U) edit ≡ effect_on s (view_of T0) edit
-        same_effect = effect_alike s (view_of U) (view_of T0) edit (same_file (s.place (name_of edit)) apart_place) (same_file s.packed_path apart.packed)
+        pub same_effect : (mode : Mode) → effect_on s mode (view_of U) edit ≡ effect_on s mode (view_of T0) edit
+        same_effect mode = effect_alike mode s (view_of U) (view_of T0) edit (same_file (s.place (name_of edit)) apart_place) (same_file s.packed_path apart.packed)
 
       -- with a text in it
       pub filling : (W : Tree) → FillsLock U lock W → AddsLocks (locks_of s (seen ++ edit ∷ [])) all T0 W
@@ -184,6 +186,6 @@ module _ (s : Store) (kind : Kind) (edits : List RefEdit) (apart : LocksAreApart
       }
 
       -- and its text
-      pub texts_more : (W : Tree) → HoldTexts s T0 T seen → W ≡ put U lock (Some (File (lock_text (effect_on s (view_of T0) edit)))) → HoldTexts s T0 W (seen ++ edit ∷ [])
-      texts_more W texts is =
-          hold_more s kind T0 W seen edit (hold_on s kind T0 T W seen (λ q a_file. still_file W (inr (_, is)) q (taken_apart q a_file) a_file) texts) (ap (λ (t : Tree). t lock) is ∙ put_at U lock _)
+      pub texts_more : (mode : Mode) (W : Tree) → HoldTexts s mode T0 T seen → W ≡ put U lock (Some (File (lock_text (effect_on s mode (view_of T0) edit)))) → HoldTexts s mode T0 W (seen ++ edit ∷ [])
+      texts_more mode W texts is =
+          hold_more mode s kind T0 W seen edit (hold_on mode s kind T0 T W seen (λ q a_file. still_file W (inr (_, is)) q (taken_apart q a_file) a_file) texts) (ap (λ (t : Tree). t lock) is ∙ put_at U lock _)

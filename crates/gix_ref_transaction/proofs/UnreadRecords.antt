@@ -17,7 +17,7 @@ use Rattle.gix_ref_transaction.specs.PackedCauses.{as_cause}
 use Rattle.gix_ref_transaction.specs.PrepareSteps.{all_asked, updates}
 use Rattle.gix_ref_transaction.specs.declared.edit.Edit.{Edit}
 use Rattle.gix_ref_transaction.specs.declared.prepare.error.Error.{Error}
-use Rattle.gix_ref_transaction.specs.declared.prepare.error.Error.TheVariants.{UnsafeName, DeviceName, DeleteMustNotExist, PackedTransactionAcquire, DeleteReferenceMustExist, TargetNotFull, OtherHashKind, PreprocessingFailed, Packed, PackedFind, PathCollision, LockAcquire, MustExist, MustNotExist, ReferenceOutOfDate, ReferenceDecode, Io, Memory as NoMemory}
+use Rattle.gix_ref_transaction.specs.declared.prepare.error.Error.TheVariants.{UnsafeName, DeviceName, DeleteMustNotExist, PackedTransactionAcquire, DeleteReferenceMustExist, TargetNotFull, OtherHashKind, PreprocessingFailed, Packed, PackedFind, PackedTransactionPrepare, PathCollision, LockAcquire, MustExist, MustNotExist, ReferenceOutOfDate, ReferenceDecode, Io, Memory as NoMemory}
 use Rattle.gix_ref_transaction.specs.internal.StuckRecords.{IsStuckKey}
 use Rattle.gix_ref_transaction.proofs.PackedLemmas.{updates_alike}
 
@@ -45,6 +45,7 @@ no_find P before now TargetNotFull counted = tt
 no_find P before now OtherHashKind counted = tt
 no_find P before now (PreprocessingFailed source) counted = tt
 no_find P before now PackedTransactionAcquire counted = tt
+no_find P before now (PackedTransactionPrepare error) counted = tt
 no_find P before now (PathCollision name) counted = tt
 no_find P before now (LockAcquire name) counted = tt
 no_find P before now (DeleteReferenceMustExist name) counted = tt
@@ -65,6 +66,7 @@ find_wider P Q TargetNotFull wider holds = tt
 find_wider P Q OtherHashKind wider holds = tt
 find_wider P Q (PreprocessingFailed source) wider holds = tt
 find_wider P Q PackedTransactionAcquire wider holds = tt
+find_wider P Q (PackedTransactionPrepare error) wider holds = tt
 find_wider P Q (PathCollision name) wider holds = tt
 find_wider P Q (LockAcquire name) wider holds = tt
 find_wider P Q (DeleteReferenceMustExist name) wider holds = tt

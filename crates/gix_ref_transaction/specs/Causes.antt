@@ -1,5 +1,5 @@
 -- Why `prepare` refuses edits: each cause as a statement on the tree before the call, and the order in which they are reported.
-use Rattle.std.specs.Prelude.{◌≡◌, ◌≢◌, ◌⊎◌, ℕ, List, [], ◌∷◌, Bool, true, false, ◌&&◌, Option, Some, None, IsSome, is_some, map, All, if◌then◌else◌}
+use Rattle.std.specs.Prelude.{◌≡◌, ◌≢◌, ◌⊎◌, ℕ, List, [], ◌∷◌, Bool, true, false, ◌&&◌, ◌||◌, Option, Some, None, IsSome, is_some, map, All, if◌then◌else◌}
 use Rattle.std.specs.List.{list_any, Any}
 use Rattle.std.specs.Option.{option_map}
 use Rattle.gix_ref_hash.specs.Ids.{id_kind, null_id, IsWhole}
@@ -21,6 +21,7 @@ use Rattle.gix_ref_packed.specs.Buffers.{IsRefusedFile}
 use Rattle.gix_ref_packed.specs.declared.packed.buffer.open.Error.TheVariants.{Io as unread}
 use Rattle.gix_ref_lookup.specs.Lookups.{ArePackedRecords, IsOpenedText, OfKey}
 use Rattle.gix_ref_records.specs.Positions.{CannotRead}
+use Rattle.gix_ref_theory.specs.Edits.{Mode, is_object, packs_updates, removes_packed}
 use Rattle.gix_ref_theory.specs.Readings.{Store, as_read, records_of_file}
 use Rattle.gix_ref_base.specs.Locations.{is_safe}
 use Rattle.gix_ref_transaction.specs.OwnLocks.{is_in}
@@ -194,24 +195,48 @@ has_key s edit = is_of_reference (mode_of edit.change) && is_some (s.key (name_o
 abbrev pub ask_packed : Store → List RefEdit → Bool
 ask_packed s edits = list_any (has_key s) edits
 
+-- an update to an object
+abbrev pub is_new_object : Option TargetValue → Bool
+is_new_object None = false
+is_new_object (Some target) = is_object target
+
+abbrev pub updates_object : Change → Bool
+updates_object change = is_new_object (new_of change)
+
+-- an edit that puts the object of an update into `packed-refs`
+abbrev pub packs_edit : Store → Mode → RefEdit → Bool
+packs_edit s mode edit = (packs_updates mode && updates_object edit.change) && has_key s edit
+
+-- and whose loose file is removed
+abbrev pub goes_alone : Store → Mode → RefEdit → Bool
+goes_alone s mode edit = removes_packed mode && packs_edit s mode edit
+
 -- something is at the path of a lock, or a file is in the way of it
 abbrev pub IsInTheWay : Tree → Path → Type 0
 IsInTheWay T lock = IsSome (T lock) ⊎ (is_blocked T lock ≡ true)
 
+-- some edit puts an object into `packed-refs`
+abbrev pub packs_some : Store → Mode → List RefEdit → Bool
+packs_some s mode edits = list_any (packs_edit s mode) edits
+
+-- `packed-refs` may change: it is a file, or an object is put into it
+abbrev pub may_change : Store → Mode → Tree → List RefEdit → Bool
+may_change s mode T edits = is_file (T s.packed_path) || packs_some s mode edits
+
 -- It is asked for and cannot be taken: something is at its path, or it is to be taken and a file is in the way of it.
-abbrev pub IsPackedLocked : Store → Tree → List RefEdit → Type 0
-IsPackedLocked s T edits =
+abbrev pub IsPackedLocked : Store → Mode → Tree → List RefEdit → Type 0
+IsPackedLocked s mode T edits =
     (ask_packed s edits ≡ true)
     × (IsSome (T (lock_of s.packed_path))
-    ⊎ ((is_file (T s.packed_path) ≡ true) × IsInTheWay T (lock_of s.packed_path)))
+    ⊎ ((may_change s mode T edits ≡ true) × IsInTheWay T (lock_of s.packed_path)))
 
-abbrev pub IsPackedCause : Store → Tree → List RefEdit → Error → Type 0
-IsPackedCause s T edits PackedTransactionAcquire = IsPackedLocked s T edits
-IsPackedCause s T edits other = ⊥
+abbrev pub IsPackedCause : Store → Mode → Tree → List RefEdit → Error → Type 0
+IsPackedCause s mode T edits PackedTransactionAcquire = IsPackedLocked s mode T edits
+IsPackedCause s mode T edits other = ⊥
 
--- It is taken where `packed-refs` is a file: the place of the lock, or none.
-abbrev pub packed_taken : Store → Tree → List RefEdit → List Path
-packed_taken s T edits = if ask_packed s edits && is_file (T s.packed_path)
+-- It is taken where `packed-refs` may change: the place of the lock, or none.
+abbrev pub packed_taken : Store → Mode → Tree → List RefEdit → List Path
+packed_taken s mode T edits = if ask_packed s edits && may_change s mode T edits
     then s.packed_path ∷ [] else []
 
 -- What is found of a reference: its reading, with a file that holds no target counted as none.
@@ -301,11 +326,12 @@ module _ (s : Store) (kind : Kind) (T : Tree) where
       IsIoOrMemory error ⊎ (IsUnlockable earlier edit error ⊎ (IsLockable earlier edit
       × IsMismatch kind edit (found s (view_of T) (name_of edit)) error))
 
--- The lock of `packed-refs` is not that of an edit, nor on the way to it, nor its place.
+-- The lock of `packed-refs` is not that of an edit, nor on the way to it, nor its place; nor is that of the edit on the way to it.
 pub record IsApartFromPacked (s : Store) (edit : RefEdit) : Type 0 where
   pub lock : lock_of (s.place (name_of edit)) ≢ lock_of s.packed_path
   pub way : is_in (fronts (lock_of (s.place (name_of edit)))) (lock_of s.packed_path) ≡ false
   pub place : s.place (name_of edit) ≢ lock_of s.packed_path
+  pub behind : is_in (fronts (lock_of s.packed_path)) (lock_of (s.place (name_of edit))) ≡ false
 
 -- No lock lies at a place, at `packed-refs` or on the way to a lock.
 pub record LocksAreApart (s : Store) (edits : List RefEdit) : Type 0 where
@@ -316,6 +342,7 @@ pub record LocksAreApart (s : Store) (edits : List RefEdit) : Type 0 where
   pub packed : is_in (locks_of s edits) s.packed_path ≡ false
   pub packed_locks : All (IsApartFromPacked s) edits
   pub packed_lock : s.packed_path ≢ lock_of s.packed_path
+  pub packed_way : is_in (fronts (lock_of s.packed_path)) s.packed_path ≡ false
 
 -- No edit has a cause to be refused, each after those before it.
 abbrev pub NoCause : Store → Kind → Tree → List RefEdit → List RefEdit → Type 0
@@ -326,14 +353,10 @@ abbrev pub IsFirstCause : Store → Kind → Tree → List RefEdit → List RefE
 IsFirstCause s kind T seen edits error = FirstFault (IsEditAccepted s kind T)
     (IsEditFault s kind T) seen edits error
 
--- The cause of the locks: that of `packed-refs` comes first.
-abbrev pub IsLockCause : Store → Kind → Tree → List RefEdit → Error → Type 0
-IsLockCause s kind T edits error = IsPackedCause s T edits error
-    ⊎ ((IsPackedLocked s T edits → ⊥) × IsFirstCause s kind T [] edits error)
-
 -- no cause applies
-pub record IsAccepted (s : Store) (kind : Kind) (T : Tree) (edits : List RefEdit) : Type 0 where
+pub record IsAccepted
+    (s : Store) (mode : Mode) (kind : Kind) (T : Tree) (edits : List RefEdit) : Type 0 where
   pub sound : AllValid s kind [] edits
   pub single : NoneDoubled (names_of edits)
-  pub unlocked : IsPackedLocked s T edits → ⊥
+  pub unlocked : IsPackedLocked s mode T edits → ⊥
   pub no_cause : NoCause s kind T [] edits

@@ -6,6 +6,7 @@ use Rattle.gix_ref_files.specs.Settled.{IsWholeAt}
 use Rattle.gix_ref_files.specs.Tree.{Tree, Path}
 use Rattle.gix_ref_files.specs.Tree.Content.{File}
 use Rattle.gix_ref_theory.specs.OnRealTrees.{view_of}
+use Rattle.gix_ref_theory.specs.Edits.{Mode}
 use Rattle.gix_ref_theory.specs.Readings.{Store}
 use Rattle.gix_ref_edits.specs.RefEdits.{name_of}
 use Rattle.gix_ref_transaction.specs.Causes.{packed_of, IsCounted, IsIoOrMemory, IsPossible}
@@ -69,8 +70,9 @@ module _ {F : Type 0} (honest : Type 0) (means : F → Meaning) (faults : F → 
 
 -- What was found and decided of an edit with the id of its record is by the files before, if its lock was empty; and its lock is whole, if it
 -- was.
-pub record IsWritten (s : Store) (old new : Meaning) (before now : Edit) : Type 0 where
+pub record IsWritten
+    (s : Store) (mode : Mode) (old new : Meaning) (before now : Edit) : Type 0 where
   pub decided : HasItsId s old.tree before → old.tree (lock_of before.lock) ≡ Some (File []) →
-      IsDecided s old.tree new.tree before now
+      IsDecided s mode old.tree new.tree before now
   pub whole : IsWholeAt (disk_of old) (lock_of before.lock) [] →
       IsSomeWhole (disk_of new) (lock_of before.lock)

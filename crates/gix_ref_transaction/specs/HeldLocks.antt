@@ -6,6 +6,7 @@ use Rattle.gix_ref_files.specs.Files.{Meaning, disk_of, Leaves}
 use Rattle.gix_ref_files.specs.Lock.{lock_of}
 use Rattle.gix_ref_files.specs.Tree.{Tree, Path}
 use Rattle.gix_ref_theory.specs.OnRealTrees.{view_of}
+use Rattle.gix_ref_theory.specs.Edits.{Mode}
 use Rattle.gix_ref_theory.specs.Readings.{Store}
 use Rattle.gix_ref_edits.specs.declared.transaction.RefEdit.{RefEdit}
 use Rattle.gix_ref_transaction.specs.Causes.{locks_of, packed_taken, AllValid, IsCounted, IsCountedWith, IsFindCause, IsFirstCause, IsIoOrMemory, IsPackedLocked, IsPackedRefusal, IsPackedWell, LocksAreApart}
@@ -33,20 +34,21 @@ pub record OnlyTakes {F : Type 0} (honest : Type 0) (means : F → Meaning) (fau
   pub no_fewer : faults before ≤ faults now
 
 -- All locks of these edits are taken: where the records are `known`, each edit is settled; each lock could be taken, and has a whole text.
-pub record AreTaken (known : Type 0) (s : Store) (kind : Kind) (locks : List Path)
+pub record AreTaken (known : Type 0) (s : Store) (mode : Mode) (kind : Kind) (locks : List Path)
     (old new : Meaning) (before now : List Edit) : Type 0 where
-  pub settled : known → AreSettled s kind old.tree new.tree before now
+  pub settled : known → AreSettled s mode kind old.tree new.tree before now
   pub lockable : AreLockable s kind old.tree [] (updates before)
   pub whole : AreWholeLocks (disk_of new) locks
 
 -- All locks of these edits are held: what is asked for and the room for what remains are the same; on honest files nothing was added but the
 -- locks and folders that lead to them, and all are taken.
-pub record HoldAllLocks (honest known : Type 0) (s : Store) (kind : Kind) (locks : List Path)
+pub record HoldAllLocks
+    (honest known : Type 0) (s : Store) (mode : Mode) (kind : Kind) (locks : List Path)
     (old new : Meaning) (before now : List Edit) (room rest : Remains) : Type 0 where
   pub asked : all_asked now ≡ all_asked before
   pub remains : rest ≡ room
   pub adds : honest → AddsLocks locks locks old.tree new.tree
-  pub taken : honest → AreTaken known s kind locks old new before now
+  pub taken : honest → AreTaken known s mode kind locks old new before now
 
 -- So many edits at the beginning have their locks: these were free, and nothing else was added but folders that lead to a lock.
 pub record FirstAreTaken (honest : Type 0) (s : Store) (edits : List Edit) (n : ℕ)
@@ -58,12 +60,13 @@ pub record FirstAreTaken (honest : Type 0) (s : Store) (edits : List Edit) (n : 
       old q ≡ None
 
 -- The lock of `packed-refs` is held where it is due: it is an empty file, and nothing was in the way of it.
-pub record HoldsPackedLock (honest : Type 0) (s : Store) (old new : Tree) (edits : List RefEdit)
+pub record HoldsPackedLock
+    (honest : Type 0) (s : Store) (mode : Mode) (old new : Tree) (edits : List RefEdit)
     (packed : Option Path) : Type 0 where
   pub place : IsPackedPlace s packed
-  pub due : honest → packed_places packed ≡ packed_taken s old edits
+  pub due : honest → packed_places packed ≡ packed_taken s mode old edits
   pub empty : honest → AreEmpty new (map lock_of (packed_places packed))
-  pub free : honest → IsPackedLocked s old edits → ⊥
+  pub free : honest → IsPackedLocked s mode old edits → ⊥
 
 module _ {F : Type 0} (honest : Type 0) (means : F → Meaning) (faults : F → ℕ) where
   -- Why the locks of edits with the ids of their records are not taken: the first cause; and `Io` only where the count of faults rose.

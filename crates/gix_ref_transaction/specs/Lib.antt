@@ -10,7 +10,9 @@ pub mod LeftLocks
 pub mod OwnLocks
 pub mod PackedCauses
 pub mod PackedLock
+pub mod Packing
 pub mod Parents
+pub mod Peels
 pub mod PrepareSteps
 pub mod SplitOutcomes
 pub mod Splits

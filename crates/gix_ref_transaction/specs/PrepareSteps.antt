@@ -13,13 +13,12 @@ use Rattle.gix_ref_files.specs.Lock.{lock_of}
 use Rattle.gix_ref_theory.specs.OnRealTrees.{view_of}
 use Rattle.gix_ref_hash.specs.declared.hash.Kind.{Kind}
 use Rattle.gix_ref_hash.specs.declared.hash.ObjectId.{ObjectId}
-use Rattle.gix_ref_theory.specs.Edits.{Effect, effect, is_same_id}
+use Rattle.gix_ref_theory.specs.Edits.{Effect, Mode, effect, is_same_id}
 use Rattle.gix_ref_theory.specs.Edits.Effect.{Writes, Removes, Keeps}
-use Rattle.gix_ref_theory.specs.Edits.Mode.{DeletionsOnly}
 use Rattle.gix_ref_theory.specs.Views.{View}
 use Rattle.gix_ref_theory.specs.Readings.{Store}
 use Rattle.gix_ref_lookup.specs.Lookups.{meaning_in}
-use Rattle.gix_ref_transaction.specs.OwnLocks.{is_in}
+use Rattle.gix_ref_transaction.specs.OwnLocks.{is_in, AddsLocks}
 use Rattle.gix_ref_transaction.specs.Causes.{found, locks_of, packed_of, packed_taken, IsLockable, NoCause}
 use Rattle.gix_ref_transaction.specs.CarriedEdits.{edit_of}
 use Rattle.gix_ref_edits.specs.RefEdits.{name_of, new_of, expected_of, mode_of, is_of_reference, Expects}
@@ -32,6 +31,7 @@ use Rattle.gix_ref_lookup.specs.declared.find.loose.Loose.TheVariants as loose_f
 use Rattle.gix_ref_theory.specs.ConcreteStore.{loose_text}
 use Rattle.gix_ref_transaction.specs.First.{AllPass}
 use Rattle.gix_ref_transaction.specs.declared.edit.Edit.{Edit}
+use Rattle.gix_ref_transaction.specs.declared.edit.PackedObject.{PackedObject}
 use Rattle.gix_ref_transaction.specs.declared.edit.Effect.{Effect as Decision}
 use Rattle.gix_ref_transaction.specs.declared.edit.Effect.TheVariants.{Write, Remove, Keep}
 use Rattle.gix_ref_transaction.specs.declared.prepare.error.Error.{Error}
@@ -61,16 +61,23 @@ place_paths edits = map (λ (e : Edit). e.lock) edits
 abbrev pub all_asked : List Edit → List (RefEdit × Path × Option ℕ)
 all_asked edits = map (λ (e : Edit). (e.update, e.lock, e.parent)) edits
 
--- and with the id of the record, which stays while locks are taken
-abbrev pub given : Edit → RefEdit × Path × Option ObjectId × Option ℕ
-given e = (e.update, e.lock, e.packed, e.parent)
+-- and with the id of the record and what is put into `packed-refs`, which stay while locks are taken
+abbrev pub Given : Type 0
+Given = RefEdit × Path × Option ObjectId × Option ℕ × Option PackedObject
 
-abbrev pub all_given : List Edit → List (RefEdit × Path × Option ObjectId × Option ℕ)
+abbrev pub given : Edit → Given
+given e = (e.update, e.lock, e.packed, e.parent, e.put)
+
+abbrev pub all_given : List Edit → List Given
 all_given edits = map given edits
 
 -- the ids that the edits have of their records
 abbrev pub ids_in : List Edit → List (Option ObjectId)
 ids_in edits = map (λ (e : Edit). e.packed) edits
+
+-- what the edits put into `packed-refs`
+abbrev pub puts_in : List Edit → List (Option PackedObject)
+puts_in edits = map (λ (e : Edit). e.put) edits
 
 -- the places of edits
 abbrev pub places_of : Store → List RefEdit → List Path
@@ -78,14 +85,14 @@ places_of s edits = map (λ (edit : RefEdit). s.place (name_of edit)) edits
 
 -- All locks of a transaction that begins with this tree, and their places: that of `packed-refs`, where it is taken, and one for each
 -- edit.
-abbrev pub own_places : Store → Tree → List RefEdit → List Path
-own_places s T edits = packed_taken s T edits ++ places_of s edits
+abbrev pub own_places : Store → Mode → Tree → List RefEdit → List Path
+own_places s mode T edits = packed_taken s mode T edits ++ places_of s edits
 
-abbrev pub packed_locks : Store → Tree → List RefEdit → List Path
-packed_locks s T edits = map lock_of (packed_taken s T edits)
+abbrev pub packed_locks : Store → Mode → Tree → List RefEdit → List Path
+packed_locks s mode T edits = map lock_of (packed_taken s mode T edits)
 
-abbrev pub own_locks : Store → Tree → List RefEdit → List Path
-own_locks s T edits = packed_locks s T edits ++ locks_of s edits
+abbrev pub own_locks : Store → Mode → Tree → List RefEdit → List Path
+own_locks s mode T edits = packed_locks s mode T edits ++ locks_of s edits
 
 -- those that it can have
 abbrev pub possible_locks : Store → List RefEdit → List Path
@@ -107,11 +114,12 @@ IsPackedPlace s packed = (packed ≡ None) ⊎ (packed ≡ Some s.packed_path)
 abbrev pub held_locks : Option Path → List Edit → List Path
 held_locks packed edits = map lock_of (packed_places packed) ++ lock_paths edits
 
--- The lock of `packed-refs` was taken, or not: it was free, and is an empty file.
+-- The lock of `packed-refs` was taken, or not: it was free, and nothing else was added but folders that lead to it.
 abbrev pub TakesPacked : (before : Tree) → Option Path → Tree → Type 0
 TakesPacked before None T = T ≡ before
 TakesPacked before (Some place) T = (before (lock_of place) ≡ None)
-    × (T ≡ put before (lock_of place) (Some (File [])))
+    × (T (lock_of place) ≡ Some (File []))
+    × AddsLocks (lock_of place ∷ []) (lock_of place ∷ []) before T
 
 -- why a lock is not taken in this tree
 abbrev pub IsRefusedLock : Tree → List ℕ → Path → Error → Type 0
@@ -156,8 +164,8 @@ is_damaged s None = false
 is_damaged s (Some bytes) = is_none (s.target_of bytes)
 
 -- What becomes of the loose file of an edit among these files: it is decided once, as the lock gets its text.
-abbrev pub effect_on : Store → View → RefEdit → Effect
-effect_on s view edit = effect s DeletionsOnly view (edit_of edit)
+abbrev pub effect_on : Store → Mode → View → RefEdit → Effect
+effect_on s mode view edit = effect s mode view (edit_of edit)
 
 -- the file is written
 abbrev pub is_written : Effect → Bool
@@ -172,11 +180,11 @@ lock_text Removes = []
 lock_text Keeps = []
 
 -- The lock of each of these edits is in T, with its whole text by what was there before.
-abbrev pub HoldTexts : Store → (before T : Tree) → List RefEdit → Type 0
-HoldTexts s before T [] = Unit {0}
-HoldTexts s before T (edit ∷ edits) =
+abbrev pub HoldTexts : Store → Mode → (before T : Tree) → List RefEdit → Type 0
+HoldTexts s mode before T [] = Unit {0}
+HoldTexts s mode before T (edit ∷ edits) =
     (T (lock_of (s.place (name_of edit))) ≡ Some
-    (File (lock_text (effect_on s (view_of before) edit)))) × HoldTexts s before T edits
+    (File (lock_text (effect_on s mode (view_of before) edit)))) × HoldTexts s mode before T edits
 
 -- On the disk D a lock is whole: all of its text is synced.
 abbrev pub IsSomeWhole : Disk → Path → Type 0
@@ -214,15 +222,18 @@ is_undecodable other = false
 abbrev pub is_new : TargetValue → (old : Option TargetValue) → (damaged : Bool) → Bool
 is_new new old damaged = damaged || not (is_found old new)
 
--- The decision: an update of a reference writes where it changes it, and a deletion removes; an edit of the log alone leaves the file.
-abbrev pub decision_of : Option TargetValue → (old : Option TargetValue) →
+-- The decision: an update of a reference removes where it goes into `packed-refs` `alone`, and else writes where it changes it; a deletion
+-- removes; an edit of the log alone leaves the file.
+abbrev pub decision_of : Option TargetValue → (alone : Bool) → (old : Option TargetValue) →
     (damaged : Bool) → Decision
-decision_of None old damaged = Remove
-decision_of (Some new) old damaged = if is_new new old damaged then Write else Keep
+decision_of None alone old damaged = Remove
+decision_of (Some new) alone old damaged =
+    if alone then Remove else if is_new new old damaged then Write else Keep
 
-abbrev pub decision : Change → (old : Option TargetValue) → (damaged : Bool) → Decision
-decision change old damaged = if is_of_reference (mode_of change)
-    then decision_of (new_of change) old damaged else Keep
+abbrev pub decision : Change → (alone : Bool) → (old : Option TargetValue) →
+    (damaged : Bool) → Decision
+decision change alone old damaged = if is_of_reference (mode_of change)
+    then decision_of (new_of change) alone old damaged else Keep
 
 -- the text of a new target
 abbrev pub text_of_new : Option TargetValue → List ℕ
@@ -240,14 +251,15 @@ abbrev pub has_file_at : Store → Tree → RefEdit → Bool
 has_file_at s T edit = is_some (view_of T (s.place (name_of edit)))
 
 -- What was found and decided of an edit is by the files before, the edit expects what was found, and its lock has its text.
-pub record IsDecided (s : Store) (before T : Tree) (old new : Edit) : Type 0 where
+pub record IsDecided (s : Store) (mode : Mode) (before T : Tree) (old new : Edit) : Type 0 where
   pub was : value_of new.found ≡ found s (view_of before) (name_of old.update)
   pub file : new.has_file ≡ has_file_at s before old.update
-  pub what : effect_value old.update.change new.effect ≡ effect_on s (view_of before) old.update
+  pub what :
+      effect_value old.update.change new.effect ≡ effect_on s mode (view_of before) old.update
   pub expects : Expects (expected_of old.update.change) (new_of old.update.change)
       (found s (view_of before) (name_of old.update))
   pub filled : T ≡ put before (lock_of old.lock)
-      (Some (File (lock_text (effect_on s (view_of before) old.update))))
+      (Some (File (lock_text (effect_on s mode (view_of before) old.update))))
 
 -- what was decided of each edit
 abbrev pub decisions : List Edit → List Decision
@@ -269,16 +281,16 @@ abbrev pub files_at : Store → Tree → List RefEdit → List Bool
 files_at s T edits = map (has_file_at s T) edits
 
 -- the effects of edits among these files
-abbrev pub effects_on : Store → View → List RefEdit → List Effect
-effects_on s view edits = map (effect_on s view) edits
+abbrev pub effects_on : Store → Mode → View → List RefEdit → List Effect
+effects_on s mode view edits = map (effect_on s mode view) edits
 
 -- All of these edits are settled, from the tree `before` to T: this was found and decided of each, none has a cause to be refused, and its
 -- lock has its text.
-pub record AreSettled (s : Store) (kind : Kind) (before T : Tree)
+pub record AreSettled (s : Store) (mode : Mode) (kind : Kind) (before T : Tree)
     (old new : List Edit) : Type 0 where
   pub was : targets_of new ≡ old_targets s before (updates old)
   pub files : seen_files new ≡ files_at s before (updates old)
-  pub what : effects_of new ≡ effects_on s (view_of before) (updates old)
+  pub what : effects_of new ≡ effects_on s mode (view_of before) (updates old)
   pub ids : ids_in new ≡ packed_ids s before (updates old)
   pub no_cause : NoCause s kind before [] (updates old)
-  pub texts : HoldTexts s before T (updates old)
+  pub texts : HoldTexts s mode before T (updates old)

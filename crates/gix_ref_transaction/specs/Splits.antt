@@ -11,7 +11,11 @@ use Rattle.gix_ref_edits.specs.SplitLists.{IsSplitList, first_levels, level}
 use Rattle.gix_ref_edits.specs.declared.transaction.RefEdit.{RefEdit}
 use Rattle.gix_ref_edits.specs.declared.transaction.ext.error.SplitError.TheVariants.{TooManySplits}
 use Rattle.gix_ref_edits.specs.DoubledNames.{NoneDoubled}
-use Rattle.gix_ref_transaction.specs.Causes.{decoded, names_of, AllValid, IsDoubling, IsFirstInvalid, IsIoOrMemory, IsLockCause, IsMisnamed, IsWellNamed}
+use Rattle.gix_ref_hash.specs.declared.hash.ObjectId.{ObjectId}
+use Rattle.gix_ref_object.specs.Objects.{Stored}
+use Rattle.gix_ref_theory.specs.Edits.{Mode}
+use Rattle.gix_ref_transaction.specs.Peels.{IsLockCause}
+use Rattle.gix_ref_transaction.specs.Causes.{decoded, names_of, AllValid, IsDoubling, IsFirstInvalid, IsIoOrMemory, IsMisnamed, IsWellNamed}
 use Rattle.gix_ref_transaction.specs.declared.prepare.error.Error.{Error}
 use Rattle.gix_ref_transaction.specs.declared.prepare.error.Error.TheVariants.{PreprocessingFailed}
 
@@ -70,10 +74,12 @@ IsSplitCause s kind T given error =
     ⊎ IsTooLong s (view_of T) given error)))
 
 -- The first cause: each edit as it is given; then the splits, with the name of each edit that is looked up; then a name of two edits of
--- the split list; then the lock of `packed-refs`; then, edit by edit, its lock and what it expects.
-abbrev pub Refuses : Store → Kind → Tree → List RefEdit → Error → Type 0
-Refuses s kind T given error =
+-- the split list; then the lock of `packed-refs`; then the objects that are put into it; then, edit by edit, its lock and what it expects.
+abbrev pub Refuses : (claims : Type 0) → (ObjectId → Stored) → Store → Mode → Kind → Tree →
+    List RefEdit → Error → Type 0
+Refuses claims meaning s mode kind T given error =
     IsSplitCause s kind T given error
     ⊎ (AllValid s kind [] given × All (CanFollow s) (all_rounds s (view_of T) given)
     × ((split : List RefEdit) × AreSplit s (view_of T) given split
-    × (IsDoubling split error ⊎ (NoneDoubled (names_of split) × IsLockCause s kind T split error))))
+    × (IsDoubling split error
+    ⊎ (NoneDoubled (names_of split) × IsLockCause claims meaning s mode kind T split error))))

@@ -16,8 +16,10 @@ ghost use Rattle.gix_ref_transaction.specs.CommitRenames.{is_file_seen, is_no_fo
 ghost use Rattle.gix_ref_transaction.specs.PackedCauses.{deletes_reference};
 ghost use Rattle.gix_ref_transaction.specs.Causes.{found, found_by, decoded, IsCounted, IsNotIo, IsMismatch, IsIoOrMemory};
 ghost use Rattle.gix_ref_transaction.specs.EditLocks.{IsInPlace, IsLockTaken, IsNotAccepted, IsNotTaken, IsFileOrMemoryFault, IsWritten, OnlyFills, TakesItsLock};
+ghost use Rattle.gix_ref_transaction.specs.Packing.{mode_of_packing};
 ghost use Rattle.gix_ref_transaction.specs.PrepareSteps.{setting_of, value_of, lock_text, effect_value, text_of_new, decision, decision_of, given, is_new, is_damaged, is_loose_file, is_undecodable, target_by, IsSomeWhole, IsRefusedLock};
 
+use crate::packing::{Packing, is_packed_alone};
 use crate::prepare::Error;
 use crate::prepare::expect::check_expected;
 use gix_ref_base::target::Target;
@@ -68,6 +70,15 @@ pub enum LogEffect {
     Remove { log: Vec<u8> },
 }
 
+/// The object of an update that goes into `packed-refs`.
+#[derive(Clone, Copy, Debug, PartialEq, Eq)]
+pub struct PackedObject {
+    /// The new object of the reference.
+    pub target: ObjectId,
+    /// The object at the end of its tags, where that is another one.
+    pub peeled: Option<ObjectId>,
+}
+
 /// An edit of a transaction.
 #[derive(Drop)]
 pub struct Edit {
@@ -79,6 +90,8 @@ pub struct Edit {
     pub lock: LockFile,
     /// The id of the reference's record in `packed-refs`.
     pub packed: Option<ObjectId>,
+    /// What it puts into `packed-refs`: the object of an update that is packed. It is decided before any lock is taken.
+    pub put: Option<PackedObject>,
     /// The target that was found: that of the loose file, or else the object of the record.
     pub found: Option<Target>,
     /// Whether there was a loose file, as the edit was compared with what was found.
@@ -187,14 +200,16 @@ fn is_change(new: &Target, was: &Was) -> bool
     }
 }
 
-/// What an update makes of the loose file, by what there was.
-fn effect_of_update(mode: RefLog, new: &Target, was: &Was) -> Effect
-    ensures { result ≡ (if is_of_reference mode then decision_of (Some (target_value new.now))
+/// What an update makes of the loose file, by what there was and whether it goes into `packed-refs` alone.
+fn effect_of_update(mode: RefLog, new: &Target, alone: bool, was: &Was) -> Effect
+    ensures { result ≡ (if is_of_reference mode then decision_of (Some (target_value new.now)) alone
         (value_of was.now.target) was.now.damaged else Effect.Keep) }
 {
     match mode {
         RefLog::AndReference => {
-            if is_change(new, was) {
+            if alone {
+                Effect::Remove
+            } else if is_change(new, was) {
                 Effect::Write
             } else {
                 Effect::Keep
@@ -214,12 +229,12 @@ fn effect_of_deletion(mode: RefLog) -> Effect
     }
 }
 
-/// What becomes of the loose file, by the change and what there was.
-fn effect_of(change: &Change, was: &Was) -> Effect
-    ensures { result ≡ decision change.now (value_of was.now.target) was.now.damaged }
+/// What becomes of the loose file, by the change, whether it goes into `packed-refs` alone, and what there was.
+fn effect_of(change: &Change, alone: bool, was: &Was) -> Effect
+    ensures { result ≡ decision change.now alone (value_of was.now.target) was.now.damaged }
 {
     match change {
-        Change::Update { log, new, .. } => effect_of_update(log.mode, new, was),
+        Change::Update { log, new, .. } => effect_of_update(log.mode, new, alone, was),
         Change::Delete { log, .. } => effect_of_deletion(*log),
     }
 }
@@ -259,7 +274,11 @@ fn blocked(edit: &RefEdit) -> Error
 }
 
 /// Makes the file of a lock, and first the folders that lead to its place, unless `is_ready` says that they are there.
-fn take_lock<F: Files>(files: &mut F, lock: &LockFile, is_ready: bool) -> Result<Create, FileError>
+pub(crate) fn take_lock<F: Files>(
+    files: &mut F,
+    lock: &LockFile,
+    is_ready: bool,
+) -> Result<Create, FileError>
     requires ready { F.honest → is_ready ≡ true →
         has_folders (F.means files.old).tree lock.now ≡ true }
     ensures answer { F.honest →
@@ -315,6 +334,7 @@ impl Edit {
             parent,
             lock: LockFile::at(place)?,
             packed: None,
+            put: None,
             found: None,
             has_file: false,
             effect: Effect::Keep,
@@ -363,14 +383,14 @@ impl Edit {
     }
 
     /// Keeps what there was, and decides what becomes of the loose file.
-    fn decide(&mut self, was: Was)
+    fn decide(&mut self, alone: bool, was: Was)
         ensures given { given self.new ≡ given self.old }
         ensures found { self.new.found ≡ was.target }
         ensures file { self.new.has_file ≡ was.has_file }
-        ensures effect { self.new.effect ≡ decision self.old.update.change
+        ensures effect { self.new.effect ≡ decision self.old.update.change alone
             (value_of was.target) was.damaged }
     {
-        self.effect = effect_of(&self.update.change, &was);
+        self.effect = effect_of(&self.update.change, alone, &was);
         self.has_file = was.has_file;
         self.found = was.target;
     }
@@ -404,11 +424,12 @@ impl Edit {
         alloc: Global,
         files: &mut F,
         settings: &Settings<'_>,
+        packing: Packing,
     ) -> Result<(), Error>
         requires { IsInPlace (setting_of settings.now) self.old }
         ensures given { given self.new ≡ given self.old }
         ensures written { F.honest → OnOk result (IsWritten (setting_of settings.now)
-            (F.means files.old) (F.means files.new) self.old self.new) }
+            (mode_of_packing packing) (F.means files.old) (F.means files.new) self.old self.new) }
         ensures refused { IfErr result
             (IsNotAccepted F.honest F.means F.faults (setting_of settings.now) self.old
             (IsMismatch settings.now.kind self.old.update (found (setting_of settings.now)
@@ -418,7 +439,8 @@ impl Edit {
     {
         let was = was_at(alloc, files, settings, self.lock.place(), self.packed)?;
         check_expected(&self.update, &was.target, settings.kind)?;
-        self.decide(was);
+        let alone = is_packed_alone(settings, packing, &self.update);
+        self.decide(alone, was);
         self.write(alloc, files)
     }
 }

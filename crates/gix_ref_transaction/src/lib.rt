@@ -3,5 +3,6 @@
 #![tactic(auto)]
 
 pub mod edit;
+pub mod packing;
 pub mod prepare;
 pub mod release;

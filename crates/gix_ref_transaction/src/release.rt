@@ -76,6 +76,7 @@ impl Remains {
             parent: _,
             lock,
             packed: _,
+            put: _,
             found: _,
             has_file: _,
             effect: _,

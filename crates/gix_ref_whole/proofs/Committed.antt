@@ -47,19 +47,19 @@ use Rattle.gix_ref_transaction.proofs.LockRounds.{own_all, own_lock}
 use Rattle.gix_ref_transaction.proofs.Adds.{any_cases, in_one, is_false, same_view}
 use Rattle.gix_ref_transaction.proofs.Apart.{references}
 use Rattle.gix_ref_commit.specs.CommittedTrees.{AreCommitted}
-use Rattle.gix_ref_commit.specs.LogEffects.{with_lines}
+use Rattle.gix_ref_commit.specs.LogEffects.{Extra, with_ends, with_extras}
 use Rattle.gix_ref_commit.proofs.Alike.{are_same}
-use Rattle.gix_ref_store.specs.CommitLines.{line_rules, lines_due}
+use Rattle.gix_ref_store.specs.CommitLines.{extras_due, line_rules, lines_due}
 use Rattle.gix_ref_store.specs.CommitResult.{CommitsFrom, EveryLossFrom, EveryStopFrom, SettlesFrom}
 use Rattle.gix_ref_store.specs.Lookup.{LooksUp, AreRecordsIn, FindsAmong, MissesAmong, MissesIn, composes_in, settings_of, view_in}
-use Rattle.gix_ref_store.specs.Prepared.{HasGoodRecords, IsAtRest, PreparesGiven, disk_in, locks_in, places_in, tree_of}
+use Rattle.gix_ref_store.specs.Prepared.{HasGoodRecords, IsAtRest, disk_in, locks_in, places_in, tree_of}
 use Rattle.gix_ref_store.specs.Store.{files_of, folders, kind_of, meaning_of, IsSameStore}
 use Rattle.gix_ref_store.specs.declared.file.store.Store.{Store}
 use Rattle.gix_ref_store.proofs.Commits.{same_meaning, started}
 use Rattle.gix_ref_whole.specs.EditedReadings.{FailsAs, IsAskedFirst}
 use Rattle.gix_ref_whole.specs.FoundReferences.{FindsIn}
 use Rattle.gix_ref_whole.specs.Outside.{IsLock, IsOneOf}
-use Rattle.gix_ref_whole.specs.WholeRuns.{FindsEdited, HasFault, IsSameOutside, KeepsEdited, LossesOutside, ReadsEdited, StopsOutside, reads_after}
+use Rattle.gix_ref_whole.specs.WholeRuns.{FindsEdited, HasFault, IsSameOutside, KeepsEdited, LossesOutside, Prepares, ReadsEdited, StopsOutside, reads_after}
 use Rattle.gix_ref_whole.proofs.DueLemmas.{all_count, lines_same}
 use Rattle.gix_ref_whole.proofs.FoundNames.{fails_as, found_as}
 use Rattle.gix_ref_whole.proofs.OutsideLemmas.{committed_outside, locking_outside, losses_outside, stops_outside, unlocked, unlost_outside}
@@ -67,8 +67,8 @@ use Rattle.gix_ref_whole.proofs.PackedAgain.{computed, has_again}
 use Rattle.gix_ref_store.proofs.SameStores.{same_on}
 
 -- log lines change no reading
-without_lines : (s : Places) (edits : List RefEdit) (lines : List (Option (List ℕ))) (name : List ℕ) (old : Reading) →
-    edited_reading s (with_lines edits lines) name old ≡ edited_reading s (planned edits) name old
+without_lines : (s : Places) (edits : List RefEdit) (lines : List Extra) (name : List ℕ) (old : Reading) →
+    edited_reading s (with_extras edits lines) name old ≡ edited_reading s (planned edits) name old
 without_lines s [] lines name old = refl
 without_lines s (e ∷ edits) [] name old =
     ap (λ r. if (edit_of e).and_reference && bytes_eq (s.place (edit_of e).name) (s.place name) then new_reading s (edit_of e).change else r) (without_lines s edits [] name old)
@@ -106,7 +106,7 @@ module _ {F : Type 0} (honest : Type 0) (means : F → Meaning) (faults : F → 
       subst (λ (k : Kind). ArePackedRecords k (view_in means new (meaning_of new).packed_path) rs) (sym same.of_kind)
       (subst (λ (s : Places). ArePackedRecords (kind_of old) (view_in means new s.packed_path) rs) (sym (same_meaning old new same)) are)
 
-  module _ (old mid new : Store F) (given : List RefEdit) (committer : Option SignatureRef) (packed : Option Path) (held : List Edit) (left : List Path) (from : PreparesGiven honest means faults old mid given packed held)
+  module _ (old mid new : Store F) (given : List RefEdit) (committer : Option SignatureRef) (packed : Option Path) (held : List Edit) (left : List Path) (from : Prepares honest means faults old mid given packed held)
       (stops : EveryStopFrom honest means faults mid new committer packed held left) where
     abbrev s : Places
     s = meaning_of old
@@ -115,9 +115,9 @@ module _ {F : Type 0} (honest : Type 0) (means : F → Meaning) (faults : F → 
     laws = laws_hold (folders old) (git_options (kind_of old) old.prohibit_windows_device_names) (folders_laid old.dirs old.namespace)
 
     -- a lock of the edits is none that is at `packed-refs`
-    packed_apart : is_in (locks_in means old from.split) s.packed_path ≡ false
-    packed_apart = is_false (is_in (locks_in means old from.split) s.packed_path)
-        (λ within. let l = own_is_lock (places_in means old from.split) s.packed_path (own_all s (tree_of means old) from.split s.packed_path within) in laws.packed_is_no_lock l.0 l.1)
+    packed_apart : is_in (locks_in means DeletionsOnly old from.split) s.packed_path ≡ false
+    packed_apart = is_false (is_in (locks_in means DeletionsOnly old from.split) s.packed_path)
+        (λ within. let l = own_is_lock (places_in means DeletionsOnly old from.split) s.packed_path (own_all s DeletionsOnly (tree_of means old) from.split s.packed_path within) in laws.packed_is_no_lock l.0 l.1)
 
     -- the edits that are returned carry what was found in the files before
     pub carried_before : honest → HasGoodRecords means old → (after : List RefEdit) → after ≡ updates held → AreCarried from.split (old_targets s (tree_of means old) from.split) after
@@ -126,49 +126,49 @@ module _ {F : Type 0} (honest : Type 0) (means : F → Meaning) (faults : F → 
         (subst (λ (was : List (Option TargetValue)). AreCarried from.split was (updates held)) (from.prepared.held.found h good) from.prepared.carried)
 
     -- a log of theirs is no lock
-    log_apart : (n : List ℕ) → s.is_reference n ≡ true → is_in (locks_in means old from.split) (s.log n) ≡ false
-    log_apart n is = is_false (is_in (locks_in means old from.split) (s.log n))
-        (λ within. let l = own_is_lock (places_in means old from.split) (s.log n) (own_all s (tree_of means old) from.split (s.log n) within) in laws.log_is_no_lock n l.0 is l.1)
+    log_apart : (n : List ℕ) → s.is_reference n ≡ true → is_in (locks_in means DeletionsOnly old from.split) (s.log n) ≡ false
+    log_apart n is = is_false (is_in (locks_in means DeletionsOnly old from.split) (s.log n))
+        (λ within. let l = own_is_lock (places_in means DeletionsOnly old from.split) (s.log n) (own_all s DeletionsOnly (tree_of means old) from.split (s.log n) within) in laws.log_is_no_lock n l.0 is l.1)
 
     -- so the lines that are due are so by the files before
     lines_before : honest → lines_due means mid committer held ≡ lines_due means old committer held
     lines_before h =
-        lines_same (λ (q : Path). is_in (locks_in means old from.split) q ≡ false) (line_rules mid committer) (asked held) (view_in means mid) (view_in means old)
-        (λ q apart. same_view file_of refl (locks_in means old from.split) (locks_in means old from.split) (tree_of means old) (tree_of means mid) q (from.prepared.held.adds h) apart)
-        (all_count (λ (q : Path). is_in (locks_in means old from.split) q ≡ false) (line_rules mid committer) s (same_meaning old mid from.prepared.held.same) log_apart from.split held 0
+        lines_same (λ (q : Path). is_in (locks_in means DeletionsOnly old from.split) q ≡ false) (line_rules mid committer) (asked held) (view_in means mid) (view_in means old)
+        (λ q apart. same_view file_of refl (locks_in means DeletionsOnly old from.split) (locks_in means DeletionsOnly old from.split) (tree_of means old) (tree_of means mid) q (from.prepared.held.adds h) apart)
+        (all_count (λ (q : Path). is_in (locks_in means DeletionsOnly old from.split) q ≡ false) (line_rules mid committer) s (same_meaning old mid from.prepared.held.same) log_apart from.split held 0
         (are_same from.split from.prepared.was (updates held) from.prepared.carried)
         (references (folders old) (git_options (kind_of old) old.prohibit_windows_device_names) (folders_laid old.dirs old.namespace) (kind_of old) [] from.split from.prepared.held.valid))
         ∙ ap (λ (r : LogRules). due_lines r (view_in means old) (asked held)) (rules_same old mid committer from.prepared.held.same)
 
-    pub committed_before : CommitsFrom honest means faults mid new committer packed held left → honest → HasGoodRecords means old → AreCommitted s from.split (lines_due means old committer held) (tree_of means old) left (tree_of means new)
+    pub committed_before : CommitsFrom honest means faults mid new committer packed held left → honest → HasGoodRecords means old → AreCommitted s DeletionsOnly from.split (extras_due means old committer held) (tree_of means old) left (tree_of means new)
     committed_before commits h good =
-        subst (λ (lines : List (Option (List ℕ))). AreCommitted s from.split lines (tree_of means old) left (tree_of means new)) (lines_before h) (commits old from.split from.prepared h good)
+        subst (λ (extras : List Extra). AreCommitted s DeletionsOnly from.split extras (tree_of means old) left (tree_of means new)) (ap (λ (lines : List (Option (List ℕ))). with_ends lines held) (lines_before h)) (commits old DeletionsOnly from.split from.prepared h good)
 
     -- at every stop inside the `prepare` and the commit
     pub stops_same : honest → HasGoodRecords means old → StopsOutside honest means faults old new from.split
     stops_same h good = joins
-        (weaken (from.prepared.held.leaves h) (λ T adds. locking_outside (folders old) (kind_of old) old.prohibit_windows_device_names (locks_in means old from.split) (tree_of means old) T packed_apart adds))
-        (weaken ((stops old from.split from.prepared).leaves h)
-        (λ T well. stops_outside (folders old) (kind_of old) old.prohibit_windows_device_names from.split (lines_due means mid committer held) (tree_of means old) T good (well good)))
+        (weaken (from.prepared.held.leaves h) (λ T adds. locking_outside (folders old) (kind_of old) old.prohibit_windows_device_names (locks_in means DeletionsOnly old from.split) (tree_of means old) T packed_apart adds))
+        (weaken ((stops old DeletionsOnly from.split from.prepared).leaves h)
+        (λ T well. stops_outside (folders old) (kind_of old) old.prohibit_windows_device_names from.split (extras_due means mid committer held) (tree_of means old) T good (well good)))
 
     -- and after every loss of power inside them
     pub losses_same : EveryLossFrom honest means faults mid new committer packed held → honest → HasGoodRecords means old → IsAtRest means old → LossesOutside honest means faults old new
     losses_same lost h good at_rest = loses_joins
         (loses_weaken (from.prepared.lost h).loses
-        (λ T spoken. unlost_outside (folders old) (kind_of old) old.prohibit_windows_device_names (places_in means old from.split) (disk_in means old) T laws.packed_is_no_lock at_rest.0 spoken))
-        (loses_weaken (lost old from.split from.prepared h good at_rest).loses
-        (λ T well. losses_outside (folders old) (kind_of old) old.prohibit_windows_device_names from.split (lines_due means mid committer held) (disk_in means mid) (tree_of means old) T good
-        (started honest means faults old mid committer from.split packed held from.prepared h at_rest).0 well))
+        (λ T spoken. unlost_outside (folders old) (kind_of old) old.prohibit_windows_device_names (places_in means DeletionsOnly old from.split) (disk_in means old) T laws.packed_is_no_lock at_rest.0 spoken))
+        (loses_weaken (lost old DeletionsOnly from.split from.prepared h good at_rest).loses
+        (λ T well. losses_outside (folders old) (kind_of old) old.prohibit_windows_device_names from.split (extras_due means mid committer held) (disk_in means mid) (tree_of means old) T good
+        (started honest means faults DeletionsOnly old mid committer from.split packed held from.prepared h at_rest).0 well))
 
     module _ (same : IsSameStore old new) (commits : CommitsFrom honest means faults mid new committer packed held left) where
-      committed : honest → HasGoodRecords means old → IsCommitted s DeletionsOnly (s.packed_path ∷ places_of s from.split) (with_lines from.split (lines_due means mid committer held)) (view_in means old) (view_in means new)
+      committed : honest → HasGoodRecords means old → IsCommitted s DeletionsOnly (s.packed_path ∷ places_of s from.split) (with_extras from.split (extras_due means mid committer held)) (view_in means old) (view_in means new)
       committed h good =
-          commits old from.split from.prepared h good (s.packed_path ∷ places_of s from.split)
-          (λ q within. own_possible s from.split q ((stops old from.split from.prepared).ours q within))
+          commits old DeletionsOnly from.split from.prepared h good (s.packed_path ∷ places_of s from.split)
+          (λ q within. own_possible s from.split q ((stops old DeletionsOnly from.split from.prepared).ours q within))
 
       -- the locks that stay are locks
       are_locks : (q : Path) → is_in left q ≡ true → IsLock q
-      are_locks q within = own_is_lock (s.packed_path ∷ places_of s from.split) q (own_possible s from.split q ((stops old from.split from.prepared).ours q within))
+      are_locks q within = own_is_lock (s.packed_path ∷ places_of s from.split) q (own_possible s from.split q ((stops old DeletionsOnly from.split from.prepared).ours q within))
 
       -- of these places
       named : (places : List Path) × ((q : Path) → is_in left q ≡ true → IsOwnLock places q) × ((q : Path) → IsOwnLock places q → is_in left q ≡ true)
@@ -179,14 +179,14 @@ module _ {F : Type 0} (honest : Type 0) (means : F → Meaning) (faults : F → 
         split = from.split;
         splits = from.splits;
         good = λ h good.
-            let again = has_again (folders old) (kind_of old) old.prohibit_windows_device_names (with_lines from.split (lines_due means mid committer held)) (view_in means old s.packed_path) (view_in means new s.packed_path) good.0 good.1 (committed h good).packed in
+            let again = has_again (folders old) (kind_of old) old.prohibit_windows_device_names (with_extras from.split (extras_due means mid committer held)) (view_in means old s.packed_path) (view_in means new s.packed_path) good.0 good.1 (committed h good).packed in
             (again.0, packed_same old new same again.0 again.1);
         reads = λ h good name is.
-            (committed h good).readings name is ∙ without_lines s from.split (lines_due means mid committer held) name (reading s (view_in means old) name);
+            (committed h good).readings name is ∙ without_lines s from.split (extras_due means mid committer held) name (reading s (view_in means old) name);
         named = are_locks;
         outside = λ h good.
-            committed_outside (folders old) (kind_of old) old.prohibit_windows_device_names (with_lines from.split (lines_due means mid committer held)) named.0 (IsOneOf left) named.2 (tree_of means old) good.0 good.1 (tree_of means new)
-            (commits old from.split from.prepared h good named.0 named.1);
+            committed_outside (folders old) (kind_of old) old.prohibit_windows_device_names (with_extras from.split (extras_due means mid committer held)) named.0 (IsOneOf left) named.2 (tree_of means old) good.0 good.1 (tree_of means new)
+            (commits old DeletionsOnly from.split from.prepared h good named.0 named.1);
         stops = stops_same;
       }
 
@@ -194,9 +194,9 @@ module _ {F : Type 0} (honest : Type 0) (means : F → Meaning) (faults : F → 
       pub keeps : SettlesFrom honest means faults mid new packed held → EveryLossFrom honest means faults mid new committer packed held → KeepsEdited honest means faults old new given left
       keeps settles losses = record {
         made = made;
-        rests = λ h at_rest. settles old from.split from.prepared h at_rest;
+        rests = λ h at_rest. settles old DeletionsOnly from.split from.prepared h at_rest;
         kept = λ h good at_rest T lost name is.
-            lost_reading s laws (disk_in means new) T (settles old from.split from.prepared h at_rest).0 lost name is ∙ made.reads h good name is;
+            lost_reading s laws (disk_in means new) T (settles old DeletionsOnly from.split from.prepared h at_rest).0 lost name is ∙ made.reads h good name is;
         losses = losses_same losses;
       }
 
@@ -235,7 +235,7 @@ module _ {F : Type 0} (honest : Type 0) (means : F → Meaning) (faults : F → 
       named = made.named;
       outside = λ h good. subst (IsSameOutside honest means faults old (IsOneOf left)) (sym (looks.leaves h).tree) (made.outside h good);
       stops = λ h good.
-          joins (made.stops h good) (weaken (looks.leaves h) (λ T is. subst (IsSameOutside honest means faults old (IsOneOf (locks_in means old made.split))) (sym is) (made.stops h good).tree));
+          joins (made.stops h good) (weaken (looks.leaves h) (λ T is. subst (IsSameOutside honest means faults old (IsOneOf (locks_in means DeletionsOnly old made.split))) (sym is) (made.stops h good).tree));
     }
 
     pub still_split : still_made.split ≡ made.split

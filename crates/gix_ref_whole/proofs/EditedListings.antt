@@ -32,7 +32,6 @@ use Rattle.gix_ref_listing.specs.Listings.Listed.{Walked, InPacked}
 use Rattle.gix_ref_listing.specs.WholeListings.{HoldsFor, IsInStore, IsListing, IsNameItem, key_in, listed_key}
 use Rattle.gix_ref_listing.specs.CleanPrefixes.{IsAcceptedPrefix, IsRefusedPrefix}
 use Rattle.gix_ref_listing.specs.declared.error.Error.{Error}
-use Rattle.gix_ref_listing.specs.declared.error.Error.TheVariants.{Memory}
 use Rattle.gix_ref_listing.specs.declared.prefix.Error.{Error as PrefixError}
 use Rattle.gix_ref_listing.specs.declared.prefix.Error.TheVariants as no_list
 use Rattle.gix_ref_listing.specs.declared.found.Found.TheVariants.{File, Unlisted}

@@ -30,7 +30,7 @@ use Rattle.gix_ref_transaction.specs.OwnLocks.{is_in, AddsLocks}
 use Rattle.gix_ref_transaction.specs.PrepareSteps.{own_locks, own_places}
 use Rattle.gix_ref_transaction.proofs.Adds.{any_cases, any_right, clash, in_here, in_one, is_false, same_path, same_view}
 use Rattle.gix_ref_transaction.proofs.LockRounds.{own_all, owned_all}
-use Rattle.gix_ref_commit.specs.LogEffects.{with_lines}
+use Rattle.gix_ref_commit.specs.LogEffects.{with_extras}
 use Rattle.gix_ref_whole.specs.Outside.{EveryLossLeavesTheOutside, EveryStopLeavesTheOutside, IsKeyInside, IsLock, IsLogInside, IsOneOf, IsOutside, IsPlaceInside, KeysLieInTheNamespace, LogsLieInTheNamespace, OutsideIsAsBefore, OwnLocksAreLocks, PlacesLieInside, ReadingsOutsideStay, TheseLocksAreLocks}
 use Rattle.gix_ref_whole.proofs.PackedAgain.{read_again}
 
@@ -189,14 +189,14 @@ module _ (f : Layout) (k : Kind) (prohibits : Bool) where
 pub stops_outside : EveryStopLeavesTheOutside
 stops_outside f k prohibits edits lines before T good well =
     let s : Store = store_of f (git_options k prohibits) in
-    between_outside f k prohibits (with_lines edits lines) (own_places s before edits) (IsOneOf (own_locks s before edits)) (owned_all s before edits) before good.0 good.1 T well.between
+    between_outside f k prohibits (with_extras edits lines) (own_places s DeletionsOnly before edits) (IsOneOf (own_locks s DeletionsOnly before edits)) (owned_all s DeletionsOnly before edits) before good.0 good.1 T well.between
 
 pub losses_outside : EveryLossLeavesTheOutside
 losses_outside f k prohibits edits lines D before T good settled well =
-    lost_outside f k prohibits (with_lines edits lines) (own_places (store_of f (git_options k prohibits)) before edits) D before good.0 good.1 T settled well.between
+    lost_outside f k prohibits (with_extras edits lines) (own_places (store_of f (git_options k prohibits)) DeletionsOnly before edits) D before good.0 good.1 T settled well.between
 
 pub own_are_locks : OwnLocksAreLocks
-own_are_locks s T edits q within = own_is_lock (own_places s T edits) q (own_all s T edits q within)
+own_are_locks s mode T edits q within = own_is_lock (own_places s mode T edits) q (own_all s mode T edits q within)
 
 pub these_are_locks : TheseLocksAreLocks
 these_are_locks f s locks before T are same = record {

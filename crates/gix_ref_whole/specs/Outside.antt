@@ -1,5 +1,5 @@
 -- What lies outside of the namespace of a store, and that it is as before (`gitnamespaces`).
-use Rattle.std.specs.Prelude.{◌≡◌, ◌≢◌, ◌⊎◌, ℕ, List, ◌++◌, Bool, true, Option, Some, codes}
+use Rattle.std.specs.Prelude.{◌≡◌, ◌≢◌, ◌⊎◌, ℕ, List, ◌++◌, Bool, true, Some, codes}
 use Rattle.gix_ref_hash.specs.Bytes.{BeginsWith, NoByte}
 use Rattle.gix_ref_hash.specs.declared.hash.Kind.{Kind}
 use Rattle.gix_ref_base.specs.Layout.{IsLayout, Layout, below, linked_log, packed_refs}
@@ -9,6 +9,7 @@ use Rattle.gix_ref_files.specs.Lock.{lock_of}
 use Rattle.gix_ref_files.specs.Settled.{IsAllSettled}
 use Rattle.gix_ref_files.specs.Tree.{Tree, Path}
 use Rattle.gix_ref_theory.specs.ConcreteStore.{Options, store_of}
+use Rattle.gix_ref_theory.specs.Edits.{Mode}
 use Rattle.gix_ref_theory.specs.Edits.Mode.{DeletionsOnly}
 use Rattle.gix_ref_theory.specs.Losses.{IsLostWell}
 use Rattle.gix_ref_theory.specs.OnRealTrees.{view_of}
@@ -19,7 +20,7 @@ use Rattle.gix_ref_transaction.specs.Causes.{IsPackedWell}
 use Rattle.gix_ref_transaction.specs.OwnLocks.{is_in}
 use Rattle.gix_ref_transaction.specs.PrepareSteps.{own_locks, own_places}
 use Rattle.gix_ref_commit.specs.CommittedTrees.{IsOldOrNew}
-use Rattle.gix_ref_commit.specs.LogEffects.{with_lines}
+use Rattle.gix_ref_commit.specs.LogEffects.{Extra, with_extras}
 
 -- a folder of the store: the common folder, or the git folder
 abbrev pub IsFolderOf : Layout → Path → Type 0
@@ -85,27 +86,27 @@ KeysLieInTheNamespace = (f : Layout) (o : Options) (name key : List ℕ) →
 abbrev pub EveryStopLeavesTheOutside : Type 0
 EveryStopLeavesTheOutside =
     (f : Layout) (k : Kind) (prohibits : Bool) (edits : List RefEdit)
-    (lines : List (Option (List ℕ))) (before T : Tree) →
+    (extras : List Extra) (before T : Tree) →
     IsPackedWell k (view_of before (packed_refs f)) →
-    IsOldOrNew (store_of f (git_options k prohibits)) edits lines before T →
+    IsOldOrNew (store_of f (git_options k prohibits)) DeletionsOnly edits extras before T →
     OutsideIsAsBefore f (store_of f (git_options k prohibits))
-    (IsOneOf (own_locks (store_of f (git_options k prohibits)) before edits)) before T
+    (IsOneOf (own_locks (store_of f (git_options k prohibits)) DeletionsOnly before edits)) before T
 
 -- And so after a loss of power inside a commit that began on a settled disk D, but for locks.
 abbrev pub EveryLossLeavesTheOutside : Type 0
 EveryLossLeavesTheOutside =
     (f : Layout) (k : Kind) (prohibits : Bool) (edits : List RefEdit)
-    (lines : List (Option (List ℕ))) (D : Disk) (before T : Tree) →
+    (extras : List Extra) (D : Disk) (before T : Tree) →
     IsPackedWell k (view_of before (packed_refs f)) → IsAllSettled D →
     IsLostWell (store_of f (git_options k prohibits)) DeletionsOnly
-    (own_places (store_of f (git_options k prohibits)) before edits)
-    (with_lines edits lines) D before T →
+    (own_places (store_of f (git_options k prohibits)) DeletionsOnly before edits)
+    (with_extras edits extras) D before T →
     OutsideIsAsBefore f (store_of f (git_options k prohibits)) IsLock before T
 
 -- the locks of a transaction are locks
 abbrev pub OwnLocksAreLocks : Type 0
-OwnLocksAreLocks = (s : Store) (T : Tree) (edits : List RefEdit) (q : Path) →
-    is_in (own_locks s T edits) q ≡ true → IsLock q
+OwnLocksAreLocks = (s : Store) (mode : Mode) (T : Tree) (edits : List RefEdit) (q : Path) →
+    is_in (own_locks s mode T edits) q ≡ true → IsLock q
 
 -- and what is as before but for these locks is so but for all locks
 abbrev pub TheseLocksAreLocks : Type 0

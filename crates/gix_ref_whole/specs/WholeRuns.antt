@@ -17,13 +17,15 @@ use Rattle.gix_ref_lookup.specs.declared.find.existing.Error.{Error as Missing}
 use Rattle.gix_ref_listing.specs.declared.error.Error.{Error as ItemError}
 use Rattle.gix_ref_listing.specs.declared.prefix.Error.{Error as PrefixError}
 use Rattle.gix_ref_transaction.specs.CarriedEdits.{AreCarried}
+use Rattle.gix_ref_object.specs.Objects.Stored.{Absent}
+use Rattle.gix_ref_theory.specs.Edits.Mode.{DeletionsOnly as OfDeletions}
 use Rattle.gix_ref_transaction.specs.CommittedEdits.{planned}
 use Rattle.gix_ref_transaction.specs.OwnLocks.{is_in, paths_of}
 use Rattle.gix_ref_transaction.specs.PrepareSteps.{old_targets, updates}
 use Rattle.gix_ref_transaction.specs.declared.edit.Edit.{Edit}
 use Rattle.gix_ref_commit.specs.CommittedTrees.{AreCommitted}
 use Rattle.gix_ref_commit.specs.declared.error.Error.{Error as CommitError}
-use Rattle.gix_ref_store.specs.CommitLines.{LinesPass, lines_due}
+use Rattle.gix_ref_store.specs.CommitLines.{LinesPass, extras_due}
 use Rattle.gix_ref_store.specs.CommittedFolders.{KeepsFolders}
 use Rattle.gix_ref_store.specs.CommitResult.{EveryStopFrom, FailsFor, NoBadLineFrom, ReadsPacked}
 use Rattle.gix_ref_store.specs.Lookup.{LooksUp, composes_in, settings_of, view_in}
@@ -31,7 +33,7 @@ use Rattle.gix_ref_store.specs.Prepared.{HasGoodRecords, IsAtRest, PreparesGiven
 use Rattle.gix_ref_store.specs.Store.{files_of, folders, meaning_of}
 use Rattle.gix_ref_store.specs.declared.file.store.Store.{Store}
 use Rattle.gix_ref_store.specs.declared.file.transaction.outcome.Done.{Done}
-use Rattle.gix_ref_store.specs.declared.file.transaction.packed_refs.PackedRefs.TheVariants.{DeletionsOnly}
+use Rattle.gix_ref_transaction.specs.declared.packing.PackedRefs.TheVariants.{DeletionsOnly}
 use Rattle.gix_ref_whole.specs.EditedReadings.{IsAskedFirst, IsFoundAs, reading_after}
 use Rattle.gix_ref_whole.specs.FoundReferences.{FindsIn}
 use Rattle.gix_ref_whole.specs.ListedItems.{ListsIn}
@@ -41,6 +43,11 @@ use Rattle.gix_ref_whole.specs.declared.error.Error.{Error}
 use Rattle.gix_ref_whole.specs.declared.error.Error.TheVariants.{Prepare, Commit}
 
 module _ {F : Type 0} (honest : Type 0) (means : F → Meaning) (faults : F → ℕ) where
+  -- these edits are prepared by a transaction that changes `packed-refs` for deletions alone
+  abbrev pub Prepares : (old mid : Store F) → List RefEdit → Option Path → List Edit → Type 0
+  Prepares old mid given packed held = PreparesGiven honest means faults (Unit {0}) (λ id. Absent)
+      OfDeletions old mid given packed held
+
   -- what each reference of a store reads after these edits
   abbrev pub reads_after : Store F → List RefEdit → List ℕ → Reading
   reads_after old edits name = reading_after (meaning_of old) (view_in means old)
@@ -54,7 +61,7 @@ module _ {F : Type 0} (honest : Type 0) (means : F → Meaning) (faults : F → 
   -- and so at every stop between `old` and `new`, but for the locks of a transaction of these edits
   abbrev pub StopsOutside : (old new : Store F) → List RefEdit → Type 0
   StopsOutside old new edits = Leaves (means (files_of old)) (means (files_of new))
-      (IsSameOutside old (IsOneOf (locks_in means old edits)))
+      (IsSameOutside old (IsOneOf (locks_in means OfDeletions old edits)))
 
   -- and after every loss of power meanwhile, but for locks
   abbrev pub LossesOutside : (old new : Store F) → Type 0
@@ -99,13 +106,14 @@ module _ {F : Type 0} (honest : Type 0) (means : F → Meaning) (faults : F → 
     pub mid : Store F
     pub packed : Option Path
     pub held : List Edit
-    pub prepared : PreparesGiven honest means faults old mid given packed held
+    pub prepared : Prepares old mid given packed held
     pub edits : done.edits.items ≡ updates held
     pub mode : done.packed_refs ≡ DeletionsOnly
     pub carried : honest → HasGoodRecords means old → AreCarried prepared.split
         (old_targets (meaning_of old) (tree_of means old) prepared.split) done.edits.items
     pub committed : honest → HasGoodRecords means old →
-        AreCommitted (meaning_of old) prepared.split (lines_due means old committer held)
+        AreCommitted (meaning_of old) OfDeletions prepared.split
+        (extras_due means old committer held)
         (tree_of means old) (paths_of done.locks_left.items) (tree_of means new)
     pub passed : LinesPass honest means mid committer held
     pub folders : KeepsFolders honest means faults mid new committer packed held
@@ -189,7 +197,7 @@ module _ {F : Type 0} (honest : Type 0) (means : F → Meaning) (faults : F → 
     pub mid : Store F
     pub packed : Option Path
     pub held : List Edit
-    pub prepared : PreparesGiven honest means faults old mid given packed held
+    pub prepared : Prepares old mid given packed held
     pub fails : FailsFor honest means faults mid new committer packed held error
     pub sound : NoBadLineFrom honest means faults mid packed held error
     pub named : HasRisenBy (length left) (faults (files_of mid)) (faults (files_of new))
@@ -203,6 +211,7 @@ module _ {F : Type 0} (honest : Type 0) (means : F → Meaning) (faults : F → 
   abbrev pub IsNotMade : (read : Type 0) → (old new : Store F) → Option SignatureRef →
       List RefEdit → Error → Type 0
   IsNotMade read old new committer given (Prepare refused) = RefusesGiven honest read means faults
-      old new given refused.error (paths_of refused.locks_left.items)
+      (Unit {0})
+      (λ id. Absent) OfDeletions old new given refused.error (paths_of refused.locks_left.items)
   IsNotMade read old new committer given (Commit failed) =
       HasFailed old new committer given failed.error (paths_of failed.locks_left.items)

@@ -1,12 +1,13 @@
 //! The commit of a transaction of `packed-refs`: the new text goes into the lock, which is synced and then renamed to the file; or, where no
 //! record is left, the file is removed.
-ghost use Rattle.std.specs.Prelude.{◌≡◌, ◌≤◌, ◌⊎◌, OnOk, IfOk, IfErr, map, true, false, vec_items};
+ghost use Rattle.std.specs.Prelude.{◌≡◌, ◌≤◌, ◌⊎◌, OnOk, IfOk, IfErr, true, false};
 ghost use Rattle.gix_ref_files.specs.Calls.{Renaming, Unchanged};
 ghost use Rattle.gix_ref_files.specs.Disk.{folder_of, folder_synced};
 ghost use Rattle.gix_ref_files.specs.DiskCalls.{RemovingFileOn, RenamingOn, SyncingOn};
 ghost use Rattle.gix_ref_files.specs.Files.{AtEveryStop, OnEveryDisk, disk_of, DiskBecomes};
 ghost use Rattle.gix_ref_files.specs.Lock.{lock_of};
 ghost use Rattle.gix_ref_files.specs.Tree.{is_file, is_folder, moved};
+ghost use Rattle.gix_ref_repack.specs.Changes.{change_values};
 ghost use Rattle.gix_ref_packed_transaction.specs.PackedLosses.{IsReadyOn, SettlesPackedRefs};
 ghost use Rattle.gix_ref_packed_transaction.specs.PackedTransactions.{IsLockEmpty, IsMadeOf, IsOldOrRewritten, IsReadBuffer, IsRewritten, IsStuckBuffer, OnlyLockGoes};
 ghost use Rattle.gix_ref_packed_transaction.specs.internal.Keeping.{IsMoved, KeepsSettled};
@@ -17,27 +18,28 @@ use gix_ref_files::lock::LockFile;
 use gix_ref_files::paths::folder;
 use gix_ref_hash::hash::Kind;
 use gix_ref_packed::packed::Buffer;
+use gix_ref_repack::changed::{changed, made};
+use gix_ref_repack::changes::KeyChange;
 pub use gix_ref_repack::error::Error;
 use gix_ref_repack::fill::write_text;
-use gix_ref_repack::removal::without;
 use gix_ref_rewrite::outcome::Rewrite;
 use std::alloc::Global;
 use std::io::ErrorKind;
 
-/// What becomes of the records without those of the keys, which are in order.
+/// What becomes of the records by the changes, which are in the order of their keys; of none, where there is no buffer.
 pub(crate) fn rewritten(
     alloc: Global,
     buffer: &Option<Buffer>,
     kind: Kind,
-    keys: &[Vec<u8>],
+    changes: &[KeyChange],
 ) -> Result<Rewrite, Error>
-    ensures made { IfOk result (IsMadeOf kind buffer.now (map vec_items keys.now)) }
+    ensures made { IfOk result (IsMadeOf kind buffer.now (change_values changes.now)) }
     ensures read { OnOk result (IsReadBuffer kind buffer.now) }
     ensures refused { IfErr result (IsStuckBuffer kind buffer.now) }
 {
     match buffer {
-        Some(buffer) => without(alloc, buffer, kind, keys),
-        None => Ok(Rewrite::Unchanged),
+        Some(buffer) => changed(alloc, buffer, kind, changes),
+        None => made(alloc, kind, changes),
     }
 }
 

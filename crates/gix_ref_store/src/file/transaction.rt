@@ -4,6 +4,7 @@ ghost use Rattle.std.specs.Borrow.{sem, RestsIfErr};
 ghost use Rattle.gix_ref_packed.specs.OpenFiles.{HasReadFault};
 ghost use Rattle.gix_ref_transaction.specs.LeftLocks.{HasRoom};
 ghost use Rattle.gix_ref_transaction.specs.OwnLocks.{paths_of};
+ghost use Rattle.gix_ref_transaction.specs.Packing.{OfFinder, ends_of, mode_in};
 ghost use Rattle.gix_ref_store.specs.Prepared.{RefusesGiven, PreparesGiven, RollsBackFrom};
 
 pub mod commit;
@@ -97,15 +98,20 @@ impl<'s, F: Files, T: Find> Transaction<'s, F, PackedRefs<T>> {
 
     /// Checks the edits, splits those that follow symbolic references, and takes the locks of all with their whole texts
     /// (`prepare` of `git update-ref --stdin`). The edits of a prepared transaction are those of the split list: an edit of a
-    /// symbolic reference is of its log alone, and the reference that it leads to has an edit. The lock of `packed-refs` is
-    /// taken too, where that is a file and an edit of a reference, not of its log alone, may have a record in it. Where the store
-    /// composes names, an edit is of the composed form of its name, in loose files and in `packed-refs`, and that is the name of
-    /// the prepared edit (`core.precomposeUnicode` of `git config`); a symbolic target is taken as it is.
+    /// symbolic reference is of its log alone, and the reference that it leads to has an edit. Where the store composes names, an
+    /// edit is of the composed form of its name, in loose files and in `packed-refs`, and that is the name of the prepared edit
+    /// (`core.precomposeUnicode` of `git config`); a symbolic target is taken as it is.
     ///
-    /// `Refused` has the first cause that applies, in the order of `prepare::Error`; then all is as before but for
-    /// the locks that it names, and folders on the way to locks. Reads one file for each edit, and makes one, and reads one more for
-    /// each that follows; `packed-refs` is
-    /// opened once, and searched once for each edit whose reference can be in it; the names of the edits are sorted.
+    /// The lock of `packed-refs` is taken where an edit of a reference, not of its log alone, may have a record in it, and that is a
+    /// file, or an object is to be put into it. In the two modes that put objects (`PackedRefs`) each object of an update of a
+    /// reference that may have a record is peeled: its tags are followed, over at most 1,000, by calls of the finder, which is asked
+    /// for nothing else. That is done before any lock of an edit is taken, and no file is read for it.
+    ///
+    /// `Refused` has the first cause that applies, in the order of `prepare::Error`, and hands the finder back; then all is as before
+    /// but for the locks that it names, and folders on the way to locks. A finder that answers otherwise each time may be refused, or
+    /// have another peeled id put into `packed-refs`, and nothing else comes of it. Reads one file for each edit, and makes one, and reads one
+    /// more for each that follows; `packed-refs` is opened once, and searched once for each edit whose reference can be in it; the
+    /// names of the edits are sorted.
     pub fn prepare(
         self,
         alloc: Global,
@@ -113,16 +119,20 @@ impl<'s, F: Files, T: Find> Transaction<'s, F, PackedRefs<T>> {
     ) -> Result<Prepared<'s, F, Plan<T>>, Refused<T>>
         ensures* rests { sem 𝓛 (RestsIfErr (the_row F.row) self.entry.store
             (λ p. p.store.ghost_name) result (λ n. IfErr result (λ r. RefusesGiven F.honest
-            (HasReadFault F.Reader.faults) F.means F.faults self.entry.store.now n edits.items
+            (HasReadFault F.Reader.faults) F.means F.faults
+            (OfFinder T.claims self.entry.packed_refs) (ends_of T.meaning self.entry.packed_refs)
+            (mode_in self.entry.packed_refs) self.entry.store.now n edits.items
             r.error (paths_of r.locks_left.items) × (r.packed_refs ≡ self.entry.packed_refs)))) }
         ensures same_reference { IfOk result (λ p. p.store.ghost_name
             ≡ self.entry.store.ghost_name) }
-        ensures prepared { IfOk result (λ p. PreparesGiven F.honest F.means F.faults
+        ensures prepared { IfOk result
+            (λ p. PreparesGiven F.honest F.means F.faults (OfFinder T.claims self.entry.packed_refs)
+            (ends_of T.meaning self.entry.packed_refs) (mode_in self.entry.packed_refs)
             self.entry.store.now p.store.now edits.items (held_packed p.plan) (held_edits p.plan)) }
         ensures packed_refs { IfOk result (λ p. prepared_mode p.plan ≡ self.entry.packed_refs) }
     {
         let Transaction { store, packed_refs } = self;
-        match store.compose_and_lock(alloc, edits) {
+        match store.compose_and_lock(alloc, &packed_refs, edits) {
             Err(failure) => {
                 let LockFailure { error, locks_left } = failure;
                 Err(Refused {
@@ -186,19 +196,21 @@ impl<F: Files, T: Find> Prepared<'_, F, Plan<T>> {
     ///    text is put into its lock, and which empty folders are in the way of a write;
     /// 2. for each update, in the order of the edits: makes the folders of its log and adds its line, and renames its lock to its place;
     /// 3. removes the logs of deletions;
-    /// 4. renames the lock of `packed-refs` to its place, without the records of deleted references, or removes that file, where no
-    ///    record is left; and removes the loose files of deletions;
+    /// 4. renames the lock of `packed-refs` to its place, without the records of deleted references and with those of updates that
+    ///    are put into it, or removes that file, where no record is left; and removes the loose files of deletions, and in the mode that
+    ///    removes them those of updates that were put;
     /// 5. removes the other locks, and tries the empty folders above deleted references and logs, whether a step failed or not, but for
     ///    `logs`, `refs` and the folders right below `refs`.
     ///
     /// Empty folders in the way of a write are removed right before it, unless it was seen that none is there. `committer` is written in
     /// each line, trimmed, and may be `None` where no line is due.
     ///
-    /// At every stop on the way, and after every loss of power, each reference reads as before or as edited, no deletion shows
-    /// before every update, and updates show in their order. A commit that succeeds leaves all synced. Beside the syncs it costs one call
+    /// At every stop on the way, and after every loss of power, each reference reads as before or as edited. Where loose files are
+    /// kept, no deletion shows before every update, and updates show in their order; in the mode that removes them an update that is put
+    /// shows with the removal of its file, or with `packed-refs` where it has none. A commit that succeeds leaves all synced. Beside the syncs it costs one call
     /// of files for each reference, and one more where no loose file was seen; one for each log that is removed; two for each line, or
     /// three where its log is made; one for each other lock; and one for each folder above a deletion that is tried. `packed-refs` is read
-    /// and written once, where a deleted reference has a record.
+    /// and written once, where a deleted reference has a record or an object is put.
     ///
     /// Where the first part fails, nothing but locks has changed:
     /// - `CreateOrUpdateRefLog`: a line is due that cannot be made, a file is in the path of its log, or it could not be looked for;

@@ -1,7 +1,7 @@
 //! Edits that carry what was found of them.
 ghost use Rattle.std.specs.Prelude.{◌≡◌};
 ghost use Rattle.gix_ref_transaction.specs.Parents.{parents_in};
-ghost use Rattle.gix_ref_transaction.specs.PrepareSteps.{value_of, place_paths, targets_of, effects_of, ids_in, seen_files, updates};
+ghost use Rattle.gix_ref_transaction.specs.PrepareSteps.{value_of, place_paths, puts_in, targets_of, effects_of, ids_in, seen_files, updates};
 ghost use Rattle.gix_ref_transaction.specs.CarriedEdits.{IsCarried, AreCarried};
 
 use crate::edit::Edit;
@@ -15,6 +15,7 @@ fn record_old_value(edit: &mut Edit)
     ensures file { edit.new.has_file ≡ edit.old.has_file }
     ensures effect { edit.new.effect ≡ edit.old.effect }
     ensures id { edit.new.packed ≡ edit.old.packed }
+    ensures put { edit.new.put ≡ edit.old.put }
 {
     let Some(target) = edit.found.take() else {
         return;
@@ -33,6 +34,7 @@ pub fn record_old_values(edits: &mut [Edit])
     ensures files { seen_files edits.new ≡ seen_files edits.old }
     ensures effects { effects_of edits.new ≡ effects_of edits.old }
     ensures ids { ids_in edits.new ≡ ids_in edits.old }
+    ensures puts { puts_in edits.new ≡ puts_in edits.old }
 {
     for edit in edits.iter_mut() {
         record_old_value(edit);

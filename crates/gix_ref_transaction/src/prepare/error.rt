@@ -10,7 +10,8 @@ use std::convert::Infallible;
 use thiserror::Error;
 
 /// The causes of a refusal, in the order in which `prepare` reports them: the first five of each edit by itself, then the split
-/// list, then the lock of `packed-refs`, that file and its records; the others edit by edit. `Io` and `Memory` can come anywhere.
+/// list, then the lock of `packed-refs`, that file and its records, then the objects that are put into it, edit by edit; the others edit by
+/// edit. `Io` and `Memory` can come anywhere.
 #[derive(Debug, Drop, Error)]
 pub enum Error {
     /// The name of an edit neither begins with `refs/` nor has a category, so it may lie where Git keeps something else.
@@ -25,7 +26,8 @@ pub enum Error {
     /// The new target of an edit is the name of a reference, and no full name.
     #[error("the name of a new symbolic target is no full name")]
     TargetNotFull,
-    /// An id of an edit, new or expected, is not of the store's kind.
+    /// An id of an edit, new or expected, is not of the store's kind; or, in its turn behind the records, the object at the end of the
+    /// tags of one that is put into `packed-refs` is not.
     #[error("an id of an edit is of another kind than those of the store")]
     OtherHashKind,
     /// The list of edits is refused: `source` is `TooManySplits` where symbolic references lead on for more than four steps, or
@@ -43,6 +45,10 @@ pub enum Error {
     /// The record of an edit's reference cannot be read, or a malformed line was met in the search for it.
     #[error("a search in packed-refs failed: {0}")]
     PackedFind(packed::find::Error),
+    /// The object of an update that is put into `packed-refs` cannot be peeled: it is missing, or a tag that names no object (`Resolve`),
+    /// it is behind more than 1,000 tags (`TagChainTooLong`), or the finder could not read it (`Find`). It has no other variant.
+    #[error("{0}")]
+    PackedTransactionPrepare(crate::prepare::packed::Error),
     /// A file is in the path of the edit's lock.
     #[error("a file is in the path of the lock of {full_name}")]
     PathCollision {

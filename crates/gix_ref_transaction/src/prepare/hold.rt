@@ -5,16 +5,23 @@ ghost use Rattle.gix_ref_files.specs.Files.{disk_of};
 ghost use Rattle.gix_ref_files.specs.Settled.{IsWholeAt};
 ghost use Rattle.gix_ref_files.specs.Tree.{Path};
 ghost use Rattle.gix_ref_packed.specs.OpenFiles.{HasReadFault};
-ghost use Rattle.gix_ref_lookup.specs.Lookups.{packed_refs_in};
-ghost use Rattle.gix_ref_transaction.specs.Causes.{IsFirstCause, IsLockCause, IsPackedWell, locks_of};
+ghost use Rattle.gix_ref_base.specs.PackedRecords.{Record};
+ghost use Rattle.gix_ref_files.specs.ReadOnly.{OnlyReads};
+ghost use Rattle.gix_ref_lookup.specs.Lookups.{packed_refs_in, ArePackedRecords};
+ghost use Rattle.gix_ref_transaction.specs.Causes.{IsPackedWell, locks_of};
 ghost use Rattle.gix_ref_transaction.specs.HeldLocks.{HoldAllLocks, AreReady, AreRemovedAgain, HoldsPackedLock, IsHeldBack, IsTakingFault, OnlyTakes};
 ghost use Rattle.gix_ref_transaction.specs.LeftLocks.{HasRoom};
 ghost use Rattle.gix_ref_transaction.specs.Parents.{parents_in};
-ghost use Rattle.gix_ref_transaction.specs.PrepareSteps.{setting_of, updates, all_given, ids_in, packed_ids, place_paths, places_of, own_locks, possible_locks};
+ghost use Rattle.gix_ref_transaction.specs.PackedCauses.{ids_among};
+ghost use Rattle.gix_ref_transaction.specs.Packing.{ends_of, mode_in, mode_of_packing, OfFinder};
+ghost use Rattle.gix_ref_transaction.specs.Peels.{ArePut, IsHoldCause, IsLockCause, IsPeelCause};
+ghost use Rattle.gix_ref_transaction.specs.PrepareSteps.{setting_of, updates, all_asked, all_given, ids_in, packed_ids, place_paths, places_of, own_locks, possible_locks};
 
 use crate::edit::Edit;
+use crate::packing::{PackedRefs, Packing};
 use crate::prepare::Error;
 use crate::prepare::packed_lock::{is_absent, take_packed};
+use crate::prepare::peel::peel_edits;
 use crate::prepare::records::find_records;
 use crate::prepare::split::SplitEdits;
 use crate::prepare::take::take_locks;
@@ -22,6 +29,7 @@ use crate::release::{Remains, release_locks, release_packed};
 use gix_ref_files::files::Files;
 use gix_ref_files::lock::LockFile;
 use gix_ref_lookup::settings::Settings;
+use gix_ref_object::object::Find;
 use std::alloc::{AllocError, Global};
 
 /// Why no lock is held, and the locks that could not be removed again.
@@ -77,6 +85,7 @@ fn lock_all_or_none<F: Files>(
     alloc: Global,
     files: &mut F,
     settings: &Settings<'_>,
+    packing: Packing,
     mut edits: Vec<Edit>,
     remains: Remains,
 ) -> Result<HeldEdits, LockFailure>
@@ -84,7 +93,7 @@ fn lock_all_or_none<F: Files>(
     requires room { HasRoom edits remains }
     ensures held { IfOk result (λ held. HoldAllLocks F.honest (ids_in edits.items
         ≡ packed_ids (setting_of settings.now) (F.means files.old).tree (updates edits.items))
-        (setting_of settings.now) settings.now.kind
+        (setting_of settings.now) (mode_of_packing packing) settings.now.kind
         (locks_of (setting_of settings.now) (updates edits.items)) (F.means files.old)
         (F.means files.new) edits.items held.edits.items remains held.remains) }
     ensures given { IfOk result (λ held. all_given held.edits.items ≡ all_given edits.items) }
@@ -101,7 +110,7 @@ fn lock_all_or_none<F: Files>(
         (locks_of (setting_of settings.now) (updates edits.items)) files.old files.new }
 {
     let mut taken = 0;
-    match take_locks(alloc, files, settings, &mut edits, &mut taken) {
+    match take_locks(alloc, files, settings, packing, &mut edits, &mut taken) {
         Ok(()) => Ok(HeldEdits { edits, remains }),
         Err(error) => {
             edits.truncate(taken);
@@ -114,12 +123,42 @@ fn lock_all_or_none<F: Files>(
     }
 }
 
-/// Finds the records of all edits, and then takes all locks, or removes those that it took. `packed-refs` is not opened where it is
-/// known to be no file.
-fn find_and_lock<F: Files>(
+/// Finds the records of all edits, and decides what each puts into `packed-refs`. That file is not opened where it is known to be none.
+fn find_and_peel<F: Files, T: Find>(
     alloc: Global,
     files: &mut F,
     settings: &Settings<'_>,
+    packed_refs: &PackedRefs<T>,
+    is_absent: bool,
+    edits: &mut [Edit],
+) -> Result<(), Error>
+    requires { F.honest → is_absent ≡ true → packed_refs_in settings.now
+        (F.means files.old) ≡ None }
+    ensures asked { all_asked edits.new ≡ all_asked edits.old }
+    ensures found { F.honest → (rs : List Record) → ArePackedRecords settings.now.kind
+        (packed_refs_in settings.now (F.means files.old)) rs → OnOk result
+        (ids_in edits.new ≡ ids_among (setting_of settings.now) rs (updates edits.old)) }
+    ensures put { OnOk result (ArePut (OfFinder T.claims packed_refs.now)
+        (ends_of T.meaning packed_refs.now) (setting_of settings.now) (mode_in packed_refs.now)
+        settings.now.kind edits.new) }
+    ensures failed { IfErr result (IsHeldBack F.honest F.means F.faults
+        (HasReadFault F.Reader.faults) (setting_of settings.now) settings.now.kind
+        (updates edits.old) (IsPeelCause (OfFinder T.claims packed_refs.now)
+        (ends_of T.meaning packed_refs.now) (setting_of settings.now) (mode_in packed_refs.now)
+        settings.now.kind (updates edits.old)) files.old files.new) }
+    ensures reads { OnlyReads F.honest F.means F.faults files.old files.new }
+{
+    find_records(alloc, files, settings, is_absent, edits)?;
+    peel_edits(alloc, settings, packed_refs, edits)
+}
+
+/// Finds the records of all edits, and then takes all locks, or removes those that it took. `packed-refs` is not opened where it is
+/// known to be no file.
+fn find_and_lock<F: Files, T: Find>(
+    alloc: Global,
+    files: &mut F,
+    settings: &Settings<'_>,
+    packed_refs: &PackedRefs<T>,
     is_absent: bool,
     mut edits: Vec<Edit>,
     remains: Remains,
@@ -128,16 +167,21 @@ fn find_and_lock<F: Files>(
         packed_refs_in settings.now (F.means files.old) ≡ None }
     requires ready { AreReady (setting_of settings.now) settings.now.kind edits.items }
     requires room { HasRoom edits remains }
-    ensures held { IfOk result (λ held. HoldAllLocks F.honest (IsPackedWell settings.now.kind
-        (packed_refs_in settings.now (F.means files.old))) (setting_of settings.now)
+    ensures held { IfOk result (λ held. HoldAllLocks
+        F.honest (IsPackedWell settings.now.kind (packed_refs_in settings.now (F.means files.old)))
+        (setting_of settings.now) (mode_in packed_refs.now)
         settings.now.kind (locks_of (setting_of settings.now) (updates edits.items))
         (F.means files.old) (F.means files.new) edits.items held.edits.items remains held.remains) }
+    ensures put { IfOk result (λ held. ArePut (OfFinder T.claims packed_refs.now)
+        (ends_of T.meaning packed_refs.now) (setting_of settings.now) (mode_in packed_refs.now)
+        settings.now.kind held.edits.items) }
     ensures wholes { F.honest → (q : Path) (text : List ℕ) → IsWholeAt (disk_of (F.means files.old))
         q text → OnOk result (IsWholeAt (disk_of (F.means files.new)) q text) }
-    ensures refused { IfErr result (λ failure. IsHeldBack F.honest F.means F.faults
-        (HasReadFault F.Reader.faults) (setting_of settings.now) settings.now.kind
-        (updates edits.items) (IsFirstCause (setting_of settings.now) settings.now.kind
-        (F.means files.old).tree [] (updates edits.items)) files.old files.new failure.error) }
+    ensures refused { IfErr result (λ failure. IsHeldBack F.honest
+        F.means F.faults (HasReadFault F.Reader.faults) (setting_of settings.now) settings.now.kind
+        (updates edits.items) (IsHoldCause (OfFinder T.claims packed_refs.now) (ends_of T.meaning
+        packed_refs.now) (setting_of settings.now) (mode_in packed_refs.now) settings.now.kind
+        (F.means files.old).tree (updates edits.items)) files.old files.new failure.error) }
     ensures removed { IfErr result (λ failure. AreRemovedAgain F.honest F.means F.faults
         (locks_of (setting_of settings.now) (updates edits.items)) (locks_of
         (setting_of settings.now) (updates edits.items)) failure.locks_left files.old files.new) }
@@ -146,8 +190,15 @@ fn find_and_lock<F: Files>(
     ensures takes { OnlyTakes F.honest F.means F.faults
         (locks_of (setting_of settings.now) (updates edits.items)) files.old files.new }
 {
-    match find_records(alloc, files, settings, is_absent, &mut edits) {
-        Ok(()) => lock_all_or_none(alloc, files, settings, edits, remains),
+    match find_and_peel(alloc, files, settings, packed_refs, is_absent, &mut edits) {
+        Ok(()) => lock_all_or_none(
+            alloc,
+            files,
+            settings,
+            packed_refs.packing(),
+            edits,
+            remains,
+        ),
         Err(error) => Err(LockFailure {
             error,
             locks_left: remains.left,
@@ -157,33 +208,41 @@ fn find_and_lock<F: Files>(
 
 /// Takes the lock of `packed-refs` where it is due, finds the records of all edits, and takes the locks of these; or removes those
 /// that it took.
-pub fn lock_edits<F: Files>(
+pub fn lock_edits<F: Files, T: Find>(
     alloc: Global,
     files: &mut F,
     settings: &Settings<'_>,
+    packed_refs: &PackedRefs<T>,
     edits: Vec<Edit>,
     remains: Remains,
 ) -> Result<HeldLocks, LockFailure>
     requires ready { AreReady (setting_of settings.now) settings.now.kind edits.items }
     requires room { HasRoom edits remains }
-    ensures held { IfOk result (λ held. HoldAllLocks F.honest
-        (IsPackedWell settings.now.kind (packed_refs_in settings.now (F.means files.old)))
-        (setting_of settings.now) settings.now.kind
-        (own_locks (setting_of settings.now) (F.means files.old).tree (updates edits.items))
+    ensures held { IfOk result (λ held. HoldAllLocks
+        F.honest (IsPackedWell settings.now.kind (packed_refs_in settings.now (F.means files.old)))
+        (setting_of settings.now) (mode_in packed_refs.now) settings.now.kind (own_locks (setting_of
+        settings.now) (mode_in packed_refs.now) (F.means files.old).tree (updates edits.items))
         (F.means files.old) (F.means files.new) edits.items held.edits.items remains held.remains) }
-    ensures packed { IfOk result (λ held. HoldsPackedLock F.honest (setting_of settings.now)
+    ensures put { IfOk result (λ held. ArePut (OfFinder T.claims packed_refs.now)
+        (ends_of T.meaning packed_refs.now) (setting_of settings.now) (mode_in packed_refs.now)
+        settings.now.kind held.edits.items) }
+    ensures packed { IfOk
+        result (λ held. HoldsPackedLock F.honest (setting_of settings.now) (mode_in packed_refs.now)
         (F.means files.old).tree (F.means files.new).tree (updates edits.items) held.packed) }
-    ensures refused { IfErr result (λ failure. IsHeldBack F.honest F.means F.faults
-        (HasReadFault F.Reader.faults) (setting_of settings.now) settings.now.kind
-        (updates edits.items) (IsLockCause (setting_of settings.now) settings.now.kind
+    ensures refused { IfErr result (λ failure. IsHeldBack F.honest
+        F.means F.faults (HasReadFault F.Reader.faults) (setting_of settings.now) settings.now.kind
+        (updates edits.items) (IsLockCause (OfFinder T.claims packed_refs.now) (ends_of T.meaning
+        packed_refs.now) (setting_of settings.now) (mode_in packed_refs.now) settings.now.kind
         (F.means files.old).tree (updates edits.items)) files.old files.new failure.error) }
-    ensures removed { IfErr result (λ failure. AreRemovedAgain F.honest F.means F.faults (own_locks
-        (setting_of settings.now) (F.means files.old).tree (updates edits.items)) (possible_locks
+    ensures removed { IfErr result
+        (λ failure. AreRemovedAgain F.honest F.means F.faults (own_locks (setting_of settings.now)
+        (mode_in packed_refs.now) (F.means files.old).tree (updates edits.items)) (possible_locks
         (setting_of settings.now) (updates edits.items)) failure.locks_left files.old files.new) }
-    ensures takes { OnlyTakes F.honest F.means F.faults (own_locks (setting_of settings.now)
+    ensures takes { OnlyTakes
+        F.honest F.means F.faults (own_locks (setting_of settings.now) (mode_in packed_refs.now)
         (F.means files.old).tree (updates edits.items)) files.old files.new }
 {
-    let packed = match take_packed(alloc, files, settings, &edits) {
+    let packed = match take_packed(alloc, files, settings, packed_refs.packing(), &edits) {
         Ok(packed) => packed,
         Err(error) => {
             return Err(LockFailure {
@@ -193,7 +252,15 @@ pub fn lock_edits<F: Files>(
         }
     };
     let is_absent = is_absent(settings, &edits, &packed);
-    match find_and_lock(alloc, files, settings, is_absent, edits, remains) {
+    match find_and_lock(
+        alloc,
+        files,
+        settings,
+        packed_refs,
+        is_absent,
+        edits,
+        remains,
+    ) {
         Ok(held) => {
             let HeldEdits { edits, remains } = held;
             Ok(HeldLocks {

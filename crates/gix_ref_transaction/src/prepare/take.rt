@@ -5,9 +5,11 @@ ghost use Rattle.gix_ref_files.specs.Files.{disk_of};
 ghost use Rattle.gix_ref_files.specs.Settled.{IsWholeAt};
 ghost use Rattle.gix_ref_transaction.specs.Causes.{locks_of};
 ghost use Rattle.gix_ref_transaction.specs.HeldLocks.{AreReady, AreTaken, FirstAreTaken, IsTakingFault, OnlyTakes};
+ghost use Rattle.gix_ref_transaction.specs.Packing.{mode_of_packing};
 ghost use Rattle.gix_ref_transaction.specs.PrepareSteps.{setting_of, updates, place_paths, all_given, ids_in, packed_ids};
 
 use crate::edit::Edit;
+use crate::packing::Packing;
 use crate::prepare::Error;
 use gix_ref_files::files::Files;
 use gix_ref_files::paths::folder_end;
@@ -46,6 +48,7 @@ pub fn take_locks<F: Files>(
     alloc: Global,
     files: &mut F,
     settings: &Settings<'_>,
+    packing: Packing,
     edits: &mut [Edit],
     taken: &mut usize,
 ) -> Result<(), Error>
@@ -55,9 +58,9 @@ pub fn take_locks<F: Files>(
     ensures first { FirstAreTaken F.honest (setting_of settings.now) edits.old taken.new
         (F.means files.old).tree (F.means files.new).tree }
     ensures every { OnOk result (taken.new ≡ length edits.old) }
-    ensures taken { F.honest → OnOk result (AreTaken (ids_in edits.old
-        ≡ packed_ids (setting_of settings.now) (F.means files.old).tree (updates edits.old))
-        (setting_of settings.now) settings.now.kind (locks_of (setting_of settings.now)
+    ensures taken { F.honest → OnOk result (AreTaken (ids_in edits.old ≡ packed_ids (setting_of
+        settings.now) (F.means files.old).tree (updates edits.old)) (setting_of settings.now)
+        (mode_of_packing packing) settings.now.kind (locks_of (setting_of settings.now)
         (updates edits.old)) (F.means files.old) (F.means files.new) edits.old edits.new) }
     ensures wholes { F.honest → (q : Path) (text : List ℕ) → IsWholeAt (disk_of (F.means files.old))
         q text → OnOk result (IsWholeAt (disk_of (F.means files.new)) q text) }
@@ -71,7 +74,7 @@ pub fn take_locks<F: Files>(
         let edit = &mut edits[i];
         edit.take(files, is_ready)?;
         *taken = i + 1;
-        edit.compare_and_write(alloc, files, settings)?;
+        edit.compare_and_write(alloc, files, settings, packing)?;
     }
     Ok(())
 }

@@ -25,8 +25,8 @@ returns-clause-decided g c =
     let old = means c.args.files.now in
     let mid = means c.repack.new.files in
     record {
-      repacked = λ h apart rs are ids some. c.in_ok-rewrite.ensures.repacked h apart rs are ids;
-      whole = λ h some removes. c.in_ok-rewrite.ensures.whole h removes;
+      repacked = λ h mode apart rs are ids puts can some. c.in_ok-rewrite.ensures.repacked h mode apart rs are ids puts can;
+      whole = λ h some alters. c.in_ok-rewrite.ensures.whole h alters;
       filled = λ h empty.
           elim c.match-rewrite.branch [
             | in-Text+in_default-write_text w ↦

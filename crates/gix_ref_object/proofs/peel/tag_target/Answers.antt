@@ -1,21 +1,16 @@
-use Rattle.std.proofs.Common.{◌∙◌}
-use Rattle.gix_ref_object.proofs.TagTargets.{no_front, too_short, no_line, a_line}
+use Rattle.std.proofs.Common.{Option, ap, ◌∙◌, sym}
+use Rattle.gix_ref_hash.specs.declared.hash.Kind.TheVariants as kinds
+use Rattle.gix_ref_hash.specs.declared.hash.ObjectId.{ObjectId}
+use Rattle.gix_ref_object.specs.Peeling.{first_of, target_of_kind, tag_target}
 use Rattle.gix_ref_object.proofs.peel.tag_target.Goals as goal
-use Rattle.gix_ref_object.proofs.peel.tag_target.Goals.{then-rest-len-via-then-rest-len, then-rest-len-via-else-rest-len+then-rest-len-ne10}
 
-pub returns-in_default : goal.returns-in_default
-returns-in_default c = no_front c.args.kind c.args.bytes.now c.in_default.ensures
+pub returns-in-Some : goal.returns-in-Some
+unfolding tag_target
+returns-in-Some c =
+    ap (λ (o : Option ObjectId). first_of o (target_of_kind kinds.Sha256 c.args.bytes.now)) (sym c.in-Some.is ∙ c.target_of_kind.ensures)
 
-pub returns-then-rest-len : goal.returns-then-rest-len
-returns-then-rest-len c =
-    elim c.then-rest-len.branch [
-      | then-rest-len-via-then-rest-len w ↦
-          too_short c.args.kind c.args.bytes.now c.in-Some.rest.now c.len_in_hex-len.result c.len_in_hex-len.ensures c.in-Some.ensures w.if-rest-len.true
-      | then-rest-len-via-else-rest-len+then-rest-len-ne10 w ↦
-          no_line c.args.kind c.args.bytes.now c.in-Some.rest.now c.len_in_hex-len.result c.len_in_hex-len.ensures c.in-Some.ensures w.if-rest-len.false w.if-rest-len-ne10.true
-    ]
-
-pub returns : goal.returns
-returns c =
-    c.id_of_hex.ensures
-    ∙ a_line c.args.kind c.args.bytes.now c.in-Some.rest.now c.len_in_hex-len.result c.len_in_hex-len.ensures c.in-Some.ensures c.if-rest-len.false c.if-rest-len-ne10.false
+pub returns-in-None : goal.returns-in-None
+unfolding tag_target
+returns-in-None c =
+    c.target_of_kind-in-None.ensures
+    ∙ ap (λ (o : Option ObjectId). first_of o (target_of_kind kinds.Sha256 c.args.bytes.now)) (sym c.in-None.is ∙ c.target_of_kind.ensures)

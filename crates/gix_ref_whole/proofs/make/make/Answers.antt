@@ -1,11 +1,16 @@
 use Rattle.std.proofs.Common.{◌∙◌, rules, List, ap, subst, sym, length}
 use Rattle.gix_ref_files.specs.Files.{HasRisenBy}
 use Rattle.gix_ref_files.specs.Tree.{Path}
+use Rattle.gix_ref_packed.specs.OpenFiles.{HasReadFault}
+use Rattle.gix_ref_object.specs.Objects.Stored.{Absent}
+use Rattle.gix_ref_object.specs.contracts.object.NeverFind.TheImpl.{claims-value, meaning-value}
+use Rattle.gix_ref_theory.specs.Edits.Mode.{DeletionsOnly}
 use Rattle.gix_ref_transaction.specs.OwnLocks.{paths_of}
+use Rattle.gix_ref_transaction.specs.Packing.{OfFinder, ends_of, mode_in}
+use Rattle.gix_ref_store.specs.Prepared.{RefusesGiven}
 use Rattle.gix_ref_store.specs.CommitResult.{left_of, mode_handed_back, EveryStopFrom}
-use Rattle.gix_ref_store.specs.Prepared.{PreparesGiven}
 use Rattle.gix_ref_store.specs.Store.{files_of}
-use Rattle.gix_ref_whole.specs.WholeRuns.{HasFailed, MakesEdited}
+use Rattle.gix_ref_whole.specs.WholeRuns.{HasFailed, MakesEdited, Prepares}
 use Rattle.gix_ref_whole.proofs.Committed.{carried_before, committed_before, keeps, keeps_split, losses_same, stops_same}
 use Rattle.gix_ref_store.proofs.SameStores.{at_same, same_on}
 use Rattle.gix_ref_whole.proofs.make.make.Goals as goal
@@ -20,7 +25,7 @@ returns-in-Err-commit-clause-not_made g c =
     let packed = c.in-Ok.prepared.plan.packed in
     let held = c.in-Ok.prepared.plan.edits.items in
     let failed = c.in-Err-commit.failed in
-    let from : PreparesGiven F.honest F.means F.faults old mid edits packed held = rw c.transaction.ensures.value at c.in-Ok.ensures.prepared in
+    let from : Prepares F.honest F.means F.faults old mid edits packed held = rw (c.transaction.ensures.value, c.transaction.ensures.packed_refs) at c.in-Ok.ensures.prepared in
     let left = paths_of failed.locks_left.items in
     let stops : EveryStopFrom F.honest F.means F.faults mid new c.args.committer packed held left =
     subst (λ (l : List Path). EveryStopFrom F.honest F.means F.faults mid new c.args.committer packed held l) (ap left_of c.in-Err-commit.is) c.commit.ensures.safe.stops in
@@ -51,7 +56,7 @@ returns-in-Ok-commit-clause-made g c =
     let packed = c.in-Ok.prepared.plan.packed in
     let held = c.in-Ok.prepared.plan.edits.items in
     let left = paths_of c.in-Ok-commit.done.locks_left.items in
-    let from : PreparesGiven F.honest F.means F.faults old mid edits packed held = rw c.transaction.ensures.value at c.in-Ok.ensures.prepared in
+    let from : Prepares F.honest F.means F.faults old mid edits packed held = rw (c.transaction.ensures.value, c.transaction.ensures.packed_refs) at c.in-Ok.ensures.prepared in
     let stops : EveryStopFrom F.honest F.means F.faults mid new c.args.committer packed held left =
     subst (λ (l : List Path). EveryStopFrom F.honest F.means F.faults mid new c.args.committer packed held l) (ap left_of c.in-Ok-commit.is) c.commit.ensures.safe.stops in
     let mode = ap mode_handed_back (sym c.in-Ok-commit.is) ∙ (c.commit.ensures.packed_refs ∙ (c.in-Ok.ensures.packed_refs ∙ c.transaction.ensures.packed_refs)) in
@@ -78,3 +83,17 @@ returns-in-Ok-commit-clause-made g c =
       same = keeps_split F.honest F.means F.faults old mid new edits c.args.committer packed held left from stops (same_on old mid new from.prepared.held.same c.commit.ensures.same) c.in-Ok-commit.ensures.committed.commits
           c.in-Ok-commit.ensures.committed.settled c.commit.ensures.safe.losses;
     })
+
+pub returns-in-Err-clause-not_made : goal.returns-in-Err-clause-not_made
+returns-in-Err-clause-not_made g c =
+    let F = g.F.Files in
+    let read = HasReadFault g.F.Reader.ReadAt.faults in
+    let old = c.args.store.now in
+    let new = c.prepare.follows.lender-at-none in
+    let edits = c.args.edits.items in
+    let error = c.in-Err.refused.error in
+    let left = paths_of c.in-Err.refused.locks_left.items in
+    let mode = c.transaction.result.packed_refs in
+    let from : RefusesGiven F.honest read F.means F.faults (OfFinder claims-value.it mode) (ends_of meaning-value.it mode) (mode_in mode) c.transaction.result.store.now new edits error left = search rules in
+    at_same (λ now. RefusesGiven F.honest read F.means F.faults (Unit {0}) (λ id. Absent) DeletionsOnly old now edits error left) {x = c.store-in-Err-2.given.0} {y = new} (search rules)
+    (rw (c.transaction.ensures.value, c.transaction.ensures.packed_refs) at from)

@@ -6,6 +6,8 @@ ghost use Rattle.gix_ref_transaction.specs.LeftLocks.{HasRoom};
 ghost use Rattle.gix_ref_transaction.specs.OwnLocks.{paths_of};
 ghost use Rattle.gix_ref_store.specs.Prepared.{RefusesFrom, RefusesGiven, RefusesSplit, HoldsFrom, HoldsGiven, SplitsFrom, HasGoodRecords, HoldsPacked, LosesNothing, locks_in, tree_of, disk_in};
 ghost use Rattle.gix_ref_store.specs.Store.{files_of, kind_of, meaning_of, with_files};
+ghost use Rattle.gix_ref_transaction.specs.Packing.{OfFinder, ends_of, mode_in};
+ghost use Rattle.gix_ref_transaction.specs.Peels.{ArePut};
 ghost use Rattle.gix_ref_transaction.specs.Parents.{parents_in, split_parents};
 ghost use Rattle.gix_ref_transaction.specs.Splits.{name_led_to, values_of, IsSplitCause};
 ghost use Rattle.gix_ref_files.specs.ReadOnly.{OnlyReads};
@@ -18,7 +20,9 @@ use crate::file::transaction::prepare::compose::asked_edits;
 use gix_ref_edits::transaction::RefEdit;
 use gix_ref_files::files::Files;
 use gix_ref_lookup::settings::Settings;
+use gix_ref_object::object::Find;
 use gix_ref_transaction::edit::Edit;
+use gix_ref_transaction::packing::PackedRefs;
 use gix_ref_transaction::prepare::Error;
 use gix_ref_transaction::prepare::check::{check_edits, check_names};
 use gix_ref_transaction::prepare::hold::{HeldLocks, LockFailure, edits_at, lock_edits};
@@ -58,32 +62,44 @@ fn begun(
 
 impl<F: Files> Store<F> {
     /// Looks at the names of a split list, finds the records of its edits, and takes their locks with their texts.
-    fn lock_split(&mut self, alloc: Global, split: SplitEdits) -> Result<HeldLocks, LockFailure>
+    fn lock_split<T: Find>(
+        &mut self,
+        alloc: Global,
+        packed_refs: &PackedRefs<T>,
+        split: SplitEdits,
+    ) -> Result<HeldLocks, LockFailure>
         requires valid { AllValid (meaning_of self.old) (kind_of self.old) [] split.edits.items }
         requires len { vec_len split.parents ≡ vec_len split.edits }
         ensures refused { IfErr result
             (λ failure. RefusesSplit F.honest (HasReadFault F.Reader.faults) F.means F.faults
+            (OfFinder T.claims packed_refs.now)
+            (ends_of T.meaning packed_refs.now) (mode_in packed_refs.now)
             self.old self.new split.edits.items failure.error (paths_of failure.locks_left.items)) }
         ensures asked { IfOk result (λ held. updates held.edits.items ≡ split.edits.items) }
-        ensures held { IfOk result (λ held. HoldsFrom F.honest F.means F.faults self.old self.new
+        ensures held { IfOk result (λ held. HoldsFrom F.honest F.means F.faults
+            (mode_in packed_refs.now) self.old self.new
             split.edits.items (targets_of held.edits.items)) }
         ensures effects { F.honest → HasGoodRecords F.means self.old →
             IfOk result (λ held. effects_of held.edits.items ≡ effects_on (meaning_of self.old)
-            (view_of (tree_of F.means self.old)) split.edits.items) }
+            (mode_in packed_refs.now) (view_of (tree_of F.means self.old)) split.edits.items) }
         ensures files { F.honest → HasGoodRecords F.means self.old →
             IfOk result (λ held. seen_files held.edits.items
             ≡ files_at (meaning_of self.old) (tree_of F.means self.old) split.edits.items) }
         ensures ids { F.honest → HasGoodRecords F.means self.old →
             IfOk result (λ held. ids_in held.edits.items
             ≡ packed_ids (meaning_of self.old) (tree_of F.means self.old) split.edits.items) }
-        ensures lost { F.honest → LosesNothing F.means self.old self.new split.edits.items }
+        ensures lost { F.honest →
+            LosesNothing F.means (mode_in packed_refs.now) self.old self.new split.edits.items }
         ensures whole { F.honest → IfOk result (λ held. AreWholeLocks (disk_in F.means self.new)
-            (locks_in F.means self.old split.edits.items)) }
+            (locks_in F.means (mode_in packed_refs.now) self.old split.edits.items)) }
         ensures places { IfOk result (λ held. place_paths held.edits.items
             ≡ places_of (meaning_of self.old) split.edits.items) }
         ensures parents { IfOk result (λ held. parents_in held.edits.items ≡ split.parents.items) }
-        ensures packed { IfOk result (λ held.
-            HoldsPacked F.honest F.means F.faults self.old self.new split.edits.items held.packed) }
+        ensures packed { IfOk result (λ held. HoldsPacked F.honest F.means
+            F.faults (mode_in packed_refs.now) self.old self.new split.edits.items held.packed) }
+        ensures put { IfOk result (λ held. ArePut (OfFinder T.claims packed_refs.now)
+            (ends_of T.meaning packed_refs.now) (meaning_of self.old) (mode_in packed_refs.now)
+            (kind_of self.old) held.edits.items) }
         ensures room { IfOk result (λ held. HasRoom held.edits held.remains) }
     {
         let settings = settings!(self);
@@ -92,7 +108,14 @@ impl<F: Files> Store<F> {
         }
         match begun(alloc, &settings, split) {
             Ok((edits, remains)) => {
-                lock_edits(alloc, &mut self.files, &settings, edits, remains)
+                lock_edits(
+                    alloc,
+                    &mut self.files,
+                    &settings,
+                    packed_refs,
+                    edits,
+                    remains,
+                )
             }
             Err(_) => Err(untouched(alloc, Error::Memory)),
         }
@@ -123,61 +146,73 @@ impl<F: Files> Store<F> {
 
     /// Checks the edits, splits those that follow symbolic references, finds the records of all, and takes their locks with their
     /// texts.
-    fn check_and_lock(
+    fn check_and_lock<T: Find>(
         &mut self,
         alloc: Global,
+        packed_refs: &PackedRefs<T>,
         edits: Vec<RefEdit>,
     ) -> Result<HeldLocks, LockFailure>
         ensures refused { IfErr result
             (λ failure. RefusesFrom F.honest (HasReadFault F.Reader.faults) F.means F.faults
+            (OfFinder T.claims packed_refs.now)
+            (ends_of T.meaning packed_refs.now) (mode_in packed_refs.now)
             self.old self.new edits.items failure.error (paths_of failure.locks_left.items)) }
         ensures splits { IfOk result (λ held.
             SplitsFrom F.honest F.means F.faults self.old edits.items (updates held.edits.items)) }
-        ensures held { IfOk result (λ held. HoldsFrom F.honest F.means F.faults self.old self.new
+        ensures held { IfOk result (λ held. HoldsFrom F.honest F.means F.faults
+            (mode_in packed_refs.now) self.old self.new
             (updates held.edits.items) (targets_of held.edits.items)) }
-        ensures effects { F.honest → HasGoodRecords F.means self.old →
-            IfOk result (λ held. effects_of held.edits.items ≡ effects_on (meaning_of self.old)
-            (view_of (tree_of F.means self.old)) (updates held.edits.items)) }
+        ensures effects { F.honest → HasGoodRecords F.means self.old → IfOk
+            result (λ held. effects_of held.edits.items ≡ effects_on (meaning_of self.old) (mode_in
+            packed_refs.now) (view_of (tree_of F.means self.old)) (updates held.edits.items)) }
         ensures files { F.honest → HasGoodRecords F.means self.old →
             IfOk result (λ held. seen_files held.edits.items ≡ files_at (meaning_of self.old)
             (tree_of F.means self.old) (updates held.edits.items)) }
         ensures ids { F.honest → HasGoodRecords F.means self.old →
             IfOk result (λ held. ids_in held.edits.items ≡ packed_ids (meaning_of self.old)
             (tree_of F.means self.old) (updates held.edits.items)) }
-        ensures lost { F.honest → IfOk result
-            (λ held. LosesNothing F.means self.old self.new (updates held.edits.items)) }
+        ensures lost { F.honest → IfOk result (λ held. LosesNothing
+            F.means (mode_in packed_refs.now) self.old self.new (updates held.edits.items)) }
         ensures whole { F.honest → IfOk result (λ held. AreWholeLocks (disk_in F.means self.new)
-            (locks_in F.means self.old (updates held.edits.items))) }
+            (locks_in F.means (mode_in packed_refs.now) self.old (updates held.edits.items))) }
         ensures places { IfOk result (λ held. place_paths held.edits.items
             ≡ places_of (meaning_of self.old) (updates held.edits.items)) }
         ensures parents { F.honest → IfOk result (λ held. parents_in held.edits.items
             ≡ split_parents (name_led_to (meaning_of self.old) (view_of (tree_of F.means self.old)))
             (values_of edits.items)) }
-        ensures packed { IfOk result (λ held. HoldsPacked F.honest F.means F.faults self.old
-            self.new (updates held.edits.items) held.packed) }
+        ensures packed { IfOk result (λ held. HoldsPacked F.honest F.means F.faults
+            (mode_in packed_refs.now) self.old self.new (updates held.edits.items) held.packed) }
+        ensures put { IfOk result (λ held. ArePut (OfFinder T.claims packed_refs.now)
+            (ends_of T.meaning packed_refs.now) (meaning_of self.old) (mode_in packed_refs.now)
+            (kind_of self.old) held.edits.items) }
         ensures room { IfOk result (λ held. HasRoom held.edits held.remains) }
     {
         match self.split(alloc, edits) {
-            Ok(split) => self.lock_split(alloc, split),
+            Ok(split) => self.lock_split(alloc, packed_refs, split),
             Err(error) => Err(untouched(alloc, error)),
         }
     }
 
     /// Composes the names of the edits, where the store composes names; then all as above.
-    pub(crate) fn compose_and_lock(
+    pub(crate) fn compose_and_lock<T: Find>(
         &mut self,
         alloc: Global,
+        packed_refs: &PackedRefs<T>,
         edits: Vec<RefEdit>,
     ) -> Result<HeldLocks, LockFailure>
         ensures refused { IfErr result
             (λ failure. RefusesGiven F.honest (HasReadFault F.Reader.faults) F.means F.faults
+            (OfFinder T.claims packed_refs.now)
+            (ends_of T.meaning packed_refs.now) (mode_in packed_refs.now)
             self.old self.new edits.items failure.error (paths_of failure.locks_left.items)) }
-        ensures held { IfOk result (λ held. HoldsGiven F.honest F.means F.faults self.old self.new
+        ensures held { IfOk result (λ held. HoldsGiven F.honest F.means F.faults
+            (OfFinder T.claims packed_refs.now)
+            (ends_of T.meaning packed_refs.now) (mode_in packed_refs.now) self.old self.new
             edits.items held.packed held.edits.items) }
         ensures room { IfOk result (λ held. HasRoom held.edits held.remains) }
     {
         match asked_edits(alloc, self.precompose_unicode, edits) {
-            Ok(asked) => self.check_and_lock(alloc, asked),
+            Ok(asked) => self.check_and_lock(alloc, packed_refs, asked),
             Err(_) => Err(untouched(alloc, Error::Memory)),
         }
     }

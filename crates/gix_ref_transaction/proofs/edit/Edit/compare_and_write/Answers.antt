@@ -7,6 +7,7 @@ use Rattle.gix_ref_files.specs.Settled.{IsWholeAt}
 use Rattle.gix_ref_theory.specs.OnRealTrees.{view_of}
 use Rattle.gix_ref_edits.specs.RefEdits.{name_of, new_of, expected_of, Expects}
 use Rattle.gix_ref_transaction.specs.Causes.{found, found_by, decoded}
+use Rattle.gix_ref_transaction.specs.Packing.{mode_of_packing}
 use Rattle.gix_ref_transaction.specs.PrepareSteps.{setting_of, value_of, decision, effect_value, is_damaged, IsSomeWhole}
 use Rattle.gix_ref_transaction.proofs.EditRounds.{both_on_ok}
 use Rattle.gix_ref_transaction.proofs.LookupLemmas.{decided_is, filled_with}
@@ -32,9 +33,10 @@ returns-clause-written g c h =
       decided = λ asked empty.
           let is : value_of was.target ≡ found s view name =
           c.in_ok-was.ensures.target h ∙ (ap (λ (p : Path). found_by s (decoded s (view p)) old.packed) placed ∙ ap (found_by s (decoded s (view (s.place name)))) asked) in
-          let told : new.effect ≡ decision old.update.change (found s view name) (is_damaged s (view (s.place name))) =
-          c.decide.ensures.effect ∙ (ap (λ w. decision old.update.change w was.damaged) is ∙ ap (decision old.update.change (found s view name)) bad) in
-          let what : effect_value old.update.change new.effect ≡ _ = decided_is s view old.update allowed (λ t. refl) new.effect told in
+          let alone = c.is_packed_alone-alone.result in
+          let told : new.effect ≡ decision old.update.change alone (found s view name) (is_damaged s (view (s.place name))) =
+          c.decide.ensures.effect ∙ (ap (λ w. decision old.update.change alone w was.damaged) is ∙ ap (decision old.update.change alone (found s view name)) bad) in
+          let what : effect_value old.update.change new.effect ≡ _ = decided_is s (mode_of_packing c.args.packing) view old.update allowed (λ t. refl) alone c.is_packed_alone-alone.ensures new.effect told in
           let text : effect_value new.update.change new.effect ≡ _ = ap (λ p. effect_value p.0.change new.effect) c.decide.ensures.given ∙ what in
           record {
             was = ap value_of c.decide.ensures.found ∙ is;

@@ -74,6 +74,7 @@ loop-edit-preserved c =
       effects = map-set_same (λ (a : Edit). effect_value a.update.change a.effect) edits i new e
           (effect_kept new.update.change e.update.change new.effect c.record_old_value.ensures.carried.change ∙ ap (effect_value e.update.change) c.record_old_value.ensures.effect ∙ ap (λ (a : Edit). effect_value a.update.change a.effect) is) ∙ x.effects;
       ids = map-set_same (λ (a : Edit). a.packed) edits i new e (c.record_old_value.ensures.id ∙ ap (λ (a : Edit). a.packed) is) ∙ x.ids;
+      puts = map-set_same (λ (a : Edit). a.put) edits i new e (c.record_old_value.ensures.put ∙ ap (λ (a : Edit). a.put) is) ∙ x.puts;
       carried = carried_more c.args.edits.now edits i e new lt is x.rest c.record_old_value.ensures.carried x.carried;
       rest = λ k d le. get_or-set_other edits i k new d (λ same. absurd (omega (arith, le, same))) ∙ x.rest k d (omega (arith, le));
     }

@@ -1,7 +1,7 @@
 use Rattle.std.proofs.Common.{◌≡◌, ◌<◌, ◌≤◌, ℕ, get_or}
 use Rattle.gix_ref_transaction.specs.CarriedEdits.{IsCarried}
 use Rattle.gix_ref_transaction.specs.Parents.{parents_in}
-use Rattle.gix_ref_transaction.specs.PrepareSteps.{effects_of, ids_in, place_paths, seen_files, value_of}
+use Rattle.gix_ref_transaction.specs.PrepareSteps.{effects_of, ids_in, place_paths, puts_in, seen_files, value_of}
 use Rattle.gix_ref_transaction.specs.declared.edit.Edit.{Edit}
 use Rattle.gix_ref_transaction.proofs.prepare.carry.record_old_values.Given as goal
 
@@ -13,6 +13,7 @@ invariant-loop-edit l = record {
   files : seen_files l.edits ≡ seen_files l.fn.edits;
   effects : effects_of l.edits ≡ effects_of l.fn.edits;
   ids : ids_in l.edits ≡ ids_in l.fn.edits;
+  puts : puts_in l.edits ≡ puts_in l.fn.edits;
   carried : (k : ℕ) (d : Edit) → k < l.edit-index → IsCarried (get_or l.fn.edits k d).update (value_of (get_or l.fn.edits k d).found) (get_or l.edits k d).update;
   rest : (k : ℕ) (d : Edit) → l.edit-index ≤ k → get_or l.edits k d ≡ get_or l.fn.edits k d;
 }

@@ -7,6 +7,7 @@ use Rattle.gix_ref_files.proofs.Moments.{passes_joins}
 use Rattle.gix_ref_transaction.specs.OwnLocks.{paths_of, times, AddsLocks, is_in}
 use Rattle.gix_ref_transaction.specs.Causes.{locks_of}
 use Rattle.gix_ref_transaction.specs.HeldLocks.{AreTaken}
+use Rattle.gix_ref_transaction.specs.Packing.{mode_of_packing}
 use Rattle.gix_ref_transaction.specs.PrepareSteps.{setting_of, lock_paths, updates, all_asked, all_given, ids_in, packed_ids}
 use Rattle.gix_ref_transaction.specs.declared.edit.Edit.{Edit}
 use Rattle.gix_ref_transaction.proofs.Adds.{clash}
@@ -35,8 +36,8 @@ returns-in-Ok-clause-held g c =
       asked = ap all_asked over ∙ (asked ∙ ap all_asked same);
       remains = refl;
       adds = search rules;
-      taken = λ h. subst (λ (l : List Edit). AreTaken (ids_in l ≡ packed_ids s first.tree (updates l)) s kind (locks_of s (updates l)) first last l now) same
-          (subst (λ (l : List Edit). AreTaken (ids_in given ≡ packed_ids s first.tree (updates given)) s kind (locks_of s (updates given)) first last given l) (sym over) (c.in-Ok.ensures.taken h));
+      taken = λ h. subst (λ (l : List Edit). AreTaken (ids_in l ≡ packed_ids s first.tree (updates l)) s (mode_of_packing c.args.packing) kind (locks_of s (updates l)) first last l now) same
+          (subst (λ (l : List Edit). AreTaken (ids_in given ≡ packed_ids s first.tree (updates given)) s (mode_of_packing c.args.packing) kind (locks_of s (updates given)) first last given l) (sym over) (c.in-Ok.ensures.taken h));
     }
 
 pub returns-in-Ok-clause-takes : goal.returns-in-Ok-clause-takes

@@ -1,4 +1,5 @@
 use Rattle.std.proofs.Common.{◌≡◌, ◌≤◌}
+use Rattle.gix_ref_transaction.specs.Packing.{mode_of_packing}
 use Rattle.gix_ref_transaction.specs.PrepareSteps.{setting_of, all_given, ids_in, packed_ids, updates}
 use Rattle.gix_ref_transaction.proofs.EditRounds.{Goes, Finds}
 use Rattle.gix_ref_transaction.proofs.prepare.take.take_locks.Given as goal
@@ -16,5 +17,5 @@ invariant-loop-i g l =
       same : all_given l.edits ≡ all_given l.fn.edits;
       counted : l.taken ≡ l.i;
       goes : g.F.Files.honest → Goes s kind all first l.i now;
-      finds : g.F.Files.honest → ids_in l.fn.edits ≡ packed_ids s first.tree all → Finds s kind all first l.i now l.edits;
+      finds : g.F.Files.honest → ids_in l.fn.edits ≡ packed_ids s first.tree all → Finds s kind all first (mode_of_packing l.packing) l.i now l.edits;
     }

@@ -48,10 +48,10 @@ returns-in-Err-clause-failed g c =
           undecided_fails F.honest F.means F.faults start new c.args.committer c.args.packed held c.decide.new.edits.items c.decide.ensures.alike c.in-Err.error
           (undecided_wider F.honest F.means F.faults start c.decide.new.self new c.args.committer held c.in-Err.error e.releases.no_fewer c.in-Err.ensures.failed)
           (λ h empty. only_locks F.honest F.means F.faults start new c.args.committer c.args.packed held c.decide.new.edits.items c.decide.ensures.alike false (F.means c.decide.new.self.files).tree (c.decide.ensures.fills.leaves h empty).tree (e.releases.leaves h).tree);
-      sound = λ old given from h good bad.
+      sound = λ old mode given from h good bad.
           never_bad F.honest F.means F.faults start c.decide.new.self c.args.committer c.args.edits.items c.in-Err.error c.in-Err.ensures.failed bad h
-          (start_edits F.honest F.means F.faults old start c.args.committer given c.args.packed c.args.edits.items from h good) good.0
-          (start_records F.honest F.means F.faults old start c.args.committer given c.args.packed c.args.edits.items from h good);
+          (start_edits F.honest F.means F.faults mode old start c.args.committer given c.args.packed c.args.edits.items from h good) good.0
+          (start_records F.honest F.means F.faults mode old start c.args.committer given c.args.packed c.args.edits.items from h good);
     }
 
 pub returns-in-Err-clause-safe : goal.returns-in-Err-clause-safe
@@ -60,12 +60,12 @@ returns-in-Err-clause-safe g c =
     let e = c.release_all-remains.ensures in
     let ran = c.decide.new.edits in
     record {
-      stops = λ old given from.
-          undecided_well F.honest F.means F.faults old c.args.self.now c.args.committer given c.args.packed c.args.edits.items from ran.items c.decide.ensures.alike _ (paths_of c.release_all-remains.result.left.items) (F.means c.decide.new.self.files)
+      stops = λ old mode given from.
+          undecided_well F.honest F.means F.faults mode old c.args.self.now c.args.committer given c.args.packed c.args.edits.items from ran.items c.decide.ensures.alike _ (paths_of c.release_all-remains.result.left.items) (F.means c.decide.new.self.files)
           (λ h. c.decide.ensures.fills.leaves h (from.packed.empty h)) (λ h. c.decide.ensures.fills.passes h (from.packed.empty h))
           (λ h. e.releases.leaves h) (λ h. e.releases.passes h) (λ h. e.packed_gone h) (λ h k lt. e.gone h k (omega (arith, lt, ran.ok))) e.named.ours e.named.once;
-      losses = λ old given from h good at_rest.
-          undecided_lost F.honest F.means F.faults old c.args.self.now c.args.committer given c.args.packed c.args.edits.items from ran.items c.decide.ensures.alike _ (paths_of c.release_all-remains.result.left.items) (F.means c.decide.new.self.files)
+      losses = λ old mode given from h good at_rest.
+          undecided_lost F.honest F.means F.faults mode old c.args.self.now c.args.committer given c.args.packed c.args.edits.items from ran.items c.decide.ensures.alike _ (paths_of c.release_all-remains.result.left.items) (F.means c.decide.new.self.files)
           (λ h. c.decide.ensures.fills.leaves h (from.packed.empty h)) (λ h. c.decide.ensures.fills.passes h (from.packed.empty h))
           (λ h. e.releases.leaves h) (λ h. e.releases.passes h) (λ h. e.packed_gone h) (λ h k lt. e.gone h k (omega (arith, lt, ran.ok))) e.named.ours e.named.once h good at_rest;
     }
@@ -142,7 +142,7 @@ returns-in-Err-publish-clause-failed g c =
           only_locks F.honest F.means F.faults start new c.args.committer packed held ran.items alike renamed decided.tree (c.decide.ensures.fills.leaves h empty).tree
           (subst (λ (S : Tree). RemovesLocks (held_locks (if renamed then None else packed) ran.items) S (tree_of F.means new)) still'
           (subst (λ (T : Tree). RemovesLocks (held_locks (if renamed then None else packed) ran.items) mid.tree T) (none_tried start.dirs u c.deref-in-Err-publish.result.now released.tree (tree_of F.means new) none (tidied h)) (less h))));
-      sound = λ old given from h good bad.
+      sound = λ old mode given from h good bad.
           of_no_line c.release_all-edits.result.edits.items c.release_all-edits.result.place.items c.release_all-edits.result.log.items c.in-Ok.decided.path.items c.in-Err-publish.unfinished c.failure.result c.failure.ensures bad;
     }
 
@@ -170,7 +170,7 @@ returns-in-Err-publish-clause-safe g c =
     let len : c.len.result ≡ length ran.items = omega (arith, c.len.ensures, ran.ok) in
     let done_is : done ≡ done_of (length ran.items) u = c.done-done.ensures ∙ ap (λ n. done_of n u) len in
     record {
-      stops = λ old given from.
+      stops = λ old mode given from.
           let same : c.decide.new.self.dirs ≡ old.dirs = ap (λ (st : Store g.row.F.Denot). st.dirs) c.decide.ensures.same ∙ from.held.same.dirs in
           let in_way : F.honest → AllInWay ran.items old.dirs decided.tree (folder_lists ways) (planned_entries old.dirs ran.items packed rewrite) = λ h.
           subst (λ (d : Dirs). AllInWay ran.items d decided.tree (folder_lists ways) (planned_entries d ran.items packed rewrite)) from.held.same.dirs (c.in-Ok.ensures.decided.in_way h) in
@@ -182,22 +182,22 @@ returns-in-Err-publish-clause-safe g c =
           let releases : F.honest → Leaves mid (F.means c.release_all-edits.new.files) (RemovesLocks (held_locks (if renamed then None else packed) ran.items) mid.tree) = λ h. rw c.unless_renamed-packed.ensures at (e.releases.leaves h) in
           let ends : EndsIn F.honest (commit_entries old.dirs ran.items packed rewrite ways) decided.tree mid.tree u =
           subst (λ (d : Dirs). EndsIn F.honest (commit_entries d ran.items packed rewrite ways) decided.tree mid.tree u) same (rw c.deref-2.ensures.value at (rw c.deref.ensures.value at c.in-Err-publish.ensures.stopped.ended)) in
-          ran_well F.honest F.means F.faults old start c.args.committer given packed held from ran.items alike new left decided
+          ran_well F.honest F.means F.faults mode old start c.args.committer given packed held from ran.items alike new left decided
           (λ h. c.decide.ensures.fills.leaves h (from.packed.empty h)) (λ h. c.decide.ensures.fills.passes h (from.packed.empty h))
           c.in-Ok.ensures.decided.texts.logs rewrite c.in-Ok.ensures.decided.texts.repacked (λ h. c.in-Ok.ensures.decided.texts.filled h (from.packed.empty h)) (λ h. c.in-Ok.ensures.decided.texts.wholes h (from.packed.empty h)) ways in_way
           mid released renamed paths runs releases tidies done
           (λ h. rw c.unless_renamed-packed.ensures at (e.packed_gone h))
-          (λ h text path some. cut_packed_gone F.honest F.means F.faults old start c.args.committer given packed held from ran.items alike new left decided
+          (λ h text path some. cut_packed_gone F.honest F.means F.faults mode old start c.args.committer given packed held from ran.items alike new left decided
           (λ h. c.decide.ensures.fills.leaves h (from.packed.empty h)) (λ h. c.decide.ensures.fills.passes h (from.packed.empty h))
           c.in-Ok.ensures.decided.texts.logs rewrite c.in-Ok.ensures.decided.texts.repacked (λ h. c.in-Ok.ensures.decided.texts.filled h (from.packed.empty h)) (λ h. c.in-Ok.ensures.decided.texts.wholes h (from.packed.empty h)) ways in_way
           mid released renamed paths runs releases tidies u ends h (sym c.is_packed_renamed.ensures ∙ text) path some)
           (λ h k lt. e.gone h k (omega (arith, lt, ran.ok)))
-          (λ h k lt early written. cut_gone F.honest F.means F.faults old start c.args.committer given packed held from ran.items alike new left decided
+          (λ h k lt early written. cut_gone F.honest F.means F.faults mode old start c.args.committer given packed held from ran.items alike new left decided
           (λ h. c.decide.ensures.fills.leaves h (from.packed.empty h)) (λ h. c.decide.ensures.fills.passes h (from.packed.empty h))
           c.in-Ok.ensures.decided.texts.logs rewrite c.in-Ok.ensures.decided.texts.repacked (λ h. c.in-Ok.ensures.decided.texts.filled h (from.packed.empty h)) (λ h. c.in-Ok.ensures.decided.texts.wholes h (from.packed.empty h)) ways in_way
           mid released renamed paths runs releases tidies u ends h k lt (subst (λ n. k < n) done_is early) written)
           (rw c.unless_renamed-packed.ensures at e.named.ours) (rw c.unless_renamed-packed.ensures at e.named.once);
-      losses = λ old given from h good at_rest.
+      losses = λ old mode given from h good at_rest.
           let same : c.decide.new.self.dirs ≡ old.dirs = ap (λ (st : Store g.row.F.Denot). st.dirs) c.decide.ensures.same ∙ from.held.same.dirs in
           let in_way : F.honest → AllInWay ran.items old.dirs decided.tree (folder_lists ways) (planned_entries old.dirs ran.items packed rewrite) = λ h.
           subst (λ (d : Dirs). AllInWay ran.items d decided.tree (folder_lists ways) (planned_entries d ran.items packed rewrite)) from.held.same.dirs (c.in-Ok.ensures.decided.in_way h) in
@@ -211,7 +211,7 @@ returns-in-Err-publish-clause-safe g c =
           subst (λ (d : Dirs). Passes decided mid (IsReachedBy (steps_in (commit_entries d ran.items packed rewrite ways)) (disk_of decided))) same (rw c.deref-2.ensures.value at (rw c.deref.ensures.value at (c.publish.ensures.runs.passes h))) in
           let only : OnlyRemoves (held_locks (if renamed then None else packed) ran.items) mid (F.means c.release_all-edits.new.files) = rw c.unless_renamed-packed.ensures at (e.releases.passes h) in
           let less : Passes released tidied (LosesNoMore (disk_of released)) = c.remove_empty_folders.ensures.loses h in
-          lost F.honest F.means F.faults old start c.args.committer given packed held from ran.items alike new left decided
+          lost F.honest F.means F.faults mode old start c.args.committer given packed held from ran.items alike new left decided
           (λ h. c.decide.ensures.fills.leaves h (from.packed.empty h)) (λ h. c.decide.ensures.fills.passes h (from.packed.empty h))
           c.in-Ok.ensures.decided.texts.logs rewrite c.in-Ok.ensures.decided.texts.repacked (λ h. c.in-Ok.ensures.decided.texts.filled h (from.packed.empty h)) (λ h. c.in-Ok.ensures.decided.texts.wholes h (from.packed.empty h)) ways in_way
           mid released renamed paths runs releases tidies h at_rest only good passes less;
@@ -271,7 +271,7 @@ returns-clause-safe g c =
     let tidied = F.means c.remove_empty_folders-2.new.files in
     let done = c.len-done.result in
     record {
-      stops = λ old given from.
+      stops = λ old mode given from.
           let e = c.release_all-released.ensures in
           let left = paths_of c.release_all-released.result.left.items in
           let same : c.decide.new.self.dirs ≡ old.dirs = ap (λ (st : Store g.row.F.Denot). st.dirs) c.decide.ensures.same ∙ from.held.same.dirs in
@@ -285,22 +285,22 @@ returns-clause-safe g c =
           let releases : F.honest → Leaves mid (F.means c.release_all-released.new.files) (RemovesLocks (held_locks (if renamed then None else packed) ran.items) mid.tree) = λ h. rw c.unless_renamed-packed-2.ensures at (e.releases.leaves h) in
           let after : F.honest → IsAfter (bare_steps (commit_entries old.dirs ran.items packed rewrite ways)) decided.tree mid.tree = λ h.
           subst (λ (d : Dirs). IsAfter (bare_steps (commit_entries d ran.items packed rewrite ways)) decided.tree mid.tree) same (rw c.deref-2.ensures.value at (rw c.deref.ensures.value at (c.in_default.ensures.finished.done h))) in
-          ran_well F.honest F.means F.faults old start c.args.committer given packed held from ran.items alike new left decided
+          ran_well F.honest F.means F.faults mode old start c.args.committer given packed held from ran.items alike new left decided
           (λ h. c.decide.ensures.fills.leaves h (from.packed.empty h)) (λ h. c.decide.ensures.fills.passes h (from.packed.empty h))
           c.in-Ok.ensures.decided.texts.logs rewrite c.in-Ok.ensures.decided.texts.repacked (λ h. c.in-Ok.ensures.decided.texts.filled h (from.packed.empty h)) (λ h. c.in-Ok.ensures.decided.texts.wholes h (from.packed.empty h)) ways in_way
           mid released renamed paths runs releases tidies done
           (λ h. rw c.unless_renamed-packed-2.ensures at (e.packed_gone h))
-          (λ h text path some. whole_packed_gone F.honest F.means F.faults old start c.args.committer given packed held from ran.items alike new left decided
+          (λ h text path some. whole_packed_gone F.honest F.means F.faults mode old start c.args.committer given packed held from ran.items alike new left decided
           (λ h. c.decide.ensures.fills.leaves h (from.packed.empty h)) (λ h. c.decide.ensures.fills.passes h (from.packed.empty h))
           c.in-Ok.ensures.decided.texts.logs rewrite c.in-Ok.ensures.decided.texts.repacked (λ h. c.in-Ok.ensures.decided.texts.filled h (from.packed.empty h)) (λ h. c.in-Ok.ensures.decided.texts.wholes h (from.packed.empty h)) ways in_way
           mid released renamed paths runs releases tidies after h (sym c.is_renamed.ensures ∙ text) path some)
           (λ h k lt. e.gone h k (omega (arith, lt, ran.ok)))
-          (λ h k lt early written. whole_gone F.honest F.means F.faults old start c.args.committer given packed held from ran.items alike new left decided
+          (λ h k lt early written. whole_gone F.honest F.means F.faults mode old start c.args.committer given packed held from ran.items alike new left decided
           (λ h. c.decide.ensures.fills.leaves h (from.packed.empty h)) (λ h. c.decide.ensures.fills.passes h (from.packed.empty h))
           c.in-Ok.ensures.decided.texts.logs rewrite c.in-Ok.ensures.decided.texts.repacked (λ h. c.in-Ok.ensures.decided.texts.filled h (from.packed.empty h)) (λ h. c.in-Ok.ensures.decided.texts.wholes h (from.packed.empty h)) ways in_way
           mid released renamed paths runs releases tidies after h k lt written)
           (rw c.unless_renamed-packed-2.ensures at e.named.ours) (rw c.unless_renamed-packed-2.ensures at e.named.once);
-      losses = λ old given from h good at_rest.
+      losses = λ old mode given from h good at_rest.
           let e = c.release_all-released.ensures in
           let left = paths_of c.release_all-released.result.left.items in
           let same : c.decide.new.self.dirs ≡ old.dirs = ap (λ (st : Store g.row.F.Denot). st.dirs) c.decide.ensures.same ∙ from.held.same.dirs in
@@ -316,7 +316,7 @@ returns-clause-safe g c =
           subst (λ (d : Dirs). Passes decided mid (IsReachedBy (steps_in (commit_entries d ran.items packed rewrite ways)) (disk_of decided))) same (rw c.deref-2.ensures.value at (rw c.deref.ensures.value at (c.publish.ensures.runs.passes h))) in
           let only : OnlyRemoves (held_locks (if renamed then None else packed) ran.items) mid (F.means c.release_all-released.new.files) = rw c.unless_renamed-packed-2.ensures at (e.releases.passes h) in
           let less : Passes released tidied (LosesNoMore (disk_of released)) = c.remove_empty_folders-2.ensures.loses h in
-          lost F.honest F.means F.faults old start c.args.committer given packed held from ran.items alike new left decided
+          lost F.honest F.means F.faults mode old start c.args.committer given packed held from ran.items alike new left decided
           (λ h. c.decide.ensures.fills.leaves h (from.packed.empty h)) (λ h. c.decide.ensures.fills.passes h (from.packed.empty h))
           c.in-Ok.ensures.decided.texts.logs rewrite c.in-Ok.ensures.decided.texts.repacked (λ h. c.in-Ok.ensures.decided.texts.filled h (from.packed.empty h)) (λ h. c.in-Ok.ensures.decided.texts.wholes h (from.packed.empty h)) ways in_way
           mid released renamed paths runs releases tidies h at_rest only good passes less;
@@ -373,7 +373,7 @@ returns-clause-committed g c =
     let tidied = F.means c.remove_empty_folders-2.new.files in
     record {
       edits = c.release_all-released.ensures.back.edits ∙ updates_alike c.decide.new.edits.items c.args.edits.items c.decide.ensures.alike;
-      commits = λ old given from h good.
+      commits = λ old mode given from h good.
           let e = c.release_all-released.ensures in
           let left = paths_of c.release_all-released.result.left.items in
           let same : c.decide.new.self.dirs ≡ old.dirs = ap (λ (st : Store g.row.F.Denot). st.dirs) c.decide.ensures.same ∙ from.held.same.dirs in
@@ -387,13 +387,13 @@ returns-clause-committed g c =
           let releases : F.honest → Leaves mid (F.means c.release_all-released.new.files) (RemovesLocks (held_locks (if renamed then None else packed) ran.items) mid.tree) = λ h. rw c.unless_renamed-packed-2.ensures at (e.releases.leaves h) in
           let after : F.honest → IsAfter (bare_steps (commit_entries old.dirs ran.items packed rewrite ways)) decided.tree mid.tree = λ h.
           subst (λ (d : Dirs). IsAfter (bare_steps (commit_entries d ran.items packed rewrite ways)) decided.tree mid.tree) same (rw c.deref-2.ensures.value at (rw c.deref.ensures.value at (c.in_default.ensures.finished.done h))) in
-          committed F.honest F.means F.faults old start c.args.committer given packed held from ran.items alike new left decided
+          committed F.honest F.means F.faults mode old start c.args.committer given packed held from ran.items alike new left decided
           (λ h. c.decide.ensures.fills.leaves h (from.packed.empty h)) (λ h. c.decide.ensures.fills.passes h (from.packed.empty h))
           c.in-Ok.ensures.decided.texts.logs rewrite c.in-Ok.ensures.decided.texts.repacked (λ h. c.in-Ok.ensures.decided.texts.filled h (from.packed.empty h)) (λ h. c.in-Ok.ensures.decided.texts.wholes h (from.packed.empty h)) ways in_way
-          mid released renamed paths runs releases tidies h good (after h) (((returns-clause-safe g c).stops old given from).gone h);
+          mid released renamed paths runs releases tidies h good (after h) (((returns-clause-safe g c).stops old mode given from).gone h);
       passed = c.in-Ok.ensures.decided.texts.passed;
       read = c.in-Ok.ensures.decided.texts.repacked.read;
-      settled = λ old given from h at_rest.
+      settled = λ old mode given from h at_rest.
           let e = c.release_all-released.ensures in
           let left = paths_of c.release_all-released.result.left.items in
           let same : c.decide.new.self.dirs ≡ old.dirs = ap (λ (st : Store g.row.F.Denot). st.dirs) c.decide.ensures.same ∙ from.held.same.dirs in
@@ -408,7 +408,7 @@ returns-clause-committed g c =
           let done : IsSyncedAfter (steps_in (commit_entries old.dirs ran.items packed rewrite ways)) (disk_of decided) (disk_of mid) =
           subst (λ (d : Dirs). IsSyncedAfter (steps_in (commit_entries d ran.items packed rewrite ways)) (disk_of decided) (disk_of mid)) same (rw c.deref-2.ensures.value at (rw c.deref.ensures.value at (c.in_default.ensures.finished.synced h))) in
           let only : OnlyRemoves (held_locks (if renamed then None else packed) ran.items) mid (F.means c.release_all-released.new.files) = rw c.unless_renamed-packed-2.ensures at (e.releases.passes h) in
-          settled F.honest F.means F.faults old start c.args.committer given packed held from ran.items alike new left decided
+          settled F.honest F.means F.faults mode old start c.args.committer given packed held from ran.items alike new left decided
           (λ h. c.decide.ensures.fills.leaves h (from.packed.empty h)) (λ h. c.decide.ensures.fills.passes h (from.packed.empty h))
           c.in-Ok.ensures.decided.texts.logs rewrite c.in-Ok.ensures.decided.texts.repacked (λ h. c.in-Ok.ensures.decided.texts.filled h (from.packed.empty h)) (λ h. c.in-Ok.ensures.decided.texts.wholes h (from.packed.empty h)) ways in_way
           mid released renamed paths runs releases tidies h at_rest only done (subst (λ (d : Dirs). OnlyFolders d released tidied) still (c.remove_empty_folders-2.ensures.passes h))

@@ -4,6 +4,8 @@ use Rattle.gix_ref_theory.specs.OnRealTrees.{view_of}
 use Rattle.gix_ref_edits.specs.declared.transaction.RefEdit.{RefEdit}
 use Rattle.gix_ref_transaction.specs.Causes.{AllValid, IsCounted}
 use Rattle.gix_ref_transaction.specs.OwnLocks.{paths_of}
+use Rattle.gix_ref_transaction.specs.Packing.{OfFinder, ends_of, mode_in}
+use Rattle.gix_ref_transaction.specs.Peels.{ArePut}
 use Rattle.gix_ref_transaction.specs.PrepareSteps.{AreWholeLocks, effects_of, effects_on, files_at, ids_in, packed_ids, place_paths, places_of, seen_files, targets_of}
 use Rattle.gix_ref_transaction.specs.Splits.{IsSplitCause}
 use Rattle.gix_ref_transaction.specs.declared.prepare.hold.HeldLocks.{HeldLocks}
@@ -35,10 +37,10 @@ returns-in-Ok-clause-held g c =
     let old = c.args.self.now in
     let split = c.in-Ok.split.edits.items in
     let new = c.lock_split.new.self in
-    if_asked_of split c.lock_split.result c.lock_split.ensures.asked (λ (held : HeldLocks) (u : List RefEdit). HoldsFrom F.honest F.means F.faults old new u (targets_of held.edits.items))
-    (λ held. HoldsFrom F.honest F.means F.faults c.split.new.self new split (targets_of held.edits.items))
-    (λ held from. holds_on F.honest F.means F.faults old (files_of c.split.new.self) c.in-Ok.ensures.reads new split (targets_of held.edits.items)
-    (subst (λ (st : Store g.row.F.Denot). HoldsFrom F.honest F.means F.faults st new split (targets_of held.edits.items)) c.in-Ok.ensures.same from))
+    if_asked_of split c.lock_split.result c.lock_split.ensures.asked (λ (held : HeldLocks) (u : List RefEdit). HoldsFrom F.honest F.means F.faults (mode_in c.args.packed_refs.now) old new u (targets_of held.edits.items))
+    (λ held. HoldsFrom F.honest F.means F.faults (mode_in c.args.packed_refs.now) c.split.new.self new split (targets_of held.edits.items))
+    (λ held from. holds_on F.honest F.means F.faults (mode_in c.args.packed_refs.now) old (files_of c.split.new.self) c.in-Ok.ensures.reads new split (targets_of held.edits.items)
+    (subst (λ (st : Store g.row.F.Denot). HoldsFrom F.honest F.means F.faults (mode_in c.args.packed_refs.now) st new split (targets_of held.edits.items)) c.in-Ok.ensures.same from))
     c.lock_split.ensures.held
 
 pub returns-in-Ok-clause-effects : goal.returns-in-Ok-clause-effects
@@ -49,11 +51,11 @@ returns-in-Ok-clause-effects g c h good =
     let new = c.lock_split.new.self in
     let files = files_of c.split.new.self in
     let reads = c.in-Ok.ensures.reads in
-    let found = subst (λ (st : Store g.row.F.Denot). F.honest → HasGoodRecords F.means st → IfOk c.lock_split.result (λ held. effects_of held.edits.items ≡ effects_on (meaning_of st) (view_of (tree_of F.means st)) split)) c.in-Ok.ensures.same c.lock_split.ensures.effects in
-    if_asked_of split c.lock_split.result c.lock_split.ensures.asked (λ (held : HeldLocks) (u : List RefEdit). effects_of held.edits.items ≡ effects_on (meaning_of old) (view_of (tree_of F.means old)) u)
-    (λ held. effects_of held.edits.items ≡ effects_on (meaning_of old) (view_of (tree_of F.means (with_files old files))) split)
-    (λ held is. is ∙ effects_same F.honest F.means F.faults old files reads h split)
-    (found h (good_on F.honest F.means F.faults old files reads h good))
+    let found = subst (λ (st : Store g.row.F.Denot). F.honest → HasGoodRecords F.means st → IfOk c.lock_split.result (λ held. effects_of held.edits.items ≡ effects_on (meaning_of st) (mode_in c.args.packed_refs.now) (view_of (tree_of F.means st)) split)) c.in-Ok.ensures.same c.lock_split.ensures.effects in
+    if_asked_of split c.lock_split.result c.lock_split.ensures.asked (λ (held : HeldLocks) (u : List RefEdit). effects_of held.edits.items ≡ effects_on (meaning_of old) (mode_in c.args.packed_refs.now) (view_of (tree_of F.means old)) u)
+    (λ held. effects_of held.edits.items ≡ effects_on (meaning_of old) (mode_in c.args.packed_refs.now) (view_of (tree_of F.means (with_files old files))) split)
+    (λ held is. is ∙ effects_same F.honest F.means F.faults (mode_in c.args.packed_refs.now) old files reads h split)
+    (found h (good_on F.honest F.means F.faults (mode_in c.args.packed_refs.now) old files reads h good))
 
 pub returns-in-Ok-clause-files : goal.returns-in-Ok-clause-files
 returns-in-Ok-clause-files g c h good =
@@ -66,8 +68,8 @@ returns-in-Ok-clause-files g c h good =
     let found = subst (λ (st : Store g.row.F.Denot). F.honest → HasGoodRecords F.means st → IfOk c.lock_split.result (λ held. seen_files held.edits.items ≡ files_at (meaning_of st) (tree_of F.means st) split)) c.in-Ok.ensures.same c.lock_split.ensures.files in
     if_asked_of split c.lock_split.result c.lock_split.ensures.asked (λ (held : HeldLocks) (u : List RefEdit). seen_files held.edits.items ≡ files_at (meaning_of old) (tree_of F.means old) u)
     (λ held. seen_files held.edits.items ≡ files_at (meaning_of old) (tree_of F.means (with_files old files)) split)
-    (λ held is. is ∙ files_same F.honest F.means F.faults old files reads h split)
-    (found h (good_on F.honest F.means F.faults old files reads h good))
+    (λ held is. is ∙ files_same F.honest F.means F.faults (mode_in c.args.packed_refs.now) old files reads h split)
+    (found h (good_on F.honest F.means F.faults (mode_in c.args.packed_refs.now) old files reads h good))
 
 pub returns-in-Ok-clause-ids : goal.returns-in-Ok-clause-ids
 returns-in-Ok-clause-ids g c h good =
@@ -80,8 +82,8 @@ returns-in-Ok-clause-ids g c h good =
     let found = subst (λ (st : Store g.row.F.Denot). F.honest → HasGoodRecords F.means st → IfOk c.lock_split.result (λ held. ids_in held.edits.items ≡ packed_ids (meaning_of st) (tree_of F.means st) split)) c.in-Ok.ensures.same c.lock_split.ensures.ids in
     if_asked_of split c.lock_split.result c.lock_split.ensures.asked (λ (held : HeldLocks) (u : List RefEdit). ids_in held.edits.items ≡ packed_ids (meaning_of old) (tree_of F.means old) u)
     (λ held. ids_in held.edits.items ≡ packed_ids (meaning_of old) (tree_of F.means (with_files old files)) split)
-    (λ held is. is ∙ ids_same F.honest F.means F.faults old files reads h split)
-    (found h (good_on F.honest F.means F.faults old files reads h good))
+    (λ held is. is ∙ ids_same F.honest F.means F.faults (mode_in c.args.packed_refs.now) old files reads h split)
+    (found h (good_on F.honest F.means F.faults (mode_in c.args.packed_refs.now) old files reads h good))
 
 pub returns-in-Ok-clause-lost : goal.returns-in-Ok-clause-lost
 returns-in-Ok-clause-lost g c h =
@@ -89,9 +91,9 @@ returns-in-Ok-clause-lost g c h =
     let old = c.args.self.now in
     let split = c.in-Ok.split.edits.items in
     let new = c.lock_split.new.self in
-    if_asked split c.lock_split.result c.lock_split.ensures.asked (λ (held : HeldLocks) (u : List RefEdit). LosesNothing F.means old new u)
-    (λ held. loses_on F.honest F.means F.faults old (files_of c.split.new.self) c.in-Ok.ensures.reads h new split
-    (subst (λ (st : Store g.row.F.Denot). LosesNothing F.means st new split) c.in-Ok.ensures.same (c.lock_split.ensures.lost h)))
+    if_asked split c.lock_split.result c.lock_split.ensures.asked (λ (held : HeldLocks) (u : List RefEdit). LosesNothing F.means (mode_in c.args.packed_refs.now) old new u)
+    (λ held. loses_on F.honest F.means F.faults (mode_in c.args.packed_refs.now) old (files_of c.split.new.self) c.in-Ok.ensures.reads h new split
+    (subst (λ (st : Store g.row.F.Denot). LosesNothing F.means (mode_in c.args.packed_refs.now) st new split) c.in-Ok.ensures.same (c.lock_split.ensures.lost h)))
 
 pub returns-in-Ok-clause-whole : goal.returns-in-Ok-clause-whole
 returns-in-Ok-clause-whole g c h =
@@ -99,10 +101,10 @@ returns-in-Ok-clause-whole g c h =
     let old = c.args.self.now in
     let split = c.in-Ok.split.edits.items in
     let new = c.lock_split.new.self in
-    if_asked_of split c.lock_split.result c.lock_split.ensures.asked (λ (held : HeldLocks) (u : List RefEdit). AreWholeLocks (disk_in F.means new) (locks_in F.means old u))
-    (λ held. AreWholeLocks (disk_in F.means new) (locks_in F.means c.split.new.self split))
-    (λ held whole. subst (AreWholeLocks (disk_in F.means new)) (locks_same F.honest F.means F.faults old (files_of c.split.new.self) c.in-Ok.ensures.reads h split)
-    (subst (λ (st : Store g.row.F.Denot). AreWholeLocks (disk_in F.means new) (locks_in F.means st split)) c.in-Ok.ensures.same whole))
+    if_asked_of split c.lock_split.result c.lock_split.ensures.asked (λ (held : HeldLocks) (u : List RefEdit). AreWholeLocks (disk_in F.means new) (locks_in F.means (mode_in c.args.packed_refs.now) old u))
+    (λ held. AreWholeLocks (disk_in F.means new) (locks_in F.means (mode_in c.args.packed_refs.now) c.split.new.self split))
+    (λ held whole. subst (AreWholeLocks (disk_in F.means new)) (locks_same F.honest F.means F.faults (mode_in c.args.packed_refs.now) old (files_of c.split.new.self) c.in-Ok.ensures.reads h split)
+    (subst (λ (st : Store g.row.F.Denot). AreWholeLocks (disk_in F.means new) (locks_in F.means (mode_in c.args.packed_refs.now) st split)) c.in-Ok.ensures.same whole))
     (c.lock_split.ensures.whole h)
 
 pub returns-in-Ok-clause-places : goal.returns-in-Ok-clause-places
@@ -125,9 +127,9 @@ returns-in-Ok-clause-refused g c =
     let same = c.in-Ok.ensures.same in
     if_err c.lock_split.result (λ (failure : LockFailure) refused.
     let left = paths_of failure.locks_left.items in
-    refused_on F.honest F.means F.faults old (files_of c.split.new.self) c.in-Ok.ensures.reads read new c.args.edits.items split failure.error left c.in-Ok.ensures.splits
-    (subst (λ (st : Store g.row.F.Denot). RefusesSplit F.honest read F.means F.faults st new split failure.error left) same refused)
-    (λ h. subst (λ (st : Store g.row.F.Denot). LosesNothing F.means st new split) same (c.lock_split.ensures.lost h)))
+    refused_on F.honest F.means F.faults (mode_in c.args.packed_refs.now) old (files_of c.split.new.self) c.in-Ok.ensures.reads read (OfFinder g.T.Find.claims c.args.packed_refs.now) (ends_of g.T.Find.meaning c.args.packed_refs.now) new c.args.edits.items split failure.error left c.in-Ok.ensures.splits
+    (subst (λ (st : Store g.row.F.Denot). RefusesSplit F.honest read F.means F.faults (OfFinder g.T.Find.claims c.args.packed_refs.now) (ends_of g.T.Find.meaning c.args.packed_refs.now) (mode_in c.args.packed_refs.now) st new split failure.error left) same refused)
+    (λ h. subst (λ (st : Store g.row.F.Denot). LosesNothing F.means (mode_in c.args.packed_refs.now) st new split) same (c.lock_split.ensures.lost h)))
     c.lock_split.ensures.refused
 
 pub returns-in-Err-clause-refused : goal.returns-in-Err-clause-refused
@@ -140,8 +142,8 @@ returns-in-Err-clause-refused g c =
     let error = c.untouched.result.error in
     let is : error ≡ c.in-Err.error = c.untouched.ensures.error in
     let left = paths_of c.untouched.result.locks_left.items in
-    subst (λ (st : Store g.row.F.Denot). RefusesFrom F.honest read F.means F.faults old st given error left) (sym c.in-Err.ensures.same)
-    (refused_before F.honest F.means F.faults old files c.in-Err.ensures.reads read given error left (ap paths_of c.untouched.ensures.none)
+    subst (λ (st : Store g.row.F.Denot). RefusesFrom F.honest read F.means F.faults (OfFinder g.T.Find.claims c.args.packed_refs.now) (ends_of g.T.Find.meaning c.args.packed_refs.now) (mode_in c.args.packed_refs.now) old st given error left) (sym c.in-Err.ensures.same)
+    (refused_before F.honest F.means F.faults (mode_in c.args.packed_refs.now) old files c.in-Err.ensures.reads read (OfFinder g.T.Find.claims c.args.packed_refs.now) (ends_of g.T.Find.meaning c.args.packed_refs.now) given error left (ap paths_of c.untouched.ensures.none)
     (λ h. subst (IsSplitCause (meaning_of old) (kind_of old) (tree_of F.means old) given) (sym is) (c.in-Err.ensures.refused h))
     (subst (IsCounted (F.faults (files_of old)) (F.faults files)) (sym is) c.in-Err.ensures.counted))
 
@@ -151,13 +153,17 @@ returns-in-Ok-clause-packed g c =
     let old = c.args.self.now in
     let split = c.in-Ok.split.edits.items in
     let new = c.lock_split.new.self in
-    if_asked_of split c.lock_split.result c.lock_split.ensures.asked (λ (held : HeldLocks) (u : List RefEdit). HoldsPacked F.honest F.means F.faults old new u held.packed)
-    (λ held. HoldsPacked F.honest F.means F.faults c.split.new.self new split held.packed)
-    (λ held from. packed_on F.honest F.means F.faults old (files_of c.split.new.self) c.in-Ok.ensures.reads new split held.packed
-    (subst (λ (st : Store g.row.F.Denot). HoldsPacked F.honest F.means F.faults st new split held.packed) c.in-Ok.ensures.same from))
+    if_asked_of split c.lock_split.result c.lock_split.ensures.asked (λ (held : HeldLocks) (u : List RefEdit). HoldsPacked F.honest F.means F.faults (mode_in c.args.packed_refs.now) old new u held.packed)
+    (λ held. HoldsPacked F.honest F.means F.faults (mode_in c.args.packed_refs.now) c.split.new.self new split held.packed)
+    (λ held from. packed_on F.honest F.means F.faults (mode_in c.args.packed_refs.now) old (files_of c.split.new.self) c.in-Ok.ensures.reads new split held.packed
+    (subst (λ (st : Store g.row.F.Denot). HoldsPacked F.honest F.means F.faults (mode_in c.args.packed_refs.now) st new split held.packed) c.in-Ok.ensures.same from))
     c.lock_split.ensures.packed
 
 pub returns-in-Ok-clause-parents : goal.returns-in-Ok-clause-parents
 returns-in-Ok-clause-parents g c h =
     let parents = c.in-Ok.ensures.parents h in
     if_ok c.lock_split.result (λ (held : HeldLocks) same. same ∙ parents) c.lock_split.ensures.parents
+
+pub returns-in-Ok-clause-put : goal.returns-in-Ok-clause-put
+returns-in-Ok-clause-put g c =
+    subst (λ (st : Store g.row.F.Denot). IfOk c.lock_split.result (λ held. ArePut (OfFinder g.T.Find.claims c.args.packed_refs.now) (ends_of g.T.Find.meaning c.args.packed_refs.now) (meaning_of st) (mode_in c.args.packed_refs.now) (kind_of st) held.edits.items)) c.in-Ok.ensures.same c.lock_split.ensures.put

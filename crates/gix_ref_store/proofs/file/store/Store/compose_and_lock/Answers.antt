@@ -1,5 +1,6 @@
 use Rattle.std.proofs.Common.{◌≡◌, inr, ap, refl}
 use Rattle.gix_ref_packed.specs.OpenFiles.{HasReadFault}
+use Rattle.gix_ref_transaction.specs.Packing.{OfFinder, ends_of, mode_in}
 use Rattle.gix_ref_transaction.specs.OwnLocks.{paths_of}
 use Rattle.gix_ref_transaction.specs.declared.prepare.error.Error.TheVariants.{Memory}
 use Rattle.gix_ref_store.proofs.Preparing.{holds_given, refuses_given}
@@ -10,13 +11,13 @@ pub returns-in-Ok-clause-held : goal.returns-in-Ok-clause-held
 returns-in-Ok-clause-held g c =
     let F = g.F.Files in
     let e = c.check_and_lock.ensures in
-    holds_given F.honest F.means F.faults c.args.self.now c.check_and_lock.new.self c.args.edits.items c.in-Ok.asked.items c.in-Ok.ensures c.check_and_lock.result
-    e.splits e.parents e.held e.lost e.whole e.packed e.places e.effects e.files e.ids
+    holds_given F.honest F.means F.faults (OfFinder g.T.Find.claims c.args.packed_refs.now) (ends_of g.T.Find.meaning c.args.packed_refs.now) (mode_in c.args.packed_refs.now) c.args.self.now c.check_and_lock.new.self c.args.edits.items c.in-Ok.asked.items c.in-Ok.ensures c.check_and_lock.result
+    e.splits e.parents e.held e.lost e.whole e.packed e.places e.effects e.files e.ids e.put
 
 pub returns-in-Ok-clause-refused : goal.returns-in-Ok-clause-refused
 returns-in-Ok-clause-refused g c =
     let F = g.F.Files in
-    refuses_given F.honest F.means F.faults c.args.self.now c.check_and_lock.new.self c.args.edits.items c.in-Ok.asked.items c.in-Ok.ensures (HasReadFault g.F.Reader.ReadAt.faults) c.check_and_lock.result c.check_and_lock.ensures.refused
+    refuses_given F.honest F.means F.faults (OfFinder g.T.Find.claims c.args.packed_refs.now) (ends_of g.T.Find.meaning c.args.packed_refs.now) (mode_in c.args.packed_refs.now) c.args.self.now c.check_and_lock.new.self c.args.edits.items c.in-Ok.asked.items c.in-Ok.ensures (HasReadFault g.F.Reader.ReadAt.faults) c.check_and_lock.result c.check_and_lock.ensures.refused
 
 pub returns-in-Err-clause-refused : goal.returns-in-Err-clause-refused
 returns-in-Err-clause-refused g c =
@@ -29,5 +30,5 @@ returns-in-Err-clause-refused g c =
     record {
       asked = given;
       composed = inr (is, refl);
-      refuses = refused_unread F.honest (HasReadFault g.F.Reader.ReadAt.faults) F.means F.faults old given error left is (ap paths_of c.untouched.ensures.none);
+      refuses = refused_unread F.honest (HasReadFault g.F.Reader.ReadAt.faults) F.means F.faults (OfFinder g.T.Find.claims c.args.packed_refs.now) (ends_of g.T.Find.meaning c.args.packed_refs.now) (mode_in c.args.packed_refs.now) old given error left is (ap paths_of c.untouched.ensures.none);
     }

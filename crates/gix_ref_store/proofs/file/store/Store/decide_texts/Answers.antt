@@ -45,9 +45,9 @@ returns-in-Ok-clause-decided g c =
       passed = λ h. subst (λ (l : List Edit). AllHaveNoCause (line_rules start c.args.committer) (view_of (F.means start.files).tree) (asked l)) c.deref_mut.ensures.value (c.in_default.ensures.passed h);
       repacked = repacked_by F.honest F.means F.faults start c.args.packed.now held.items c.deref.result.now c.in-Ok.new_packed.rewrite alike
           (record {
-            made = λ h apart rs are ids. e.repacked h apart rs
-                (subst (λ (T : Tree). ArePackedRecords (kind_of start) (view_of T (meaning_of start).packed_path) rs) (sym (c.decide_logs.ensures.reads.leaves h).tree) are) ids;
-            read = λ h some removes. subst (λ (T : Tree). IsReadFile (kind_of start) (T (meaning_of start).packed_path)) (c.decide_logs.ensures.reads.leaves h).tree (e.whole h some removes);
+            made = λ h mode apart rs are ids puts can. e.repacked h mode apart rs
+                (subst (λ (T : Tree). ArePackedRecords (kind_of start) (view_of T (meaning_of start).packed_path) rs) (sym (c.decide_logs.ensures.reads.leaves h).tree) are) ids puts can;
+            read = λ h some alters. subst (λ (T : Tree). IsReadFile (kind_of start) (T (meaning_of start).packed_path)) (c.decide_logs.ensures.reads.leaves h).tree (e.whole h some alters);
           });
       path = c.in-Ok.ensures.path;
       filled = λ h empty.
