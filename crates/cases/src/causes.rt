@@ -15,6 +15,9 @@ pub fn of_prepare(alloc: Global, error: &prepare::Error) -> Result<String> {
             "{error}, expected {expected}"
         )?,
         prepare::Error::MustNotExist { new, .. } => format!(in alloc; "{error}, new {new}")?,
+        prepare::Error::PackedTransactionPrepare(inner) => format!(in alloc;
+            "PackedTransactionPrepare: {inner}"
+        )?,
         _ => format!(in alloc; "{error}")?,
     })
 }

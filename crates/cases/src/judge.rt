@@ -20,113 +20,142 @@ use anyhow::{Context, Result, bail};
 use gix_ref_files::files::{Files, Node};
 use std::alloc::Global;
 
+/// The families of verbs, each of which is played in one place.
+#[derive(Clone, Copy, PartialEq, Eq)]
+pub enum Family {
+    /// Transactions: `transactions`.
+    Transaction,
+    /// Runs of the program: `transactions`.
+    Run,
+    /// Commits that are followed by reads: `read_back`.
+    Make,
+    /// Transactions of `packed-refs` alone: `read_back`.
+    PackedTransaction,
+    /// Names and ids: `names`.
+    Name,
+    /// Texts of files: `formats`.
+    Format,
+    /// Lookups, listings and logs: `reads`.
+    Read,
+}
+
 /// The kinds of lines.
 #[derive(Clone, Copy, PartialEq, Eq)]
 pub enum LineKind {
-    /// The title, or a name of a text.
-    Head,
+    /// The title.
+    Title,
+    /// A name of a text.
+    Name,
     /// What is there before a verb.
     Before,
-    Verb,
+    Verb(Family),
     /// What has to come of a verb.
     After,
-    /// What may come of it if it is disturbed.
+    /// That the last verb is disturbed.
+    Each,
+    /// What may come of it then.
     Disturbed,
+}
+
+/// Whether this is a verb of names and ids.
+fn is_of_names(word: &str) -> bool {
+    matches!(
+        word,
+        "name"
+            | "full-name"
+            | "join"
+            | "composed"
+            | "decomposed"
+            | "expand"
+            | "inside"
+            | "prefixed"
+            | "place"
+            | "id"
+    )
+}
+
+/// Whether this is a verb of texts of files.
+fn is_of_formats(word: &str) -> bool {
+    matches!(
+        word,
+        "loose"
+            | "header"
+            | "record"
+            | "records"
+            | "open"
+            | "record-start"
+            | "name-at"
+            | "buffer-find"
+            | "buffer-list"
+            | "log-line"
+            | "signature"
+            | "sign"
+            | "write-line"
+            | "append-line"
+    )
+}
+
+/// Whether this is a verb that reads.
+fn is_of_reads(word: &str) -> bool {
+    matches!(
+        word,
+        "find"
+            | "find-loose"
+            | "find-packed"
+            | "find-without-records"
+            | "list"
+            | "list-loose"
+            | "list-pseudo"
+            | "is-new"
+            | "log"
+            | "log-forward"
+            | "log-exists"
+            | "follow"
+            | "peel"
+    )
+}
+
+/// The family of the verb with this name.
+fn family_of(word: &str) -> Option<Family> {
+    match word {
+        "prepare" | "rollback" | "commit" => Some(Family::Transaction),
+        "run" => Some(Family::Run),
+        "make" | "make-then-find" | "make-then-list" | "make-then-read" => Some(Family::Make),
+        "packed-commit" | "packed-rollback" => Some(Family::PackedTransaction),
+        _ if is_of_names(word) => Some(Family::Name),
+        _ if is_of_formats(word) => Some(Family::Format),
+        _ if is_of_reads(word) => Some(Family::Read),
+        _ => None,
+    }
 }
 
 /// What kind of line begins with this word.
 pub fn kind_of(word: &str) -> LineKind {
+    if let Some(family) = family_of(word) {
+        return LineKind::Verb(family);
+    }
     match word {
-        "case" | "let" | "repeat" => LineKind::Head,
-        "prepare"
-        | "rollback"
-        | "commit"
-        | "run"
-        | "find"
-        | "find-loose"
-        | "find-packed"
-        | "find-without-records"
-        | "list"
-        | "list-loose"
-        | "list-pseudo"
-        | "is-new"
-        | "log"
-        | "log-forward"
-        | "log-exists"
-        | "follow"
-        | "peel" => LineKind::Verb,
-        "make"
-        | "make-then-find"
-        | "make-then-list"
-        | "make-then-read"
-        | "packed-commit"
-        | "packed-rollback" => LineKind::Verb,
-        "name"
-        | "full-name"
-        | "join"
-        | "composed"
-        | "decomposed"
-        | "expand"
-        | "inside"
-        | "prefixed"
-        | "place"
-        | "id" => LineKind::Verb,
-        "loose"
-        | "header"
-        | "record"
-        | "records"
-        | "open"
-        | "record-start"
-        | "name-at"
-        | "buffer-find"
-        | "buffer-list"
-        | "log-line"
-        | "signature"
-        | "sign"
-        | "write-line"
-        | "append-line" => LineKind::Verb,
+        "case" => LineKind::Title,
+        "let" | "repeat" => LineKind::Name,
         ">" | "then" | "gone" | "has-folder" | "no-folder" | "calls" | "lose" => LineKind::After,
-        "each" | "readings" | "|" | "logs-of" | "may" => LineKind::Disturbed,
+        "each" => LineKind::Each,
+        "readings" | "|" | "logs-of" | "may" => LineKind::Disturbed,
         _ => LineKind::Before,
     }
 }
 
-/// Plays a verb.
-pub fn play(world: &mut World, texts: &Texts, line: &str) -> Result<Said> {
+/// Plays a verb of a family.
+pub fn play(world: &mut World, texts: &Texts, family: Family, line: &str) -> Result<Said> {
     let (word, rest) = split(line);
     world.begin();
-    match word {
-        "prepare" | "rollback" | "commit" => transact(world, word, rest),
-        "run" => run_words(world, texts, rest),
-        "make" | "make-then-find" | "make-then-list" | "make-then-read" => {
-            make_and_read(world, texts, word, rest)
-        }
-        "packed-commit" | "packed-rollback" => transact_packed(world, word),
-        "name"
-        | "full-name"
-        | "join"
-        | "composed"
-        | "decomposed"
-        | "expand"
-        | "inside"
-        | "prefixed"
-        | "place"
-        | "id" => name_verb(world, texts, word, rest),
-        "loose"
-        | "header"
-        | "record"
-        | "records"
-        | "open"
-        | "record-start"
-        | "name-at"
-        | "buffer-find"
-        | "buffer-list"
-        | "log-line"
-        | "signature"
-        | "sign"
-        | "write-line"
-        | "append-line" => format_verb(world, texts, word, rest),
-        _ => reads::read(world, texts, word, rest),
+    match family {
+        Family::Transaction => transact(world, word, rest),
+        Family::Run => run_words(world, texts, rest),
+        Family::Make => make_and_read(world, texts, word, rest),
+        Family::PackedTransaction => transact_packed(world, word),
+        Family::Name => name_verb(world, texts, word, rest),
+        Family::Format => format_verb(world, texts, word, rest),
+        Family::Read => reads::read(world, texts, word, rest),
     }
 }
 
@@ -172,13 +201,14 @@ impl Course {
     /// Compares the next line that the verb printed.
     fn hear(&mut self, text: &[u8]) -> Result<()> {
         let alloc = self.world.alloc;
-        let said = self.said.as_slice().get(self.heard);
-        let said = said.map_or(b"".as_slice(), |line| line.as_slice());
-        if said != text {
+        let Some(said) = self.said.as_slice().get(self.heard) else {
+            bail!("expected {}\n  came     nothing", shown(alloc, text)?)
+        };
+        if said.as_slice() != text {
             bail!(
                 "expected {}\n  came     {}",
                 shown(alloc, text)?,
-                shown(alloc, said)?
+                shown(alloc, said.as_slice())?
             )
         }
         self.heard = self.heard.saturating_add(1);
@@ -232,9 +262,9 @@ impl Course {
     }
 
     /// Plays a verb.
-    fn verb(&mut self, texts: &Texts, line: &str) -> Result<()> {
+    fn verb(&mut self, texts: &Texts, family: Family, line: &str) -> Result<()> {
         let before = self.world.files.calls();
-        self.said = play(&mut self.world, texts, line)?;
+        self.said = play(&mut self.world, texts, family, line)?;
         self.heard = 0;
         self.calls = self.world.files.calls().saturating_sub(before);
         Ok(())
@@ -243,6 +273,7 @@ impl Course {
 
 /// Plays the lines of a case, and compares.
 fn judge(alloc: Global, texts: &Texts, lines: &[String]) -> Result<()> {
+    sweep::hold_lines(lines)?;
     let mut course = Course::new(alloc, texts)?;
     let mut is_verb_before = false;
     for line in lines {
@@ -255,44 +286,67 @@ fn judge(alloc: Global, texts: &Texts, lines: &[String]) -> Result<()> {
                 }
                 course.world.set(texts, line)?;
             }
-            LineKind::Verb => {
+            LineKind::Verb(family) => {
                 if is_verb_before {
                     course.finish()?;
                 } else {
                     course.expected = course.world.tree()?;
                 }
-                course.verb(texts, line)?;
+                course.verb(texts, family, line)?;
                 is_verb_before = true;
             }
             LineKind::After => course.after(texts, line)?,
-            LineKind::Head | LineKind::Disturbed => {}
+            LineKind::Title | LineKind::Name | LineKind::Each | LineKind::Disturbed => {}
         }
     }
     course.finish()?;
     sweep::sweep_case(alloc, texts, lines, &course.expected)
 }
 
-/// The title of a case, after its texts have their names.
-fn title<'l>(texts: &mut Texts, lines: &'l [String]) -> Result<&'l str> {
-    let mut title = "";
+/// How a block of lines begins.
+#[derive(Clone, Copy)]
+enum Head<'l> {
+    /// It only names texts.
+    Names,
+    /// It is a case of this title.
+    Titled(&'l str),
+    /// It is a case without a title, or with two, and this line is the first that must not be there.
+    Wrong(&'l str),
+}
+
+/// The head of a block, one line further.
+fn head_after<'l>(head: Head<'l>, line: &'l str) -> Head<'l> {
+    let (word, rest) = split(line);
+    match (head, kind_of(word)) {
+        (Head::Wrong(_), _) | (_, LineKind::Name) => head,
+        (Head::Names, LineKind::Title) if !rest.is_empty() => Head::Titled(rest),
+        (Head::Names, _) | (Head::Titled(_), LineKind::Title) => Head::Wrong(line),
+        (Head::Titled(_), _) => head,
+    }
+}
+
+/// The head of a block of lines, after its texts have their names.
+fn head_of<'l>(texts: &mut Texts, lines: &'l [String]) -> Result<Head<'l>> {
+    let mut head = Head::Names;
     for line in lines {
-        let (word, rest) = split(line.as_str());
+        let line = line.as_str();
+        let (word, rest) = split(line);
         match word {
             "let" => texts.name(rest)?,
             "repeat" => texts.repeat(rest)?,
-            "case" => title = rest,
             _ => {}
         }
+        head = head_after(head, line);
     }
-    Ok(title)
+    Ok(head)
 }
 
 /// Plays the last verb of a case that asks for refused allocations, where one may be refused: whether all was done, if it asks.
 pub fn judge_refused(alloc: Global, texts: &mut Texts, lines: &[String]) -> Result<Option<bool>> {
-    if title(texts, lines)?.is_empty() {
-        return Ok(None);
+    match head_of(texts, lines)? {
+        Head::Titled(_) => sweep::hold_refused(alloc, texts, lines),
+        Head::Names | Head::Wrong(_) => Ok(None),
     }
-    sweep::hold_refused(alloc, texts, lines)
 }
 
 /// What came of a case.
@@ -307,10 +361,14 @@ pub enum Verdict {
 
 /// Plays a case.
 pub fn verdict_on(alloc: Global, texts: &mut Texts, lines: &[String]) -> Result<Verdict> {
-    let title = title(texts, lines)?;
-    if title.is_empty() {
-        return Ok(Verdict::None);
-    }
+    let title = match head_of(texts, lines)? {
+        Head::Names => return Ok(Verdict::None),
+        Head::Titled(title) => title,
+        Head::Wrong(line) => {
+            let said = format!(in alloc; "a block with no title or with two\n  at       {line}")?;
+            return Ok(Verdict::Wrong(said));
+        }
+    };
     Ok(match judge(alloc, texts, lines) {
         Ok(()) => Verdict::Right,
         Err(error) => Verdict::Wrong(format!(in alloc; "{title}\n  {error:#}")?),

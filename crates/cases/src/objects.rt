@@ -2,13 +2,15 @@
 //!
 //! - `object ID commit`, `object ID tag LINE`: a commit, and a tag with this first line (`object ID` in a good one)
 //! - `object ID failed`, `object ID no-memory`: one that cannot be read, and one for which there is no memory
-//! - `tags COUNT`: the ids of the numbers 0 to COUNT - 1 are tags of the next number each. The id of a number has it in its first two
-//!   bytes, and zeros after them.
+//! - `object ID changing LINE`: a commit at the first question, a tag with this first line at the second, and so on in turn
+//! - `tags COUNT`: the ids of the numbers 0 to COUNT - 1, of each kind, are tags of the next number each. The id of a number has it in
+//!   its first two bytes, and zeros after them.
 use crate::texts::{Texts, number, split};
 use anyhow::{Context, Result, bail};
-use gix_ref_hash::hash::ObjectId;
+use gix_ref_hash::hash::{self, ObjectId};
 use gix_ref_object::object::{Data, Find, FindError, Kind};
 use std::alloc::Global;
+use std::cell::Cell;
 
 /// What is found under an id.
 #[derive(Drop)]
@@ -16,6 +18,8 @@ enum Found {
     Commit,
     /// A tag, with its first line.
     Tag(Vec<u8>),
+    /// A tag with this first line, where it was a commit before; and else a commit.
+    Changing(Vec<u8>, Cell<bool>),
     Failed,
     NoMemory,
 }
@@ -61,6 +65,7 @@ impl Objects {
         let found = match kind {
             "commit" => Found::Commit,
             "tag" => Found::Tag(texts.text(target)?),
+            "changing" => Found::Changing(texts.text(target)?, Cell::new(false)),
             "failed" => Found::Failed,
             "no-memory" => Found::NoMemory,
             _ => bail!("object {line}"),
@@ -95,6 +100,34 @@ fn write_tag(buf: &mut Vec<u8>, line: &[u8]) -> Result<(), FindError> {
     Ok(())
 }
 
+/// The id of this kind that has a number.
+fn numbered(kind: hash::Kind, number: u16) -> ObjectId {
+    let [high, low] = number.to_be_bytes();
+    match kind {
+        hash::Kind::Sha1 => {
+            let mut bytes = [0; 20];
+            bytes[0] = high;
+            bytes[1] = low;
+            ObjectId::Sha1(bytes)
+        }
+        hash::Kind::Sha256 => {
+            let mut bytes = [0; 32];
+            bytes[0] = high;
+            bytes[1] = low;
+            ObjectId::Sha256(bytes)
+        }
+    }
+}
+
+/// A commit.
+fn commit<'b>(id: &ObjectId) -> Option<Data<'b>> {
+    Some(Data {
+        kind: Kind::Commit,
+        bytes: b"tree ",
+        object_hash: id.kind(),
+    })
+}
+
 /// The tag in the buffer.
 fn tag<'b>(buf: &'b mut Vec<u8>, id: &ObjectId) -> Option<Data<'b>> {
     Some(Data {
@@ -111,11 +144,7 @@ impl Objects {
         if number >= self.tags {
             return None;
         }
-        let [high, low] = number.saturating_add(1).to_be_bytes();
-        let mut bytes = [0; 20];
-        bytes[0] = high;
-        bytes[1] = low;
-        let next = ObjectId::Sha1(bytes);
+        let next = numbered(id.kind(), number.saturating_add(1));
         let line = format!(in self.alloc; "object {next}").ok()?;
         line.as_bytes().to_vec(self.alloc).ok()
     }
@@ -139,11 +168,16 @@ impl Find for Objects {
         }
         match self.found(id) {
             None => Ok(None),
-            Some(Found::Commit) => Ok(Some(Data {
-                kind: Kind::Commit,
-                bytes: b"tree ",
-                object_hash: id.kind(),
-            })),
+            Some(Found::Commit) => Ok(commit(id)),
+            Some(Found::Changing(line, is_tag)) => {
+                let was_tag = is_tag.get();
+                is_tag.set(!was_tag);
+                if !was_tag {
+                    return Ok(commit(id));
+                }
+                write_tag(buf, line.as_slice())?;
+                Ok(tag(buf, id))
+            }
             Some(Found::Tag(line)) => {
                 write_tag(buf, line.as_slice())?;
                 Ok(tag(buf, id))

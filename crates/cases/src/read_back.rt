@@ -1,7 +1,8 @@
 //! The verbs that commit and read what was committed: `make`, `make-then-find NAME`, `make-then-list PREFIX` and
 //! `make-then-read NAME PREFIX` print what `commit` does, and then what the lookup finds and what the listing gives.
 //!
-//! `packed-commit` and `packed-rollback` give the edits to a transaction of `packed-refs` alone, whose lock is held.
+//! `packed-commit` and `packed-rollback` give the edits to a transaction of `packed-refs` alone, whose lock is held, and which asks the
+//! objects of the case.
 use crate::causes::{of_commit, of_prepare};
 use crate::reads::{found_lines, item_line};
 use crate::texts::{Texts, split};
@@ -129,6 +130,7 @@ fn then_read(
 
 /// Plays a verb that commits and reads.
 pub fn make_and_read(world: &mut World, texts: &Texts, word: &str, rest: &str) -> Result<Said> {
+    world.hold_no_mode(word)?;
     let alloc = world.alloc;
     let (first, second) = split(rest);
     let (first, second) = (texts.text(first)?, texts.text(second)?);
@@ -182,7 +184,7 @@ pub fn transact_packed(world: &mut World, word: &str) -> Result<Said> {
         Ok(transaction) => transaction,
         Err(refused) => return line(alloc, refused.as_str()),
     };
-    let prepared = transaction.prepare(alloc, given.as_slice());
+    let prepared = transaction.prepare(alloc, given.as_slice(), &world.objects);
     if word == "packed-rollback" || prepared.is_err() {
         let left = transaction.rollback(&mut world.files);
         return match (prepared, left) {

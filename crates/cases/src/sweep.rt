@@ -14,7 +14,7 @@
 //! - `may OUTCOME`: the beginning of what is printed after a fault. Each comes, and no others, unless all is done
 //!
 //! In each of these each file is as before or as after the verb, but for its own locks, and for a beginning of a log line.
-use crate::judge::{LineKind, change, kind_of, play};
+use crate::judge::{Family, LineKind, change, kind_of, play};
 use crate::reads::reading;
 use crate::texts::{Texts, number, split};
 use crate::transactions::Said;
@@ -24,14 +24,21 @@ use anyhow::{Context, Result, bail};
 use bstr::ByteSlice;
 use std::alloc::Global;
 
+/// The last verb of a case.
+#[derive(Clone, Copy)]
+struct LastVerb {
+    /// The number of its line.
+    at: usize,
+    family: Family,
+}
+
 /// A case whose last verb is disturbed.
 #[derive(Drop)]
 struct Sweep<'l> {
     alloc: Global,
     texts: &'l Texts,
     lines: &'l [String],
-    /// The number of the line of the verb.
-    verb: usize,
+    verb: LastVerb,
     before: Tree,
     after: &'l Tree,
     bits: u64,
@@ -91,8 +98,8 @@ fn world_of(alloc: Global, texts: &Texts, lines: &[String]) -> Result<World> {
         let line = line.as_str();
         match kind_of(split(line).0) {
             LineKind::Before => world.set(texts, line)?,
-            LineKind::Verb => {
-                play(&mut world, texts, line)?;
+            LineKind::Verb(family) => {
+                play(&mut world, texts, family, line)?;
             }
             _ => {}
         }
@@ -105,7 +112,7 @@ impl<'l> Sweep<'l> {
     fn world_before(&self) -> Result<World> {
         let lines = self
             .lines
-            .get(..self.verb)
+            .get(..self.verb.at)
             .context("the lines before the verb")?;
         world_of(self.alloc, self.texts, lines)
     }
@@ -114,9 +121,14 @@ impl<'l> Sweep<'l> {
     fn disturbed(&self, plan: Plan) -> Result<Came> {
         let mut world = self.world_before()?;
         world.plan = plan;
-        let line = self.lines.get(self.verb).context("a verb")?;
-        let said = play(&mut world, self.texts, line.as_str())?;
+        let line = self.lines.get(self.verb.at).context("a verb")?;
+        let said = play(&mut world, self.texts, self.verb.family, line.as_str())?;
         Ok(Came { world, said })
+    }
+
+    /// Whether a path is that of a lock that was not there before.
+    fn is_new_lock(&self, path: &[u8]) -> bool {
+        path.ends_with(b".lock") && self.before.text_at(path).is_none()
     }
 
     /// Whether a path may hold this text, or nothing.
@@ -126,7 +138,7 @@ impl<'l> Sweep<'l> {
             return true;
         }
         match text {
-            Some(_) if path.ends_with(b".lock") && before.is_none() => true,
+            Some(_) if self.is_new_lock(path) => true,
             Some(text) => may_be_left(path, text, before, after.unwrap_or(b""), lost),
             None => lost && before.is_none() && path.contains_str(b"/logs/"),
         }
@@ -314,11 +326,22 @@ impl<'l> Sweep<'l> {
         bail!("{}", outcome.as_slice().as_bstr())
     }
 
+    /// Holds all files to those of a tree, but for locks that were not there before.
+    fn hold_all(&self, expected: &Tree, tree: &Tree) -> Result<()> {
+        for file in expected.files().iter().chain(tree.files()) {
+            let path = file.path.as_slice();
+            if !self.is_new_lock(path) && tree.text_at(path) != expected.text_at(path) {
+                bail!("{} is not as it has to be", path.as_bstr())
+            }
+        }
+        Ok(())
+    }
+
     /// Holds the locks that are there to those that are named.
     fn hold_locks(&self, tree: &Tree, said: &Said) -> Result<()> {
         for file in tree.files() {
             let path = file.path.as_slice();
-            if path.ends_with(b".lock") && self.before.text_at(path).is_none() {
+            if self.is_new_lock(path) {
                 let named = format!(in self.alloc; "lock left: {}", path.as_bstr())?;
                 let named = named.as_bytes();
                 if !said.as_slice().iter().any(|line| line.as_slice() == named) {
@@ -412,15 +435,40 @@ impl Sweep<'_> {
     }
 }
 
-/// The number of the line of the last verb.
-fn last_verb(lines: &[String]) -> Option<usize> {
+/// The last verb.
+fn last_verb(lines: &[String]) -> Option<LastVerb> {
     let mut found = None;
     for (at, line) in lines.iter().enumerate() {
-        if kind_of(split(line.as_str()).0) == LineKind::Verb {
-            found = Some(at);
+        if let LineKind::Verb(family) = kind_of(split(line.as_str()).0) {
+            found = Some(LastVerb { at, family });
         }
     }
     found
+}
+
+/// Whether this is a way in which a verb is disturbed.
+fn is_way(word: &str) -> bool {
+    matches!(word, "stop" | "fault" | "read" | "loss" | "allocation")
+}
+
+/// Holds the lines of what may come of a disturbed verb to a line that begins with `each`, and these to the ways that there are.
+pub fn hold_lines(lines: &[String]) -> Result<()> {
+    let mut is_disturbed = false;
+    let mut of_it = None;
+    for line in lines {
+        let line = line.as_str();
+        let (word, rest) = split(line);
+        match kind_of(word) {
+            LineKind::Each if !is_way(split(rest).0) => bail!("no such line: {line}"),
+            LineKind::Each => is_disturbed = true,
+            LineKind::Disturbed => of_it = Some(line),
+            _ => {}
+        }
+    }
+    match of_it {
+        Some(line) if !is_disturbed => bail!("nothing is disturbed: {line}"),
+        _ => Ok(()),
+    }
 }
 
 /// Disturbs the last verb of a case, if it asks for that.
@@ -502,10 +550,10 @@ pub fn hold_refused(alloc: Global, texts: &Texts, lines: &[String]) -> Result<Op
         return Ok(None);
     }
     let verb = last_verb(lines).context("a verb")?;
-    let front = lines.get(..verb).context("the lines before the verb")?;
+    let front = lines.get(..verb.at).context("the lines before the verb")?;
     let before = world_of(alloc, texts, front)?.tree()?;
     let same = world_of(alloc, texts, front)?.tree()?;
-    let after = expected_after(alloc, texts, lines, verb, same)?;
+    let after = expected_after(alloc, texts, lines, verb.at, same)?;
     let sweep = Sweep {
         alloc,
         texts,
@@ -520,17 +568,11 @@ pub fn hold_refused(alloc: Global, texts: &Texts, lines: &[String]) -> Result<Op
     sweep.hold_files(&tree, false)?;
     sweep.hold_locks(&tree, &came.said)?;
     if is_done(&came.said) {
-        return match after.difference(&tree)? {
-            Some(difference) => bail!("{difference}"),
-            None => Ok(Some(true)),
-        };
+        sweep.hold_all(&after, &tree)?;
+        return Ok(Some(true));
     }
     if lacked_memory(&came.said) {
-        for file in sweep.before.files() {
-            if tree.text_at(file.path.as_slice()) != Some(file.text.as_slice()) {
-                bail!("{} has changed", file.path.as_slice().as_bstr())
-            }
-        }
+        sweep.hold_all(&sweep.before, &tree)?;
     }
     Ok(Some(false))
 }

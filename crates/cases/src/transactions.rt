@@ -2,20 +2,23 @@
 //!
 //! They print `prepared`, `given up`, `done`, `refused: CAUSE` or `failed: CAUSE`, then `lock left: PATH` for each lock that could not
 //! be removed; `prepare edits`, `rollback edits` and `commit edits` print the edits that are handed back after that. `prepare` rolls
-//! back. `run` prints what the program does, and `status N` where that is not 0.
+//! back. They use `packed-refs` as the case says, with the objects of the case, which each answer hands back. `run` prints what the
+//! program does, and `status N` where that is not 0.
 use crate::causes::{of_commit, of_prepare};
 use crate::edits::edit_line;
+use crate::objects::Objects;
 use crate::texts::Texts;
 use crate::world::World;
 use anyhow::{Context, Result};
 use bstr::ByteSlice;
 use gix_ref_edits::transaction::RefEdit;
 use gix_ref_files::files::Files;
-use gix_ref_log::actor::SignatureRef;
 use gix_ref_memory::memory::Memory;
 use gix_ref_program::run::run;
 use gix_ref_store::file::Store;
-use gix_ref_store::file::transaction::{PackedRefs, Prepared};
+use gix_ref_store::file::transaction::{
+    Done, Failed, PackedRefs, Plan, Prepared, Refused, RolledBack,
+};
 use std::alloc::Global;
 use std::mem;
 
@@ -49,75 +52,91 @@ fn with_edits(alloc: Global, mut said: Said, edits: &[RefEdit], option: &str) ->
     Ok(said)
 }
 
+/// What is said of a refusal.
+fn refusal(world: &mut World, refused: Refused<Objects>) -> Result<Said> {
+    let alloc = world.alloc;
+    let Refused {
+        error,
+        packed_refs,
+        locks_left,
+    } = refused;
+    world.put_back(packed_refs)?;
+    let cause = of_prepare(alloc, &error)?;
+    let text = format!(in alloc; "refused: {cause}")?;
+    outcome(alloc, text.as_str(), locks_left.as_slice())
+}
+
 /// Prepares the edits and gives them up.
 fn given_up(
-    alloc: Global,
+    world: &mut World,
     store: &mut Store<Memory>,
-    edits: Vec<RefEdit>,
     text: &str,
     option: &str,
 ) -> Result<Said> {
-    match store.transaction().prepare(alloc, edits) {
-        Err(refused) => {
-            let cause = of_prepare(alloc, &refused.error)?;
-            let text = format!(in alloc; "refused: {cause}")?;
-            outcome(alloc, text.as_str(), refused.locks_left.as_slice())
-        }
+    let (alloc, edits, mode) = (world.alloc, world.take_edits(), world.take_mode());
+    match store.transaction().packed_refs(mode).prepare(alloc, edits) {
+        Err(refused) => refusal(world, refused),
         Ok(prepared) => {
-            let back = prepared.rollback();
-            let said = outcome(alloc, text, back.locks_left.as_slice())?;
-            with_edits(alloc, said, back.edits.as_slice(), option)
+            let RolledBack {
+                edits,
+                packed_refs,
+                locks_left,
+            } = prepared.rollback();
+            world.put_back(packed_refs)?;
+            let said = outcome(alloc, text, locks_left.as_slice())?;
+            with_edits(alloc, said, edits.as_slice(), option)
         }
     }
 }
 
 /// Commits a prepared transaction.
 fn finished(
-    alloc: Global,
-    prepared: Prepared<'_, Memory>,
-    committer: Option<SignatureRef<'_>>,
+    world: &mut World,
+    prepared: Prepared<'_, Memory, Plan<Objects>>,
     option: &str,
 ) -> Result<Said> {
-    match prepared.commit(alloc, committer) {
+    let alloc = world.alloc;
+    match prepared.commit(alloc, world.signature()) {
         Ok(done) => {
-            let said = outcome(alloc, "done", done.locks_left.as_slice())?;
-            with_edits(alloc, said, done.edits.as_slice(), option)
+            let Done {
+                edits,
+                packed_refs,
+                locks_left,
+            } = done;
+            world.put_back(packed_refs)?;
+            let said = outcome(alloc, "done", locks_left.as_slice())?;
+            with_edits(alloc, said, edits.as_slice(), option)
         }
         Err(failed) => {
-            let cause = of_commit(alloc, &failed.error)?;
+            let Failed {
+                error,
+                packed_refs,
+                locks_left,
+            } = failed;
+            world.put_back(packed_refs)?;
+            let cause = of_commit(alloc, &error)?;
             let text = format!(in alloc; "failed: {cause}")?;
-            outcome(alloc, text.as_str(), failed.locks_left.as_slice())
+            outcome(alloc, text.as_str(), locks_left.as_slice())
         }
     }
 }
 
 /// Prepares the edits and commits them.
-fn committed(
-    alloc: Global,
-    store: &mut Store<Memory>,
-    edits: Vec<RefEdit>,
-    committer: Option<SignatureRef<'_>>,
-    option: &str,
-) -> Result<Said> {
-    match store.transaction().prepare(alloc, edits) {
-        Err(refused) => {
-            let cause = of_prepare(alloc, &refused.error)?;
-            let text = format!(in alloc; "refused: {cause}")?;
-            outcome(alloc, text.as_str(), refused.locks_left.as_slice())
-        }
-        Ok(prepared) => finished(alloc, prepared, committer, option),
+fn committed(world: &mut World, store: &mut Store<Memory>, option: &str) -> Result<Said> {
+    let (alloc, edits, mode) = (world.alloc, world.take_edits(), world.take_mode());
+    match store.transaction().packed_refs(mode).prepare(alloc, edits) {
+        Err(refused) => refusal(world, refused),
+        Ok(prepared) => finished(world, prepared, option),
     }
 }
 
 /// Plays `prepare`, `rollback` or `commit`.
 pub fn transact(world: &mut World, word: &str, option: &str) -> Result<Said> {
-    let alloc = world.alloc;
-    let edits = world.take_edits();
     let mut store = world.open()?;
     let said = match word {
-        "prepare" => given_up(alloc, &mut store, edits, "prepared", option),
-        "rollback" => given_up(alloc, &mut store, edits, "given up", option),
-        _ => committed(alloc, &mut store, edits, world.signature(), option),
+        "prepare" => given_up(world, &mut store, "prepared", option),
+        "rollback" => given_up(world, &mut store, "given up", option),
+        _ => committed(world, &mut store, option),
     };
     world.files = store.into_files();
     said
@@ -133,6 +152,7 @@ pub fn push_lines(alloc: Global, said: &mut Said, output: &[u8]) -> Result<()> {
 
 /// Plays `run`.
 pub fn run_words(world: &mut World, texts: &Texts, rest: &str) -> Result<Said> {
+    world.hold_no_mode("run")?;
     let alloc = world.alloc;
     let words = texts.words(rest)?;
     let mut output = Vec::new(alloc);

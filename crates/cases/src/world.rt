@@ -4,6 +4,8 @@
 //!
 //! - `file PATH [TEXT]`, `folder PATH`: a file, a folder
 //! - `worktree PATH`, `namespace NAME`, `sha256`, `logs normal`, `logs always`, `logs never`, `precompose`, `no-device-names`: of the store
+//! - `packs updates`, `packs updates-alone`, `packs deletions`: what the next transactions do with `packed-refs`: the objects of updates go
+//!   into it, without their loose files too, or deletions alone change it, as where no line says it
 //! - `committer NAME|EMAIL|OFFSET`, at 1234 seconds, with the offset in seconds; `committer none`. Before such a line it is
 //!   `C <c@example.com> 1234 +0800`
 //! - `fails N`, `stops N PARTS`: of the next verb the call of files of this number fails; or the process stops in it, after so many
@@ -21,7 +23,9 @@ use gix_ref_memory::memory::Memory;
 use gix_ref_name::name::PartialNameRef;
 use gix_ref_name::namespace::{Namespace, expand};
 use gix_ref_store::file::Store;
+use gix_ref_store::file::transaction::PackedRefs;
 use gix_ref_store::store::{Options, WriteReflog};
+use gix_ref_transaction::packing::Packing;
 use std::alloc::Global;
 use std::mem;
 
@@ -63,6 +67,7 @@ pub struct World {
     committer: Option<Committer>,
     pub edits: Vec<RefEdit>,
     pub objects: Objects,
+    packing: Packing,
 }
 
 /// A path of a case.
@@ -109,6 +114,7 @@ impl World {
             committer: committer_of(texts, "C|c@example.com|28800")?,
             edits: Vec::new(alloc),
             objects: Objects::new(alloc),
+            packing: Packing::Deletions,
         })
     }
 
@@ -172,6 +178,53 @@ impl World {
     pub fn take_edits(&mut self) -> Vec<RefEdit> {
         let alloc = self.alloc;
         mem::replace(&mut self.edits, Vec::new(alloc))
+    }
+
+    /// The mode of a transaction, which takes the objects along where it needs them.
+    pub fn take_mode(&mut self) -> PackedRefs<Objects> {
+        if self.packing == Packing::Deletions {
+            return PackedRefs::DeletionsOnly;
+        }
+        let objects = mem::replace(&mut self.objects, Objects::new(self.alloc));
+        if self.packing == Packing::Updates {
+            PackedRefs::DeletionsAndNonSymbolicUpdates(objects)
+        } else {
+            PackedRefs::DeletionsAndNonSymbolicUpdatesRemoveLooseSourceReference(objects)
+        }
+    }
+
+    /// Takes the objects back out of the mode that a transaction hands back.
+    pub fn put_back(&mut self, mode: PackedRefs<Objects>) -> Result<()> {
+        if mode.packing() != self.packing {
+            bail!("another mode is handed back")
+        }
+        match mode {
+            PackedRefs::DeletionsOnly => {}
+            PackedRefs::DeletionsAndNonSymbolicUpdates(objects)
+            | PackedRefs::DeletionsAndNonSymbolicUpdatesRemoveLooseSourceReference(objects) => {
+                self.objects = objects;
+            }
+        }
+        Ok(())
+    }
+
+    /// Fails where updates are to be packed: a verb of this name has no mode.
+    pub fn hold_no_mode(&self, word: &str) -> Result<()> {
+        if self.packing != Packing::Deletions {
+            bail!("{word} packs no updates")
+        }
+        Ok(())
+    }
+
+    /// Sets what the next transactions do with `packed-refs`.
+    fn set_packing(&mut self, word: &str) -> Result<()> {
+        self.packing = match word {
+            "deletions" => Packing::Deletions,
+            "updates" => Packing::Updates,
+            "updates-alone" => Packing::UpdatesAlone,
+            _ => bail!("packs {word}"),
+        };
+        Ok(())
     }
 
     /// A setting of the store.
@@ -248,6 +301,7 @@ impl World {
             "delete" => Ok(self.edits.push(edits::deletion(self.alloc, texts, rest)?)?),
             "object" => self.objects.add(texts, rest),
             "tags" => self.objects.set_tags(rest),
+            "packs" => self.set_packing(rest),
             "committer" => {
                 self.committer = committer_of(texts, rest)?;
                 Ok(())

@@ -6,6 +6,7 @@ use gix_ref_name::name::FullName;
 use gix_ref_repack::error::Error as RepackError;
 use gix_ref_store::file::transaction::commit;
 use gix_ref_store::file::transaction::prepare::Error;
+use gix_ref_transaction::prepare::packed;
 
 /// Why `prepare` refuses edits, with the name of the edit, what it expects or sets, and what is there.
 #[derive(Clone, Copy, Debug, PartialEq, Eq)]
@@ -20,6 +21,8 @@ pub enum Cause {
     PackedTransactionAcquire,
     Packed,
     PackedFind,
+    /// The object of an update that is put into `packed-refs` is missing.
+    Resolve,
     PathCollision(&'static str),
     LockAcquire(&'static str),
     DeleteReferenceMustExist(&'static str),
@@ -96,6 +99,7 @@ pub fn is_cause(error: &Error, want: Cause) -> bool {
         Error::PackedTransactionAcquire => want == Cause::PackedTransactionAcquire,
         Error::Packed(_) => want == Cause::Packed,
         Error::PackedFind(_) => want == Cause::PackedFind,
+        Error::PackedTransactionPrepare(packed::Error::Resolve) => want == Cause::Resolve,
         _ => is_named(error, want),
     }
 }

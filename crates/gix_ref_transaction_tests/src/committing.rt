@@ -3,9 +3,9 @@ use crate::causes::Failure;
 use crate::files::{Held, copied, get, is_blocked, is_folder, put, remove, text};
 use crate::made::{Edit, Expect, To, Who, digits};
 use crate::names::{has_usual_log, key, log, place};
-use crate::preparing::{has_bad_record, release};
+use crate::preparing::{digit_put, has_bad_record, release};
 use crate::reading::{loose, record};
-use crate::stores::{HEADER, Kept, Record, records_text};
+use crate::stores::{HEADER, Kept, Puts, Record, records_text};
 use gix_ref_store::store::WriteReflog;
 use std::alloc::Global;
 use std::process::Abort;
@@ -160,10 +160,15 @@ fn is_deletion(edit: Edit) -> bool {
     edit.new.is_none() && !edit.is_of_log
 }
 
-/// Whether a record goes with a deletion.
-fn is_deleted(kept: &Kept, edits: &[Edit], record: Record) -> bool {
+/// Whether an edit puts its object into `packed-refs` in place of its loose file.
+fn is_put_alone(kept: &Kept, edit: Edit) -> bool {
+    kept.puts == Puts::UpdatesAlone && digit_put(kept, edit).is_some()
+}
+
+/// Whether a record goes with a deletion, or for one that is put.
+fn is_replaced(kept: &Kept, edits: &[Edit], record: Record) -> bool {
     for edit in edits {
-        if is_deletion(*edit)
+        if (is_deletion(*edit) || digit_put(kept, *edit).is_some())
             && record.space == kept.setting.space
             && key(kept.setting, edit.name) == Some(record.name)
         {
@@ -173,10 +178,12 @@ fn is_deleted(kept: &Kept, edits: &[Edit], record: Record) -> bool {
     false
 }
 
-/// Whether a deletion has a record.
+/// Whether a deletion has a record, or one is put.
 fn changes_records(kept: &Kept, edits: &[Edit]) -> bool {
     for edit in edits {
-        if is_deletion(*edit) && record(kept, edit.name).is_some() {
+        if digit_put(kept, *edit).is_some()
+            || (is_deletion(*edit) && record(kept, edit.name).is_some())
+        {
             return true;
         }
     }
@@ -203,7 +210,7 @@ fn append(
 
 /// The text of the loose file of an update, where it is written.
 fn new_text(rt: &impl Abort, alloc: Global, kept: &Kept, edit: Edit) -> Option<String> {
-    if edit.is_of_log {
+    if edit.is_of_log || is_put_alone(kept, edit) {
         return None;
     }
     match edit.new? {
@@ -262,34 +269,67 @@ fn remove_logs(rt: &impl Abort, alloc: Global, kept: &mut Kept, edits: &[Edit]) 
     }
 }
 
+/// The record that an edit puts. The tag of the digit `a` leads to the object of the digit 3.
+fn record_put(kept: &Kept, edit: Edit) -> Option<Record> {
+    let digit = digit_put(kept, edit)?;
+    Some(Record {
+        space: kept.setting.space,
+        name: key(kept.setting, edit.name)?,
+        digit,
+        is_peeled: digit == 'a',
+    })
+}
+
+/// Whether the name of a record is below that of another one.
+fn is_below(record: &Record, other: &Record) -> bool {
+    let bytes = |record: &Record| record.space.bytes().chain(record.name.bytes());
+    bytes(record).lt(bytes(other))
+}
+
 /// The records that stay.
 fn staying(rt: &impl Abort, alloc: Global, kept: &Kept, edits: &[Edit]) -> Vec<Record> {
     let mut staying = Vec::new(alloc);
     for record in &kept.records {
-        if !is_deleted(kept, edits, *record) {
+        if !is_replaced(kept, edits, *record) {
             staying.push(*record).expect(rt, "memory");
         }
     }
     staying
 }
 
-/// The new `packed-refs`.
-fn rewrite(rt: &impl Abort, alloc: Global, kept: &mut Kept, edits: &[Edit]) {
-    if !changes_records(kept, edits) {
-        return;
+/// The records that stay and those that are put, in the order of their names.
+fn merged(rt: &impl Abort, alloc: Global, kept: &Kept, edits: &[Edit]) -> Vec<Record> {
+    let mut records = staying(rt, alloc, kept, edits);
+    for edit in edits {
+        if let Some(new) = record_put(kept, *edit) {
+            let place = records.iter().filter(|old| is_below(old, &new)).count();
+            records.insert(place, new).expect(rt, "memory");
+        }
     }
-    let staying = staying(rt, alloc, kept, edits);
-    remove(&mut kept.files, "/r/packed-refs");
-    if !staying.is_empty() {
-        let text = records_text(rt, alloc, HEADER, &staying, "\n");
-        put(rt, alloc, &mut kept.files, "/r/packed-refs", text);
-    }
+    records
 }
 
-/// The removals of the loose files of deletions.
+/// The new `packed-refs`.
+fn rewrite(rt: &impl Abort, alloc: Global, kept: &mut Kept, edits: &[Edit]) -> Result<(), Failure> {
+    if !changes_records(kept, edits) {
+        return Ok(());
+    }
+    if is_folder(&kept.files, "/r/packed-refs") {
+        return Err(Failure::FolderInPlace(text(rt, alloc, "/r/packed-refs")));
+    }
+    let records = merged(rt, alloc, kept, edits);
+    remove(&mut kept.files, "/r/packed-refs");
+    if !records.is_empty() {
+        let text = records_text(rt, alloc, HEADER, &records, "\n");
+        put(rt, alloc, &mut kept.files, "/r/packed-refs", text);
+    }
+    Ok(())
+}
+
+/// The removals of the loose files of deletions, and of those in whose place a record is put.
 fn remove_loose(rt: &impl Abort, alloc: Global, kept: &mut Kept, edits: &[Edit]) {
     for edit in edits {
-        if is_deletion(*edit) {
+        if is_deletion(*edit) || is_put_alone(kept, *edit) {
             let place = place(rt, alloc, kept.setting, edit.name);
             remove(&mut kept.files, &place);
         }
@@ -310,7 +350,7 @@ fn write_all(
     }
     updates(rt, alloc, kept, edits, &lines)?;
     remove_logs(rt, alloc, kept, edits);
-    rewrite(rt, alloc, kept, edits);
+    rewrite(rt, alloc, kept, edits)?;
     remove_loose(rt, alloc, kept, edits);
     Ok(())
 }

@@ -17,6 +17,8 @@ mod made;
 #[cfg(test)]
 mod names;
 #[cfg(test)]
+mod objects;
+#[cfg(test)]
 mod preparing;
 #[cfg(test)]
 mod random;

@@ -4,7 +4,7 @@ use crate::files::{is_blocked, is_taken, put, remove, text};
 use crate::made::{Edit, Expect, To};
 use crate::names::{KNOWN, has_device, is_safe, key, place};
 use crate::reading::{found, loose, record};
-use crate::stores::{Kept, Packed};
+use crate::stores::{Kept, Packed, Puts};
 use std::alloc::Global;
 use std::process::Abort;
 
@@ -180,6 +180,22 @@ fn packed(rt: &impl Abort, alloc: Global, kept: &Kept, edits: &[Edit]) -> Option
     }
 }
 
+/// The digit of the object that an edit puts into `packed-refs`: that of an update of a reference that may have a record.
+pub fn digit_put(kept: &Kept, edit: Edit) -> Option<char> {
+    if kept.puts == Puts::Nothing || edit.is_of_log || key(kept.setting, edit.name).is_none() {
+        return None;
+    }
+    match edit.new? {
+        To::Object(digit) => Some(digit),
+        To::Name(_) | To::Long | To::Partial => None,
+    }
+}
+
+/// Whether an object that is put is missing: the finder has each but the null id.
+fn is_missing(kept: &Kept, edits: &[Edit]) -> bool {
+    edits.iter().any(|edit| digit_put(kept, *edit) == Some('0'))
+}
+
 /// Nothing is found where this has to be.
 fn absent(edit: Edit, to: To) -> Cause {
     match edit.new {
@@ -270,6 +286,9 @@ pub fn prepare(
     }
     if let Some(cause) = packed(rt, alloc, kept, edits) {
         return Some(cause);
+    }
+    if is_missing(kept, edits) {
+        return Some(Cause::Resolve);
     }
     take_all(rt, alloc, kept, edits)
 }

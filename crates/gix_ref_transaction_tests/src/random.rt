@@ -5,13 +5,14 @@ use crate::dice::Dice;
 use crate::edits::random_edits;
 use crate::files::{Held, copied};
 use crate::made::{Edit, Who, given, is_expected, signature, store};
+use crate::objects::Objects;
 use crate::preparing::prepare;
-use crate::stores::{Kept, random_store};
+use crate::stores::{Kept, Puts, random_store};
 use gix_ref_edits::transaction::RefEdit;
 use gix_ref_files::files::Files;
 use gix_ref_memory::memory::Memory;
 use gix_ref_store::file::Store;
-use gix_ref_store::file::transaction::{commit as commits, prepare as prepares};
+use gix_ref_store::file::transaction::{PackedRefs, commit as commits, prepare as prepares};
 use std::alloc::Global;
 use std::process::Abort;
 
@@ -39,15 +40,28 @@ struct Tally {
     done: u32,
 }
 
+/// The use of `packed-refs` that puts these.
+fn uses(puts: Puts) -> PackedRefs<Objects> {
+    match puts {
+        Puts::Nothing => PackedRefs::DeletionsOnly,
+        Puts::Updates => PackedRefs::DeletionsAndNonSymbolicUpdates(Objects),
+        Puts::UpdatesAlone => {
+            PackedRefs::DeletionsAndNonSymbolicUpdatesRemoveLooseSourceReference(Objects)
+        }
+    }
+}
+
 /// Prepares edits and commits them.
 fn answered(
     rt: &impl Abort,
     alloc: Global,
     store: &mut Store<Memory>,
+    puts: Puts,
     edits: Vec<RefEdit>,
     who: Who,
 ) -> Answer {
-    match store.transaction().prepare(alloc, edits) {
+    let transaction = store.transaction().packed_refs(uses(puts));
+    match transaction.prepare(alloc, edits) {
         Err(refused) => {
             assert!(rt; refused.locks_left.is_empty(), "no lock is left");
             Answer::Refused(refused.error)
@@ -186,13 +200,14 @@ fn count_end(tally: &mut Tally, want: &Want) {
 }
 
 /// Compares one transaction of a random store.
-fn compare(rt: &impl Abort, alloc: Global, dice: &mut Dice, tally: &mut Tally) {
+fn compare(rt: &impl Abort, alloc: Global, dice: &mut Dice, puts: Puts, tally: &mut Tally) {
     let (mut kept, memory) = random_store(rt, alloc, dice);
+    kept.puts = puts;
     let mut edits = random_edits(rt, alloc, dice, &kept);
     let who = random_who(dice);
     let given = given(rt, alloc, &edits);
     let mut store = store(rt, alloc, memory, kept.setting);
-    let answer = answered(rt, alloc, &mut store, given, who);
+    let answer = answered(rt, alloc, &mut store, puts, given, who);
     let mut memory = store.into_files();
     let before = copied(rt, alloc, &kept.files);
     let want = wanted(rt, alloc, &mut kept, &mut edits, who);
@@ -209,7 +224,7 @@ fn compare(rt: &impl Abort, alloc: Global, dice: &mut Dice, tally: &mut Tally) {
 }
 
 /// Compares transactions of 500 random stores.
-fn compare_all(rt: &impl Abort, alloc: Global, start: u32) {
+fn compare_all(rt: &impl Abort, alloc: Global, start: u32, puts: Puts) {
     let mut dice = Dice::new(start);
     let mut tally = Tally {
         refused: 0,
@@ -217,7 +232,7 @@ fn compare_all(rt: &impl Abort, alloc: Global, start: u32) {
         done: 0,
     };
     for _ in 0..500u32 {
-        compare(rt, alloc, &mut dice, &mut tally);
+        compare(rt, alloc, &mut dice, puts, &mut tally);
     }
     assert!(rt; tally.done > 150, "{tally:?}");
     assert!(rt; tally.failed > 20, "{tally:?}");
@@ -226,20 +241,30 @@ fn compare_all(rt: &impl Abort, alloc: Global, start: u32) {
 
 #[test]
 fn five_hundred_transactions(rt: HostRuntime) {
-    compare_all(&rt, rt.alloc(), 1);
+    compare_all(&rt, rt.alloc(), 1, Puts::Nothing);
 }
 
 #[test]
 fn five_hundred_more(rt: HostRuntime) {
-    compare_all(&rt, rt.alloc(), 2);
+    compare_all(&rt, rt.alloc(), 2, Puts::Nothing);
 }
 
 #[test]
-fn a_third_five_hundred(rt: HostRuntime) {
-    compare_all(&rt, rt.alloc(), 3);
+fn five_hundred_with_updates_put(rt: HostRuntime) {
+    compare_all(&rt, rt.alloc(), 3, Puts::Updates);
 }
 
 #[test]
-fn the_last_five_hundred(rt: HostRuntime) {
-    compare_all(&rt, rt.alloc(), 4);
+fn five_hundred_more_with_updates_put(rt: HostRuntime) {
+    compare_all(&rt, rt.alloc(), 4, Puts::Updates);
+}
+
+#[test]
+fn five_hundred_with_updates_put_alone(rt: HostRuntime) {
+    compare_all(&rt, rt.alloc(), 5, Puts::UpdatesAlone);
+}
+
+#[test]
+fn five_hundred_more_with_updates_put_alone(rt: HostRuntime) {
+    compare_all(&rt, rt.alloc(), 6, Puts::UpdatesAlone);
 }

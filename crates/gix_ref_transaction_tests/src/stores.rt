@@ -44,9 +44,20 @@ pub enum Packed {
     BadHeader,
 }
 
+/// What its transactions put into `packed-refs`.
+#[derive(Clone, Copy, Debug, PartialEq, Eq)]
+pub enum Puts {
+    Nothing,
+    /// Updates to objects, beside their loose files.
+    Updates,
+    /// Updates to objects, in place of their loose files.
+    UpdatesAlone,
+}
+
 /// A store. The file `packed-refs` is among its files, and its records are in the order of their names.
 #[derive(Debug, Drop)]
 pub struct Kept {
+    pub puts: Puts,
     pub setting: Setting,
     pub files: Vec<Held>,
     pub packed: Packed,
@@ -374,6 +385,7 @@ fn random_setting(dice: &mut Dice) -> Setting {
 /// A store, and the same files in memory.
 pub fn random_store(rt: &impl Abort, alloc: Global, dice: &mut Dice) -> (Kept, Memory) {
     let mut kept = Kept {
+        puts: Puts::Nothing,
         setting: random_setting(dice),
         files: Vec::new(alloc),
         packed: Packed::Nothing,
