@@ -3,8 +3,8 @@
 //! `-make` is to write the files that the others read; `tiny` does a little of each.
 //!
 //! The modes `find-hit`, `find-miss` and `open-find` look up names in a repository, `list` and `list-prefix` list its references,
-//! `log10` and `logall` read a reflog, and `update`, `update-synced`, `update-many`, `prepare-many` and `delete-many` make
-//! transactions; they print `MODE TURNS NANOSECONDS HITS`.
+//! `log10` and `logall` read a reflog, and `update`, `update-synced`, `update-many`, `prepare-many`, `pack-many`,
+//! `pack-many-beside` and `delete-many` make transactions; they print `MODE TURNS NANOSECONDS HITS`.
 #![tactic(auto)]
 
 mod listings;
