@@ -1,4 +1,5 @@
 -- What a commit leaves whose planned steps are run, and whose other locks are then removed.
+use Rattle.std.proofs.lemmas.Bool.{true≢false}
 use Rattle.std.proofs.Common.{◌≡◌, ◌≢◌, ⊎_elim, ℕ, List, [], ◌∷◌, ◌++◌, Bool, true, false, Option, Some, None, refl, sym, ◌∙◌, ap, subst}
 use Rattle.std.specs.Prelude.{bytes_eq}
 use Rattle.gix_ref_hash.specs.declared.hash.Kind.{Kind}
@@ -16,7 +17,7 @@ use Rattle.gix_ref_files.specs.declared.steps.Cause.{Cause}
 use Rattle.gix_ref_files.specs.declared.steps.Cause.TheVariants.{Sync}
 use Rattle.gix_ref_files.proofs.Moments.{passes_joins, passes_weaken}
 use Rattle.gix_ref_files.proofs.Between.{ended_is_begun}
-use Rattle.gix_ref_theory.specs.Between.{IsEdit}
+use Rattle.gix_ref_theory.specs.Between.{IsEdit, IsPackedFile}
 use Rattle.gix_ref_theory.specs.Edits.{Edit, Mode}
 use Rattle.gix_ref_theory.specs.Losses.{IsLostWell}
 use Rattle.gix_ref_theory.specs.OnDisks.{AreWhole, IsAsBefore, IsWithin, IsSpokenOf}
@@ -36,7 +37,7 @@ use Rattle.gix_ref_lookup.specs.Lookups.{ArePackedRecords}
 use Rattle.gix_ref_lookup.specs.declared.folders.Dirs.{Dirs}
 use Rattle.gix_ref_rewrite.specs.declared.outcome.Rewrite.{Rewrite}
 use Rattle.gix_ref_edits.specs.declared.transaction.RefEdit.{RefEdit}
-use Rattle.gix_ref_transaction.specs.Causes.{locks_of}
+use Rattle.gix_ref_transaction.specs.Causes.{IsPackedWell, locks_of}
 use Rattle.gix_ref_transaction.specs.OwnLocks.{is_in, OnlyRemoves, RemovesLocks}
 use Rattle.gix_ref_transaction.specs.PrepareSteps.{own_locks, own_places, packed_locks}
 use Rattle.gix_ref_transaction.specs.declared.edit.Edit.{Edit as Own}
@@ -180,6 +181,13 @@ module _ (dirs : Dirs) (namespace : Option Namespace) (kind : Kind) (prohibits :
         (λ path own out.
         let within = owned_all s mode before given path own in
         no_file (now path) (gone path within (is_false (is_in left path) (λ h. out (cover path h)))) ∙ sym (ap file_of (all_free path within)))
+
+    -- and `packed-refs` is well formed again
+    pub commits_good : (mid now : Tree) → IsAfter (bare_steps all_entries) D.tree mid → IsSameButLocks locked (view_of now) (view_of mid) → IsPackedWell kind (view_of now s.packed_path)
+    commits_good mid now after alike =
+        let done = commits mid now mine after alike (λ q inside out. absurd (true≢false (sym inside ∙ out))) locked (λ q within. own_all s mode before given q within) in
+        run.good_again dirs namespace kind prohibits mode before D given ran packed rewrite ways out laid ready rs are repack text_held (view_of now s.packed_path)
+        (subst (λ (f : Option (List ℕ)). IsPackedFile s mode edits f (view_of now s.packed_path)) (sym (run.same_packed dirs namespace kind prohibits mode before D given ran packed rewrite ways out laid ready)) done.packed)
 
     -- Losses of power on the way.
     pub lost_well : IsAllSettled D → (E : Disk) (T : Tree) → IsWithin (IsSpokenOf locked D) all_writes (view_of D.tree) E → Lost E T → IsLostWell s mode locked edits D before T

@@ -1,4 +1,5 @@
 -- The planned steps of a commit carry out the plan of the theory, where `packed-refs` was well formed.
+use Rattle.std.specs.Prelude.{MatchBool}
 use Rattle.std.proofs.Common.{◌≡◌, ◌≢◌, ◌⊎◌, inl, inr, ⊎_elim, ℕ, suc, List, [], ◌∷◌, Bool, true, false, ◌||◌, ◌&&◌, Option, Some, None, IsSome, All, refl, sym, ◌∙◌, ap, subst, arith, if◌then◌else◌, map}
 use Rattle.std.specs.Prelude.{is_some}
 use Rattle.std.specs.List.{list_any}
@@ -12,7 +13,9 @@ use Rattle.gix_ref_files.specs.Tree.{Tree, Path, Content, file_of, is_file}
 use Rattle.gix_ref_files.specs.Tree.Content.{File, Folder}
 use Rattle.gix_ref_files.specs.Disk.{Disk}
 use Rattle.gix_ref_files.specs.Lock.{lock_of}
-use Rattle.gix_ref_theory.specs.Between.{AreEdits, IsEdit, IsPrepared, MergesRecords}
+use Rattle.gix_ref_records.specs.WrittenText.{written_header}
+use Rattle.gix_ref_theory.proofs.MergedRecords.{merged_once}
+use Rattle.gix_ref_theory.specs.Between.{AreEdits, IsEdit, IsPackedFile, IsPrepared, MergesRecords}
 use Rattle.gix_ref_theory.specs.Edits.{Change, Edit, Effect, Mode, effect, alters_change, alters_packed, file_of_records, is_object, packs_updates}
 use Rattle.gix_ref_theory.specs.Edits.Change.{Update, Delete}
 use Rattle.gix_ref_theory.specs.Edits.Effect.{Writes}
@@ -33,7 +36,7 @@ use Rattle.gix_ref_edits.specs.RefEdits.{name_of, new_of, mode_of, is_of_referen
 use Rattle.gix_ref_edits.specs.declared.transaction.RefEdit.{RefEdit}
 use Rattle.gix_ref_edits.specs.declared.transaction.Change.{Change as GivenChange}
 use Rattle.gix_ref_edits.specs.declared.transaction.Change.TheVariants as given_changes
-use Rattle.gix_ref_transaction.specs.Causes.{ask_packed, has_key, may_change, packed_taken, packs_edit, packs_some, updates_object, IsFullTarget, IsOfKind, IsWholeTarget}
+use Rattle.gix_ref_transaction.specs.Causes.{ask_packed, has_key, may_change, packed_taken, packs_edit, packs_some, updates_object, IsFullTarget, IsOfKind, IsPackedWell, IsWholeTarget}
 use Rattle.gix_ref_transaction.specs.CarriedEdits.{change_of, edit_of}
 use Rattle.gix_ref_transaction.specs.CommittedEdits.{planned}
 use Rattle.gix_ref_transaction.specs.OwnLocks.{is_in}
@@ -314,6 +317,7 @@ module _ (dirs : Dirs) (namespace : Option Namespace) (kind : Kind) (prohibits :
       pub is_merged : alters ≡ true → MergesRecords s mode edits (records_of_file s (view s.packed_path)) merged
       pub reads_back : alters ≡ true → records_of_file s (file_of_records s merged) ≡ merged
       pub writes : packed_writes s mode view edits merged ≡ packed_written view packed rewrite
+      pub well : alters ≡ true → ArePackedRecords kind (file_of_records s merged) merged
 
     abbrev written_as : Bool → List Record → List Write
     written_as b merged = if b then file_writes s.packed_path (file_of_records s merged) else []
@@ -325,6 +329,7 @@ module _ (dirs : Dirs) (namespace : Option Namespace) (kind : Kind) (prohibits :
         is_merged = λ some. clash some none;
         reads_back = λ some. clash some none;
         writes = ap (λ b. written_as b []) none ∙ nothing;
+        well = λ some. clash some none;
       },
     )
 
@@ -372,6 +377,7 @@ module _ (dirs : Dirs) (namespace : Option Namespace) (kind : Kind) (prohibits :
             writes = ap (λ b. written_as b []) (sym alters_is ∙ all.0)
                 ∙ (ap (λ (q : Path). Write.Remove q ∷ []) (sym (path_is path some))
                 ∙ (ap (λ (p : Option Path). packed_written view p Removed) (sym some) ∙ ap (packed_written view packed) (sym is)));
+            well = λ _. refl;
           },
         )
         by (Some path) some (Text text) is =
@@ -386,11 +392,22 @@ module _ (dirs : Dirs) (namespace : Option Namespace) (kind : Kind) (prohibits :
                     ∙ (ap (λ (q : Path). Write.Put q text.items ∷ []) (sym (path_is path some))
                     ∙ (ap (λ (f : Option (List ℕ)). Write.Put path (file_bytes f) ∷ []) (sym (text_held path text.items some (subst (λ (r : Rewrite). IsText r text.items) (sym is) refl)))
                     ∙ (ap (λ (p : Option Path). packed_written view p (Text text)) (sym some) ∙ ap (packed_written view packed) (sym is)))));
+                well = λ _. subst (λ (f : Option (List ℕ)). ArePackedRecords kind f new.merged) (sym new.is_file) (Some written_header, new.well);
               },
             )
 
     abbrev pub merged : List Record
     merged = planned_packed.0
+
+    -- `packed-refs` is well formed again, as the edits leave it
+    pub good_again : (left : Option (List ℕ)) → IsPackedFile s mode edits (view s.packed_path) left → IsPackedWell kind left
+    good_again left file = by alters refl file
+      where
+        by : (b : Bool) → alters ≡ b → MatchBool b ((new : List Record) × MergesRecords s mode edits (records_of_file s (view s.packed_path)) new × (left ≡ file_of_records s new)) (left ≡ view s.packed_path) → IsPackedWell kind left
+        by false none same = (rs, subst (λ (f : Option (List ℕ)). ArePackedRecords kind f rs) (sym (same ∙ same_packed)) are)
+        by true some (new, is, at) =
+            let one : new ≡ merged = merged_once s mode edits _ new merged is (planned_packed.1.is_merged some) in
+            (merged, subst (λ (f : Option (List ℕ)). ArePackedRecords kind f merged) (sym (at ∙ ap (file_of_records s) one)) (planned_packed.1.well some))
 
     pub prepared : IsPrepared s mode view edits merged
     prepared = record {

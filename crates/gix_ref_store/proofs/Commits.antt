@@ -41,7 +41,7 @@ use Rattle.gix_ref_theory.proofs.OnDisks.{own_is_lock}
 use Rattle.gix_ref_theory.proofs.PlaceLaws.{laws_hold}
 use Rattle.gix_ref_edits.specs.RefEdits.{name_of}
 use Rattle.gix_ref_edits.specs.declared.transaction.RefEdit.{RefEdit}
-use Rattle.gix_ref_transaction.specs.Causes.{locks_of}
+use Rattle.gix_ref_transaction.specs.Causes.{IsPackedWell, locks_of}
 use Rattle.gix_ref_transaction.specs.CommitRenames.{is_written_at, lock_at, place_at, stays_at}
 use Rattle.gix_ref_transaction.specs.CommittedEdits.{planned}
 use Rattle.gix_ref_transaction.specs.OwnLocks.{is_in, times, AddsLocks, IsOurs, OnlyLocks, OnlyRemoves, RemovesLocks}
@@ -92,7 +92,7 @@ use Rattle.gix_ref_commit.proofs.Tidying.{no_file_still, same_files}
 use Rattle.gix_ref_store.specs.CommitResult.{EveryLossIsOldOrNew, EveryStopIsOldOrNew, RepacksFrom}
 use Rattle.gix_ref_store.specs.CommitLines.{extras_due, line_rules, lines_due}
 use Rattle.gix_ref_store.specs.Prepared.{PreparesFrom, HasGoodRecords, tree_of, disk_in, locks_in, places_in, IsAtRest}
-use Rattle.gix_ref_store.specs.Store.{files_of, folders, kind_of, meaning_of, IsSameStore}
+use Rattle.gix_ref_store.specs.Store.{files_of, folders, kind_of, meaning_of, with_files, IsSameStore}
 use Rattle.gix_ref_store.specs.declared.file.store.Store.{Store}
 
 -- a store with other files means the same
@@ -102,6 +102,18 @@ same_meaning old new same =
     ∙ (ap (λ (n : Option Namespace). store_of (folders_of old.dirs n) (git_options (kind_of new) new.prohibit_windows_device_names)) same.namespace
     ∙ (ap (λ (k : Kind). store_of (folders old) (git_options k new.prohibit_windows_device_names)) same.of_kind
     ∙ ap (λ (b : Bool). store_of (folders old) (git_options (kind_of old) b)) same.prohibits))
+
+-- the same store with other files
+same_on : {F : Type 0} (old start new : Store F) (files : F) → IsSameStore old start → new ≡ with_files start files → IsSameStore old new
+same_on old start new files same is =
+    subst (IsSameStore old) (sym is) (record { dirs = same.dirs; namespace = same.namespace; of_kind = same.of_kind; reflogs = same.reflogs; composes = same.composes; prohibits = same.prohibits; threshold = same.threshold })
+
+-- whose `packed-refs` is well formed, or there is none
+pub good_on : {F : Type 0} (means : F → Meaning) (old start new : Store F) (files : F) → IsSameStore old start → new ≡ with_files start files → IsPackedWell (kind_of old) (view_of (tree_of means new) (meaning_of old).packed_path) → HasGoodRecords means new
+good_on means old start new files from is well =
+    let same = same_on old start new files from is in
+    subst (λ (k : Kind). IsPackedWell k (view_of (tree_of means new) (meaning_of new).packed_path)) (sym same.of_kind)
+    (subst (λ (s : readings.Store). IsPackedWell (kind_of old) (view_of (tree_of means new) s.packed_path)) (sym (same_meaning old new same)) well)
 
 -- more locks
 removes_wider : (xs ys : List Path) (S T : Tree) → ((q : Path) → is_in xs q ≡ true → is_in ys q ≡ true) → RemovesLocks xs S T → RemovesLocks ys S T
@@ -593,6 +605,13 @@ module _ {F : Type 0} (honest : Type 0) (means : F → Meaning) (faults : F → 
               (ends.commits old.dirs old.namespace (kind_of old) old.prohibit_windows_device_names mode before (disk_of decided) given ran packed rewrite ways (out h) (laid h) (ready h good) good.0 good.1 (repack h good) (text_held h)
               mid.tree now.tree left after
               (λ path other. same_files old.dirs paths released.tree now.tree (tidies h).tree path ∙ less_alike mid.tree released.tree (removes h) path other) gone)
+
+          -- and `packed-refs` is well formed again
+          pub kept_good : (h : honest) → HasGoodRecords means old → IsAfter (bare_steps all_entries) decided.tree mid.tree → IsPackedWell (kind_of old) (view_of now.tree s.packed_path)
+          kept_good h good after =
+              ends.commits_good old.dirs old.namespace (kind_of old) old.prohibit_windows_device_names mode before (disk_of decided) given ran packed rewrite ways (out h) (laid h) (ready h good) good.0 good.1 (repack h good) (text_held h)
+              mid.tree now.tree after
+              (λ path other. same_files old.dirs paths released.tree now.tree (tidies h).tree path ∙ less_alike mid.tree released.tree (removes h) path other)
 
           -- losses of power
           module _ (h : honest) (at_rest : IsAtRest means old) (only : OnlyRemoves (held_locks (if renamed then None else packed) ran) mid released) where

@@ -9,7 +9,7 @@ use Rattle.gix_ref_transaction.specs.declared.edit.Edit.{Edit}
 use Rattle.gix_ref_log.specs.declared.actor.SignatureRef.{SignatureRef}
 use Rattle.gix_ref_commit.specs.declared.error.Error.{Error}
 use Rattle.gix_ref_store.specs.CommitLines.{LinesPass}
-use Rattle.gix_ref_store.specs.CommitResult.{CommitsFrom, EveryLossFrom, EveryStopFrom, FailsFor, NoBadLineFrom, ReadsPacked, SettlesFrom}
+use Rattle.gix_ref_store.specs.CommitResult.{CommitsFrom, EveryLossFrom, EveryStopFrom, FailsFor, NoBadLineFrom, ReadsPacked, SettlesFrom, StaysGoodFrom}
 use Rattle.gix_ref_store.specs.CommittedFolders.{KeepsFolders}
 use Rattle.gix_ref_store.specs.Store.{files_of}
 use Rattle.gix_ref_store.specs.declared.file.store.Store.{Store}
@@ -27,6 +27,8 @@ module _ {F : Type 0} (honest : Type 0) (means : F → Meaning) (faults : F → 
     pub passed : LinesPass honest means start committer held
     -- where a record was to be removed, no line of `packed-refs` was passed over
     pub read : ReadsPacked honest means faults start packed held
+    -- where `packed-refs` was well formed or missing, it is so again
+    pub good : StaysGoodFrom honest means faults start new packed held
     -- where all was at rest, all is: a later loss of power leaves what was committed
     pub settled : SettlesFrom honest means faults start new packed held
 

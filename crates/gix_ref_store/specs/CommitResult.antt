@@ -324,10 +324,16 @@ module _ {F : Type 0} (honest : Type 0) (means : F → Meaning) (faults : F → 
       packed held → honest → HasGoodRecords means old → IsAtRest means old →
       EveryLossIsOldOrNew mode old start new given (extras_due means start committer held)
 
+  -- a commit that succeeds leaves `packed-refs` well formed again, or there is none
+  abbrev pub StaysGoodFrom : (start new : Store F) → Option Path → List Edit → Type 0
+  StaysGoodFrom start new packed held =
+      (old : Store F) (mode : Mode) (given : List RefEdit) →
+      PreparesFrom honest means faults mode old start given packed held → honest →
+      HasGoodRecords means old → HasGoodRecords means new
+
   -- a commit that succeeds leaves all at rest: a later loss of power leaves what it did
   abbrev pub SettlesFrom : (start new : Store F) → Option Path → List Edit → Type 0
   SettlesFrom start new packed held =
       (old : Store F) (mode : Mode) (given : List RefEdit) →
-      PreparesFrom
-      honest means faults mode old start given packed held → honest → IsAtRest means old →
-      IsAtRest means new
+      PreparesFrom honest means faults mode old start given packed held → honest →
+      IsAtRest means old → IsAtRest means new

@@ -50,7 +50,7 @@ use Rattle.gix_ref_commit.specs.CommittedTrees.{AreCommitted}
 use Rattle.gix_ref_commit.specs.LogEffects.{Extra, with_ends, with_extras}
 use Rattle.gix_ref_commit.proofs.Alike.{are_same}
 use Rattle.gix_ref_store.specs.CommitLines.{extras_due, line_rules, lines_due}
-use Rattle.gix_ref_store.specs.CommitResult.{CommitsFrom, EveryLossFrom, EveryStopFrom, SettlesFrom}
+use Rattle.gix_ref_store.specs.CommitResult.{CommitsFrom, EveryLossFrom, EveryStopFrom, SettlesFrom, StaysGoodFrom}
 use Rattle.gix_ref_store.specs.Lookup.{LooksUp, AreRecordsIn, FindsAmong, MissesAmong, MissesIn, composes_in, settings_of, view_in}
 use Rattle.gix_ref_store.specs.Prepared.{HasGoodRecords, IsAtRest, disk_in, locks_in, places_in, tree_of}
 use Rattle.gix_ref_store.specs.Store.{files_of, folders, kind_of, meaning_of, IsSameStore}
@@ -63,7 +63,7 @@ use Rattle.gix_ref_whole.specs.WholeRuns.{FindsEdited, HasFault, IsSameOutside, 
 use Rattle.gix_ref_whole.proofs.DueLemmas.{all_count, lines_same}
 use Rattle.gix_ref_whole.proofs.FoundNames.{fails_as, found_as}
 use Rattle.gix_ref_whole.proofs.OutsideLemmas.{committed_outside, locking_outside, losses_outside, stops_outside, unlocked, unlost_outside}
-use Rattle.gix_ref_whole.proofs.PackedAgain.{computed, has_again}
+use Rattle.gix_ref_whole.proofs.PackedAgain.{computed}
 use Rattle.gix_ref_store.proofs.SameStores.{same_on}
 
 -- log lines change no reading
@@ -160,7 +160,7 @@ module _ {F : Type 0} (honest : Type 0) (means : F → Meaning) (faults : F → 
         (λ T well. losses_outside (folders old) (kind_of old) old.prohibit_windows_device_names from.split (extras_due means mid committer held) (disk_in means mid) (tree_of means old) T good
         (started honest means faults DeletionsOnly old mid committer from.split packed held from.prepared h at_rest).0 well))
 
-    module _ (same : IsSameStore old new) (commits : CommitsFrom honest means faults mid new committer packed held left) where
+    module _ (same : IsSameStore old new) (commits : CommitsFrom honest means faults mid new committer packed held left) (stays : StaysGoodFrom honest means faults mid new packed held) where
       committed : honest → HasGoodRecords means old → IsCommitted s DeletionsOnly (s.packed_path ∷ places_of s from.split) (with_extras from.split (extras_due means mid committer held)) (view_in means old) (view_in means new)
       committed h good =
           commits old DeletionsOnly from.split from.prepared h good (s.packed_path ∷ places_of s from.split)
@@ -178,9 +178,7 @@ module _ {F : Type 0} (honest : Type 0) (means : F → Meaning) (faults : F → 
       made = record {
         split = from.split;
         splits = from.splits;
-        good = λ h good.
-            let again = has_again (folders old) (kind_of old) old.prohibit_windows_device_names (with_extras from.split (extras_due means mid committer held)) (view_in means old s.packed_path) (view_in means new s.packed_path) good.0 good.1 (committed h good).packed in
-            (again.0, packed_same old new same again.0 again.1);
+        good = λ h good. stays old DeletionsOnly from.split from.prepared h good;
         reads = λ h good name is.
             (committed h good).readings name is ∙ without_lines s from.split (extras_due means mid committer held) name (reading s (view_in means old) name);
         named = are_locks;

@@ -1,6 +1,6 @@
--- Where `packed-refs` was well formed before edits, it is after them.
+-- Merged records are those of their file.
 use Rattle.std.proofs.Common.{◌≡◌, ◌⊎◌, ◌&&◌, inl, inr, ℕ, suc, Bool, true, false, List, [], ◌∷◌, refl, sym, ◌∙◌, ap, subst, arith, Option, Some, None, cond, bytes_eq}
-use Rattle.std.specs.Prelude.{AllPairs, MatchBool}
+use Rattle.std.specs.Prelude.{AllPairs}
 use Rattle.std.specs.List.{All}
 use Rattle.std.specs.Cmp.Lexicographic.{slice_cmp}
 use Rattle.std.specs.Ordering.{nat_cmp, is_eq, ordering_reverse}
@@ -21,9 +21,9 @@ use Rattle.gix_ref_packed.proofs.RecordsOfText.{records_computed}
 use Rattle.gix_ref_rewrite.proofs.OutcomeLemmas.{well_formed}
 use Rattle.gix_ref_lookup.specs.Lookups.{ArePackedRecords}
 use Rattle.gix_ref_lookup.specs.StoreLayout.{git_options}
-use Rattle.gix_ref_theory.specs.Between.{MergesRecords, IsPackedFile}
+use Rattle.gix_ref_theory.specs.Between.{MergesRecords}
 use Rattle.gix_ref_theory.specs.ConcreteStore.{store_of}
-use Rattle.gix_ref_theory.specs.Edits.{Edit, Change, merged_record, edited_record, alters_packed, file_of_records, is_key}
+use Rattle.gix_ref_theory.specs.Edits.{Edit, Change, merged_record, edited_record, file_of_records, is_key}
 use Rattle.gix_ref_theory.specs.Edits.Change.{Update, Delete}
 use Rattle.gix_ref_theory.specs.Edits.Mode.{DeletionsOnly}
 use Rattle.gix_ref_theory.specs.Readings.{Store, records_of_file}
@@ -123,13 +123,3 @@ module _ (f : Layout) (k : Kind) (prohibits : Bool) where
   read_again edits old rs merged are m =
       computed (file_of_records git merged) merged
       (merged_has merged m.ascending (merged_read edits (records_of_file git old) merged m (subst (All (IsReadable k)) (sym (computed old rs are)) (readable old rs are))))
-
-  -- its records after edits
-  pub has_again : (edits : List Edit) (old new : Option (List ℕ)) (rs : List Record) → ArePackedRecords k old rs → IsPackedFile git DeletionsOnly edits old new → (left : List Record) × ArePackedRecords k new left
-  has_again edits old new rs are file = go (alters_packed git DeletionsOnly (records_of_file git old) edits) file
-    where
-      go : (b : Bool) → MatchBool b ((merged : List Record) × MergesRecords git DeletionsOnly edits (records_of_file git old) merged × (new ≡ file_of_records git merged)) (new ≡ old) → (left : List Record) × ArePackedRecords k new left
-      go false same = (rs, subst (λ file. ArePackedRecords k file rs) (sym same) are)
-      go true (merged, m, is) =
-          let all = merged_read edits (records_of_file git old) merged m (subst (All (IsReadable k)) (sym (computed old rs are)) (readable old rs are)) in
-          (merged, subst (λ file. ArePackedRecords k file merged) (sym is) (merged_has merged m.ascending all))

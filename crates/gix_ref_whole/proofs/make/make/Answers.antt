@@ -64,7 +64,7 @@ returns-in-Ok-commit-clause-made g c =
     subst (λ (l : List Path). HasRisenBy (length l) (F.faults (files_of mid)) (F.faults (files_of new))) (ap left_of c.in-Ok-commit.is) c.commit.ensures.kept.named in
     at_same (λ now. MakesEdited F.honest F.means F.faults old now c.args.committer edits c.in-Ok-commit.done) {x = c.store-in-Ok-1.given.0} {y = new} (search rules)
     (record {
-      kept = keeps F.honest F.means F.faults old mid new edits c.args.committer packed held left from stops (same_on old mid new from.prepared.held.same c.commit.ensures.same) c.in-Ok-commit.ensures.committed.commits
+      kept = keeps F.honest F.means F.faults old mid new edits c.args.committer packed held left from stops (same_on old mid new from.prepared.held.same c.commit.ensures.same) c.in-Ok-commit.ensures.committed.commits c.in-Ok-commit.ensures.committed.good
           c.in-Ok-commit.ensures.committed.settled c.commit.ensures.safe.losses;
       commits = record {
         mid = mid;
@@ -80,7 +80,7 @@ returns-in-Ok-commit-clause-made g c =
         folders = c.commit.ensures.kept.folders;
         named = named;
       };
-      same = keeps_split F.honest F.means F.faults old mid new edits c.args.committer packed held left from stops (same_on old mid new from.prepared.held.same c.commit.ensures.same) c.in-Ok-commit.ensures.committed.commits
+      same = keeps_split F.honest F.means F.faults old mid new edits c.args.committer packed held left from stops (same_on old mid new from.prepared.held.same c.commit.ensures.same) c.in-Ok-commit.ensures.committed.commits c.in-Ok-commit.ensures.committed.good
           c.in-Ok-commit.ensures.committed.settled c.commit.ensures.safe.losses;
     })
 

@@ -24,10 +24,10 @@ use Rattle.gix_ref_theory.specs.OnRealTrees.{view_of}
 use Rattle.gix_ref_store.specs.CommitLines.{line_rules}
 use Rattle.gix_ref_store.specs.CommittedFolders.{deleted_by, outcomes_in, written_in}
 use Rattle.gix_ref_store.specs.Prepared.{tree_of}
-use Rattle.gix_ref_store.specs.Store.{meaning_of, with_files}
+use Rattle.gix_ref_store.specs.Store.{files_of, meaning_of, with_files}
 use Rattle.gix_ref_store.specs.declared.file.store.Store.{Store}
 use Rattle.gix_ref_store.proofs.CommitFailures.{all_of_edits, held_less, never_bad, of_no_line, only_locks, raised_wider, run_fails, undecided_fails, undecided_wider}
-use Rattle.gix_ref_store.proofs.Commits.{committed, cut_gone, cut_packed_gone, lost, ran_well, settled, start_edits, start_records, undecided_lost, undecided_well, whole_gone, whole_packed_gone}
+use Rattle.gix_ref_store.proofs.Commits.{committed, cut_gone, cut_packed_gone, good_on, kept_good, lost, ran_well, settled, start_edits, start_records, undecided_lost, undecided_well, whole_gone, whole_packed_gone}
 use Rattle.gix_ref_store.proofs.FolderRuns.{folders_stay, no_folder_gone}
 use Rattle.gix_ref_store.proofs.file.store.Store.carry_out.Goals as goal
 
@@ -391,6 +391,25 @@ returns-clause-committed g c =
           (λ h. c.decide.ensures.fills.leaves h (from.packed.empty h)) (λ h. c.decide.ensures.fills.passes h (from.packed.empty h))
           c.in-Ok.ensures.decided.texts.logs rewrite c.in-Ok.ensures.decided.texts.repacked (λ h. c.in-Ok.ensures.decided.texts.filled h (from.packed.empty h)) (λ h. c.in-Ok.ensures.decided.texts.wholes h (from.packed.empty h)) ways in_way
           mid released renamed paths runs releases tidies h good (after h) (((returns-clause-safe g c).stops old mode given from).gone h);
+      good = λ old mode given from h good.
+          let e = c.release_all-released.ensures in
+          let left = paths_of c.release_all-released.result.left.items in
+          let same : c.decide.new.self.dirs ≡ old.dirs = ap (λ (st : Store g.row.F.Denot). st.dirs) c.decide.ensures.same ∙ from.held.same.dirs in
+          let in_way : F.honest → AllInWay ran.items old.dirs decided.tree (folder_lists ways) (planned_entries old.dirs ran.items packed rewrite) = λ h.
+          subst (λ (d : Dirs). AllInWay ran.items d decided.tree (folder_lists ways) (planned_entries d ran.items packed rewrite)) from.held.same.dirs (c.in-Ok.ensures.decided.in_way h) in
+          let still : c.publish.new.self.dirs ≡ old.dirs = ap (λ (st : Store g.row.F.Denot). st.dirs) c.publish.ensures.same ∙ same in
+          let tidies : F.honest → Leaves released tidied (FoldersGo old.dirs paths released.tree) = λ h.
+          subst (λ (d : Dirs). Leaves released tidied (FoldersGo d paths released.tree)) still (c.remove_empty_folders-2.ensures.leaves h) in
+          let runs : F.honest → Leaves decided mid (IsLeftBy (bare_steps (commit_entries old.dirs ran.items packed rewrite ways)) decided.tree) = λ h.
+          subst (λ (d : Dirs). Leaves decided mid (IsLeftBy (bare_steps (commit_entries d ran.items packed rewrite ways)) decided.tree)) same (rw c.deref-2.ensures.value at (rw c.deref.ensures.value at (c.publish.ensures.runs.leaves h))) in
+          let releases : F.honest → Leaves mid (F.means c.release_all-released.new.files) (RemovesLocks (held_locks (if renamed then None else packed) ran.items) mid.tree) = λ h. rw c.unless_renamed-packed-2.ensures at (e.releases.leaves h) in
+          let after : F.honest → IsAfter (bare_steps (commit_entries old.dirs ran.items packed rewrite ways)) decided.tree mid.tree = λ h.
+          subst (λ (d : Dirs). IsAfter (bare_steps (commit_entries d ran.items packed rewrite ways)) decided.tree mid.tree) same (rw c.deref-2.ensures.value at (rw c.deref.ensures.value at (c.in_default.ensures.finished.done h))) in
+          good_on F.means old start new (files_of new) from.held.same (ap (λ (st : Store g.row.F.Denot). with_files st (files_of new)) (c.publish.ensures.same ∙ ap (λ (st : Store g.row.F.Denot). with_files st (files_of c.publish.new.self)) c.decide.ensures.same))
+          (kept_good F.honest F.means F.faults mode old start c.args.committer given packed held from ran.items alike new left decided
+          (λ h. c.decide.ensures.fills.leaves h (from.packed.empty h)) (λ h. c.decide.ensures.fills.passes h (from.packed.empty h))
+          c.in-Ok.ensures.decided.texts.logs rewrite c.in-Ok.ensures.decided.texts.repacked (λ h. c.in-Ok.ensures.decided.texts.filled h (from.packed.empty h)) (λ h. c.in-Ok.ensures.decided.texts.wholes h (from.packed.empty h)) ways in_way
+          mid released renamed paths runs releases tidies h good (after h));
       passed = c.in-Ok.ensures.decided.texts.passed;
       read = c.in-Ok.ensures.decided.texts.repacked.read;
       settled = λ old mode given from h at_rest.
