@@ -13,7 +13,6 @@ use Rattle.gix_ref_packed.specs.declared.packed.buffer.Buffer.{Buffer}
 use Rattle.gix_ref_lookup.specs.declared.settings.Settings.{Settings}
 use Rattle.gix_ref_listing.specs.CleanPrefixes.{IsAcceptedPrefix, IsRefusedPrefix}
 use Rattle.gix_ref_listing.specs.WholeListings.{HoldsFor, key_in}
-use Rattle.gix_ref_listing.specs.declared.error.Error.TheVariants.{Memory}
 use Rattle.gix_ref_listing.specs.declared.prefix.Error.{Error as PrefixError}
 use Rattle.gix_ref_listing.specs.declared.prefix.Error.TheVariants as no_list
 use Rattle.gix_ref_listing.proofs.FolderWalks.{risen_on, unchanged_on}

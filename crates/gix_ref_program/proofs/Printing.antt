@@ -20,6 +20,8 @@ use Rattle.gix_ref_program.specs.LogPrinting.{log_text}
 use Rattle.gix_ref_program.specs.Printed.{items_status}
 use Rattle.gix_ref_program.specs.Outcomes.{printed, status_of}
 use Rattle.gix_ref_program.specs.Words.{Asked}
+use Rattle.gix_ref_object.specs.declared.object.Never.{Never}
+use Rattle.gix_ref_transaction.specs.declared.packing.PackedRefs.{PackedRefs}
 use Rattle.gix_ref_program.specs.Runs.{Ran, Prints, LogRan, UpdateOutcome, NoEdit}
 use Rattle.gix_ref_program.specs.Runs.Ran.{Said, Logged}
 use Rattle.gix_ref_program.specs.declared.outcome.Outcome.{Outcome}
@@ -59,16 +61,16 @@ logged G honest means old new name lines out now (Err e) full reads ends ran =
     record { ran = Logged false []; does = (full, λ h. inr ((reads h).0, λ never. absurd (cc)), _); prints = _ }
 
 -- an update that has no edit
-pub no_edit : {F : Type 0} (honest : Type 0) (means : F → Meaning) (faults : F → ℕ) (read : Type 0) (store : Store F) (committer : Option SignatureRef) (kind : Kind) (message : Option (List ℕ)) (asked : Asked) (refusal : Refusal) (locks : Vec (Vec ℕ Global) Global) →
-    NoEdit asked refusal → locks.items ≡ [] → UpdateOutcome honest means faults read store store committer kind message asked (outcomes.Refused refusal locks)
-no_edit honest means faults read store committer kind message asked (refusals.Name error) locks none empty = (none, refl, empty)
-no_edit honest means faults read store committer kind message asked refusals.Memory locks none empty = (refl, empty)
-no_edit honest means faults read store committer kind message asked refusals.PathNotClean locks none empty = absurd none
-no_edit honest means faults read store committer kind message asked (refusals.Find error) locks none empty = absurd none
-no_edit honest means faults read store committer kind message asked (refusals.List error) locks none empty = absurd none
-no_edit honest means faults read store committer kind message asked (refusals.Log error) locks none empty = absurd none
-no_edit honest means faults read store committer kind message asked (refusals.Update error) locks none empty = absurd none
-no_edit honest means faults read store committer kind message asked refusals.NotFound locks none empty = absurd none
+pub no_edit : {F : Type 0} (honest : Type 0) (means : F → Meaning) (faults : F → ℕ) (uses : PackedRefs Never) (read : Type 0) (store : Store F) (committer : Option SignatureRef) (kind : Kind) (message : Option (List ℕ)) (asked : Asked) (refusal : Refusal) (locks : Vec (Vec ℕ Global) Global) →
+    NoEdit asked refusal → locks.items ≡ [] → UpdateOutcome honest means faults uses read store store committer kind message asked (outcomes.Refused refusal locks)
+no_edit honest means faults uses read store committer kind message asked (refusals.Name error) locks none empty = (none, refl, empty)
+no_edit honest means faults uses read store committer kind message asked refusals.Memory locks none empty = (refl, empty)
+no_edit honest means faults uses read store committer kind message asked refusals.PathNotClean locks none empty = absurd none
+no_edit honest means faults uses read store committer kind message asked (refusals.Find error) locks none empty = absurd none
+no_edit honest means faults uses read store committer kind message asked (refusals.List error) locks none empty = absurd none
+no_edit honest means faults uses read store committer kind message asked (refusals.Log error) locks none empty = absurd none
+no_edit honest means faults uses read store committer kind message asked (refusals.Update error) locks none empty = absurd none
+no_edit honest means faults uses read store committer kind message asked refusals.NotFound locks none empty = absurd none
 
 -- nothing is printed where there is no log
 pub no_log : {F E : Type 0} (honest : Type 0) (means : F → Meaning) (old new : Store F) (name : List ℕ) (out : Option (List ℕ)) → full_error name ≡ None → (honest → is_file (reflog_at means old name) ≡ false) →

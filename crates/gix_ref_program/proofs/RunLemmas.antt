@@ -14,15 +14,17 @@ use Rattle.gix_ref_log.specs.declared.actor.SignatureRef.{SignatureRef}
 use Rattle.gix_ref_program.specs.Updates.{IsStopOf}
 use Rattle.gix_ref_program.specs.Words.{Asked, Update, Delete, LineAsked}
 use Rattle.gix_ref_files.specs.declared.files.ReadAt.{Ghosts}
+use Rattle.gix_ref_object.specs.declared.object.Never.{Never}
+use Rattle.gix_ref_transaction.specs.declared.packing.PackedRefs.{PackedRefs}
 use Rattle.gix_ref_program.specs.Runs.{IsExpected, IsEditOf, IsDeletionEdit, IsAskedFor, IsNoName, NoEdit, IsCommitterOf, IsOpened, EditOutcome, UpdateOutcome, IsUpdateStop, Ran, CommandRan, LineRan, IsStop, IsStopIn}
 use Rattle.gix_ref_program.specs.declared.outcome.Outcome.{Outcome}
 use Rattle.gix_ref_program.specs.declared.outcome.Outcome.TheVariants as outcomes
 use Rattle.gix_ref_program.specs.declared.refusal.Refusal.{Refusal}
 use Rattle.gix_ref_program.specs.declared.refusal.Refusal.TheVariants as refusals
 
-module _ {F : Type 0} (honest : Type 0) (means : F → Meaning) (faults : F → ℕ) where
+module _ {F : Type 0} (honest : Type 0) (means : F → Meaning) (faults : F → ℕ) (uses : PackedRefs Never) where
   pub update_comes : (read : Type 0) (old new : Store F) (committer : Option SignatureRef) (kind : Kind) (message : Option (List ℕ)) (asked : Asked) (edit : RefEdit) (outcome : Outcome) → IsAskedFor kind message asked edit →
-      EditOutcome honest means faults read old new committer edit outcome → UpdateOutcome honest means faults read old new committer kind message asked outcome
+      EditOutcome honest means faults uses read old new committer edit outcome → UpdateOutcome honest means faults uses read old new committer kind message asked outcome
   update_comes read old new committer kind message asked edit (outcomes.Updated locks) is comes = (edit, is, comes)
   update_comes read old new committer kind message asked edit (outcomes.Refused (refusals.Update error) locks) is comes = (edit, is, comes)
   update_comes read old new committer kind message asked edit (outcomes.Refused refusals.Memory locks) is comes = comes
@@ -36,19 +38,19 @@ module _ {F : Type 0} (honest : Type 0) (means : F → Meaning) (faults : F → 
   update_comes read old new committer kind message asked edit (outcomes.Shown reference) is comes = absurd comes
 
   pub update_stops : (old new : Store F) (committer : Option SignatureRef) (kind : Kind) (message : Option (List ℕ)) (asked : Asked) (edit : RefEdit) → IsAskedFor kind message asked edit →
-      Leaves (means (files_of old)) (means (files_of new)) (λ T. (T ≡ tree_of means old) ⊎ IsStopOf honest means faults old committer (edit ∷ []) T) →
-      Leaves (means (files_of old)) (means (files_of new)) (IsUpdateStop honest means faults old committer kind message asked)
+      Leaves (means (files_of old)) (means (files_of new)) (λ T. (T ≡ tree_of means old) ⊎ IsStopOf honest means faults uses old committer (edit ∷ []) T) →
+      Leaves (means (files_of old)) (means (files_of new)) (IsUpdateStop honest means faults uses old committer kind message asked)
   update_stops old new committer kind message asked edit is leaves = weaken leaves (λ T stop. ⊎_elim (λ same. inl same) (λ s. inr (edit, is, s)) stop)
 
   pub line_comes : {R : Type 0} (G : Ghosts R) (files after : F) (line : LineAsked) (old new : Store F) (committer : Option SignatureRef) (ran : Ran) → IsCommitterOf line committer → IsOpened files line old → files_of new ≡ after →
-      CommandRan honest means faults G old new committer line.kind line.message line.asked ran → LineRan honest means faults G files after line ran
+      CommandRan honest means faults uses G old new committer line.kind line.message line.asked ran → LineRan honest means faults uses G files after line ran
   line_comes G files after line old new committer ran is opened same comes = inl (old, new, committer, is, opened, same, comes)
 
   pub line_stops : (files after : F) (line : LineAsked) (old new : Store F) (committer : Option SignatureRef) → IsCommitterOf line committer → IsOpened files line old → files_of new ≡ after →
-      Leaves (means (files_of old)) (means (files_of new)) (IsStop honest means faults old committer line.kind line.message line.asked) → Leaves (means files) (means after) (IsStopIn honest means faults files line)
+      Leaves (means (files_of old)) (means (files_of new)) (IsStop honest means faults uses old committer line.kind line.message line.asked) → Leaves (means files) (means after) (IsStopIn honest means faults uses files line)
   line_stops files after line old new committer is opened same leaves =
-      subst (λ f. Leaves (means f) (means after) (IsStopIn honest means faults files line)) opened.files_are
-      (subst (λ a. Leaves (means (files_of old)) (means a) (IsStopIn honest means faults files line)) same (weaken leaves (λ T stop. inr (old, committer, is, opened, stop))))
+      subst (λ f. Leaves (means f) (means after) (IsStopIn honest means faults uses files line)) opened.files_are
+      (subst (λ a. Leaves (means (files_of old)) (means a) (IsStopIn honest means faults uses files line)) same (weaken leaves (λ T stop. inr (old, committer, is, opened, stop))))
 
 -- a word that gives no full name gives no edit
 no_name : (deref : Bool) (name : List ℕ) (id : ObjectId) (old : Option ObjectId) (refusal : Refusal) → IsNoName name refusal → NoEdit (Update deref name id old) refusal

@@ -48,6 +48,8 @@ use Rattle.gix_ref_edits.specs.declared.transaction.LogChange.{LogChange}
 use Rattle.gix_ref_edits.specs.declared.transaction.RefEdit.{RefEdit}
 use Rattle.gix_ref_edits.specs.declared.transaction.RefLog.TheVariants.{AndReference}
 use Rattle.gix_ref_program.specs.Outcomes.{printed, status_of}
+use Rattle.gix_ref_object.specs.declared.object.Never.{Never}
+use Rattle.gix_ref_transaction.specs.declared.packing.PackedRefs.{PackedRefs}
 use Rattle.gix_ref_program.specs.Updates.{UpdateMade, IsUpdateError, IsStopOf}
 use Rattle.gix_ref_program.specs.ListPrinting.{list_text}
 use Rattle.gix_ref_program.specs.LogPrinting.{log_text, AreLogItems}
@@ -255,43 +257,47 @@ module _ {F : Type 0} where
       × EndsAtError items
 
   module _ (honest : Type 0) (means : F → Meaning) (faults : F → ℕ) where
-    -- An edit: it is committed, but for locks that stay; or it was not made, and locks may stay; or there was no memory for it.
-    abbrev pub EditOutcome : (read : Type 0) → (old new : Store F) → Option SignatureRef → RefEdit →
-        Outcome → Type 0
-    EditOutcome read old new committer edit (outcomes.Updated locks) =
-        UpdateMade honest means faults old new committer (edit ∷ []) (paths_of locks.items)
-    EditOutcome read old new committer edit (outcomes.Refused (refusals.Update error) locks) =
-        IsUpdateError honest means faults read old new committer (edit ∷ []) error
-        (paths_of locks.items)
-    EditOutcome read old new committer edit (outcomes.Refused refusals.Memory locks) = (new ≡ old)
-        × (locks.items ≡ [])
-    EditOutcome read old new committer edit outcome = ⊥
+    -- by a transaction that does with `packed-refs` as `uses` says
+    module _ (uses : PackedRefs Never) where
+      -- An edit: it is committed, but for locks that stay; or it was not made, and locks may stay; or there was no memory for it.
+      abbrev pub EditOutcome :
+          (read : Type 0) → (old new : Store F) → Option SignatureRef → RefEdit →
+          Outcome → Type 0
+      EditOutcome read old new committer edit (outcomes.Updated locks) =
+          UpdateMade honest means faults uses old new committer (edit ∷ []) (paths_of locks.items)
+      EditOutcome read old new committer edit (outcomes.Refused (refusals.Update error) locks) =
+          IsUpdateError honest means faults uses read old new committer (edit ∷ []) error
+          (paths_of locks.items)
+      EditOutcome read old new committer edit (outcomes.Refused refusals.Memory locks) = (new ≡ old)
+          × (locks.items ≡ [])
+      EditOutcome read old new committer edit outcome = ⊥
 
-    -- An update of either kind, or a deletion: the outcome of its edit; or a name is no full name; or there was no memory.
-    abbrev pub UpdateOutcome : (read : Type 0) → (old new : Store F) → Option SignatureRef → Kind →
-        (message : Option (List ℕ)) → Asked → Outcome → Type 0
-    UpdateOutcome read old new committer kind message asked
-        (outcomes.Refused (refusals.Name error) locks) = BreaksRule asked error × (new ≡ old)
-        × (locks.items ≡ [])
-    UpdateOutcome read old new committer kind message asked
-        (outcomes.Refused refusals.Memory locks) = (new ≡ old) × (locks.items ≡ [])
-    UpdateOutcome read old new committer kind message asked outcome = (edit : RefEdit)
-        × IsAskedFor kind message asked edit × EditOutcome read old new committer edit outcome
+      -- An update of either kind, or a deletion: the outcome of its edit; or a name is no full name; or there was no memory.
+      abbrev pub UpdateOutcome :
+          (read : Type 0) → (old new : Store F) → Option SignatureRef → Kind →
+          (message : Option (List ℕ)) → Asked → Outcome → Type 0
+      UpdateOutcome read old new committer kind message asked
+          (outcomes.Refused (refusals.Name error) locks) = BreaksRule asked error × (new ≡ old)
+          × (locks.items ≡ [])
+      UpdateOutcome read old new committer kind message asked
+          (outcomes.Refused refusals.Memory locks) = (new ≡ old) × (locks.items ≡ [])
+      UpdateOutcome read old new committer kind message asked outcome = (edit : RefEdit)
+          × IsAskedFor kind message asked edit × EditOutcome read old new committer edit outcome
 
-    -- and what is printed of it
-    abbrev pub UpdateRan : (read : Type 0) → (old new : Store F) → Option SignatureRef → Kind →
-        (message : Option (List ℕ)) → Asked → Ran → Type 0
-    UpdateRan read old new committer kind message asked (Said outcome) =
-        UpdateOutcome read old new committer kind message asked outcome
-    UpdateRan read old new committer kind message asked ran = ⊥
+      -- and what is printed of it
+      abbrev pub UpdateRan : (read : Type 0) → (old new : Store F) → Option SignatureRef → Kind →
+          (message : Option (List ℕ)) → Asked → Ran → Type 0
+      UpdateRan read old new committer kind message asked (Said outcome) =
+          UpdateOutcome read old new committer kind message asked outcome
+      UpdateRan read old new committer kind message asked ran = ⊥
 
-    -- a stop in it leaves this tree: as before, or what a stop in its edit leaves
-    abbrev pub IsUpdateStop : Store F → Option SignatureRef → Kind → (message : Option (List ℕ)) →
-        Asked → Tree → Type 0
-    IsUpdateStop old committer kind message asked T =
-        (T ≡ tree_of means old)
-        ⊎ ((edit : RefEdit) × IsAskedFor kind message asked edit
-        × IsStopOf honest means faults old committer (edit ∷ []) T)
+      -- a stop in it leaves this tree: as before, or what a stop in its edit leaves
+      abbrev pub IsUpdateStop : Store F → Option SignatureRef → Kind → (message : Option (List ℕ)) →
+          Asked → Tree → Type 0
+      IsUpdateStop old committer kind message asked T =
+          (T ≡ tree_of means old)
+          ⊎ ((edit : RefEdit) × IsAskedFor kind message asked edit
+          × IsStopOf honest means faults uses old committer (edit ∷ []) T)
 
     -- A lookup: what it finds is shown; or there is nothing; or it fails; or its name breaks a rule.
     abbrev pub ShowOutcome : {R : Type 0} (G : Ghosts R) → (old new : Store F) → (name : List ℕ) →
@@ -347,63 +353,68 @@ module _ {F : Type 0} where
         (faults (files_of new)) records prefix whole items)
     ListRan G old new prefix ran = ⊥
 
-    abbrev pub CommandRan : {R : Type 0} (G : Ghosts R) → (old new : Store F) →
-        Option SignatureRef → Kind → (message : Option (List ℕ)) → Asked → Ran → Type 0
-    CommandRan G old new committer kind message (Update deref name id before) ran = UpdateRan
-        (HasReadFault G.faults) old new committer kind message (Update deref name id before) ran
-    CommandRan G old new committer kind message (Symbolic name target) ran =
-        UpdateRan (HasReadFault G.faults) old new committer kind message (Symbolic name target) ran
-    CommandRan G old new committer kind message (Delete deref name before) ran = UpdateRan
-        (HasReadFault G.faults) old new committer kind message (Delete deref name before) ran
-    CommandRan G old new committer kind message (Show name) (Said outcome) =
-        ShowOutcome G old new name outcome
-    CommandRan G old new committer kind message (AskedListing prefix) ran =
-        ListRan G old new (prefix_asked old prefix) ran
-    CommandRan G old new committer kind message (Log name) ran =
-        LogRan honest means old new name ran
-    CommandRan G old new committer kind message asked ran = ⊥
-
-    -- a stop in a command leaves this tree: as before; or of an update what a stop in it leaves
-    abbrev pub IsStop : Store F → Option SignatureRef → Kind → (message : Option (List ℕ)) → Asked →
-        Tree → Type 0
-    IsStop old committer kind message (Update deref name id before) T =
-        IsUpdateStop old committer kind message (Update deref name id before) T
-    IsStop old committer kind message (Symbolic name target) T =
-        IsUpdateStop old committer kind message (Symbolic name target) T
-    IsStop old committer kind message (Delete deref name before) T =
-        IsUpdateStop old committer kind message (Delete deref name before) T
-    IsStop old committer kind message (Show name) T = T ≡ tree_of means old
-    IsStop old committer kind message (AskedListing prefix) T = T ≡ tree_of means old
-    IsStop old committer kind message (Log name) T = T ≡ tree_of means old
-
     -- a line that is not begun
     abbrev pub NotBegun : LineAsked → Ran → Type 0
     NotBegun line (Said (outcomes.Refused refusal locks)) = IsUnopened line refusal
         × (locks.items ≡ [])
     NotBegun line ran = ⊥
 
-    -- what becomes of a line: it is begun in its store, or it is not, and the files are as before
-    abbrev pub LineRan : {R : Type 0} (G : Ghosts R) → (files after : F) → LineAsked → Ran → Type 0
-    LineRan G files after line ran =
-        ((old : Store F) × (new : Store F) × (committer : Option SignatureRef)
-        × IsCommitterOf line committer × IsOpened files line old × (files_of new ≡ after)
-        × CommandRan G old new committer line.kind line.message line.asked ran)
-        ⊎ ((after ≡ files) × NotBegun line ran)
+    -- the same of a command
+    module _ (uses : PackedRefs Never) where
+      abbrev pub CommandRan : {R : Type 0} (G : Ghosts R) → (old new : Store F) →
+          Option SignatureRef → Kind → (message : Option (List ℕ)) → Asked → Ran → Type 0
+      CommandRan G old new committer kind message (Update deref name id before) ran = UpdateRan uses
+          (HasReadFault G.faults) old new committer kind message (Update deref name id before) ran
+      CommandRan G old new committer kind message (Symbolic name target) ran =
+          UpdateRan
+          uses (HasReadFault G.faults) old new committer kind message (Symbolic name target) ran
+      CommandRan G old new committer kind message (Delete deref name before) ran = UpdateRan uses
+          (HasReadFault G.faults) old new committer kind message (Delete deref name before) ran
+      CommandRan G old new committer kind message (Show name) (Said outcome) =
+          ShowOutcome G old new name outcome
+      CommandRan G old new committer kind message (AskedListing prefix) ran =
+          ListRan G old new (prefix_asked old prefix) ran
+      CommandRan G old new committer kind message (Log name) ran =
+          LogRan honest means old new name ran
+      CommandRan G old new committer kind message asked ran = ⊥
 
-    -- a stop in a line leaves this tree: as before, or what a stop in its command leaves
-    abbrev pub IsStopIn : F → LineAsked → Tree → Type 0
-    IsStopIn files line T =
-        (T ≡ (means files).tree)
-        ⊎ ((old : Store F) × (committer : Option SignatureRef) × IsCommitterOf line committer
-        × IsOpened files line old × IsStop old committer line.kind line.message line.asked T)
+      -- a stop in a command leaves this tree: as before; or of an update what a stop in it leaves
+      abbrev pub IsStop :
+          Store F → Option SignatureRef → Kind → (message : Option (List ℕ)) → Asked →
+          Tree → Type 0
+      IsStop old committer kind message (Update deref name id before) T =
+          IsUpdateStop uses old committer kind message (Update deref name id before) T
+      IsStop old committer kind message (Symbolic name target) T =
+          IsUpdateStop uses old committer kind message (Symbolic name target) T
+      IsStop old committer kind message (Delete deref name before) T =
+          IsUpdateStop uses old committer kind message (Delete deref name before) T
+      IsStop old committer kind message (Show name) T = T ≡ tree_of means old
+      IsStop old committer kind message (AskedListing prefix) T = T ≡ tree_of means old
+      IsStop old committer kind message (Log name) T = T ≡ tree_of means old
 
-    -- A run of a line: what becomes of it is printed, and gives the status; and each stop leaves what a stop in the line leaves.
-    pub record RunsLine {R : Type 0} (G : Ghosts R) {E : Type 0} (files after : F)
-        (words : List (List ℕ)) (out now : Option (List ℕ)) (status : Result ℕ E) : Type 0 where
-      pub line : LineAsked
-      pub is_line : AreWordsOf words line
-      pub prints : Prints (LineRan G files after line) out now status
-      pub leaves : honest → Leaves (means files) (means after) (IsStopIn files line)
+      -- what becomes of a line: it is begun in its store, or it is not, and the files are as before
+      abbrev pub LineRan : {R : Type 0}
+          (G : Ghosts R) → (files after : F) → LineAsked → Ran → Type 0
+      LineRan G files after line ran =
+          ((old : Store F) × (new : Store F) × (committer : Option SignatureRef)
+          × IsCommitterOf line committer × IsOpened files line old × (files_of new ≡ after)
+          × CommandRan G old new committer line.kind line.message line.asked ran)
+          ⊎ ((after ≡ files) × NotBegun line ran)
+
+      -- a stop in a line leaves this tree: as before, or what a stop in its command leaves
+      abbrev pub IsStopIn : F → LineAsked → Tree → Type 0
+      IsStopIn files line T =
+          (T ≡ (means files).tree)
+          ⊎ ((old : Store F) × (committer : Option SignatureRef) × IsCommitterOf line committer
+          × IsOpened files line old × IsStop old committer line.kind line.message line.asked T)
+
+      -- A run of a line: what becomes of it is printed, and gives the status; and each stop leaves what a stop in the line leaves.
+      pub record RunsLine {R : Type 0} (G : Ghosts R) {E : Type 0} (files after : F)
+          (words : List (List ℕ)) (out now : Option (List ℕ)) (status : Result ℕ E) : Type 0 where
+        pub line : LineAsked
+        pub is_line : AreWordsOf words line
+        pub prints : Prints (LineRan G files after line) out now status
+        pub leaves : honest → Leaves (means files) (means after) (IsStopIn files line)
 
 -- A run of words that are no line: nothing changes, and it says so.
 pub record RunsWrong {F E : Type 0} (files after : F) (words : List (List ℕ))

@@ -4,7 +4,6 @@ use Rattle.gix_ref_files.specs.Tree.{Tree, Path}
 use Rattle.gix_ref_files.specs.Disk.{Disk}
 use Rattle.gix_ref_files.specs.Files.{Meaning, HasRisenBy}
 use Rattle.gix_ref_files.specs.Settled.{IsAllSettled}
-use Rattle.gix_ref_theory.specs.Edits.{Mode}
 use Rattle.gix_ref_theory.specs.Losses.{IsLostWell}
 use Rattle.gix_ref_theory.specs.OnDisks.{IsSpokenOf}
 use Rattle.gix_ref_theory.specs.OnRealTrees.{view_of}
@@ -37,17 +36,7 @@ abbrev pub error_of : {T : Type 0} → Result (Done T) (Failed T) → Option Upd
 error_of (Ok done) = None
 error_of (Err failed) = Some (Commit failed.error)
 
-module _ {F : Type 0} (honest : Type 0) (means : F → Meaning) (faults : F → ℕ) where
-  -- Edits that were prepared: their split list, with the store that this left and the edits as they are committed.
-  pub record IsBegun (old : Store F) (edits : List RefEdit) : Type 0 where
-    pub mid : Store F
-    pub packed : Option Path
-    pub held : List Edit
-    -- what the transaction was to do with `packed-refs`
-    pub uses : PackedRefs Never
-    pub prepared : PreparesGiven honest means faults (OfFinder claims-value.it uses)
-        (ends_of meaning-value.it uses) (mode_in uses) old mid edits packed held
-
+module _ {F : Type 0} (means : F → Meaning) where
   -- these are the edits whose locks are tried: the split list of those that are asked for, or these, where there is none; where there was
   -- no memory for composed names, they are those that are given
   abbrev pub AreTried : Store F → (edits tried : List RefEdit) → Type 0
@@ -55,27 +44,39 @@ module _ {F : Type 0} (honest : Type 0) (means : F → Meaning) (faults : F → 
       (asked : List RefEdit) × (AreAskedAs old.precompose_unicode edits asked ⊎ (asked ≡ edits))
       × (AreSplit (meaning_of old) (view_of (tree_of means old)) asked tried ⊎ (tried ≡ asked))
 
+-- what an update does with `packed-refs` as `uses` says
+module _ {F : Type 0} (honest : Type 0) (means : F → Meaning) (faults : F → ℕ)
+    (uses : PackedRefs Never) where
+  -- Edits that were prepared: their split list, with the store that this left and the edits as they are committed.
+  pub record IsBegun (old : Store F) (edits : List RefEdit) : Type 0 where
+    pub mid : Store F
+    pub packed : Option Path
+    pub held : List Edit
+    pub prepared : PreparesGiven honest means faults (OfFinder claims-value.it uses)
+        (ends_of meaning-value.it uses) (mode_in uses) old mid edits packed held
+
   -- A stop in an update: before its commit nothing is added but its locks and folders on the way to them; in it, where `packed-refs` was
   -- good, each reference reads as before or as edited.
   abbrev pub IsStopOf : Store F → Option SignatureRef → List RefEdit → Tree → Type 0
   IsStopOf old committer edits T =
-      ((mode : Mode) × (tried : List RefEdit) × AreTried old edits tried
-      × AddsLocks (locks_in means mode old tried) (locks_in means mode old tried)
+      ((tried : List RefEdit) × AreTried means old edits tried
+      × AddsLocks
+      (locks_in means (mode_in uses) old tried) (locks_in means (mode_in uses) old tried)
       (tree_of means old) T)
       ⊎ ((b : IsBegun old edits)
-      × (HasGoodRecords means old → IsOldOrNew (meaning_of old) (mode_in b.uses) b.prepared.split
+      × (HasGoodRecords means old → IsOldOrNew (meaning_of old) (mode_in uses) b.prepared.split
       (extras_due means b.mid committer b.held) (tree_of means old) T))
 
   -- A loss of power in an update: before its commit each file that was settled is as before, but for the locks of the edits; in it each
   -- reference reads as before or as edited. The commit begins on a disk of which all is settled but locks.
   abbrev pub IsLossOf : Store F → Option SignatureRef → List RefEdit → Tree → Type 0
   IsLossOf old committer edits T =
-      ((mode : Mode) × (tried : List RefEdit) × AreTried old edits tried
-      × ((q : Path) → IsSpokenOf (places_in means mode old tried)
+      ((tried : List RefEdit) × AreTried means old edits tried
+      × ((q : Path) → IsSpokenOf (places_in means (mode_in uses) old tried)
       (disk_in means old) q → view_of T q ≡ view_of (tree_of means old) q))
       ⊎ ((b : IsBegun old edits)
-      × ((D : Disk) × IsAllSettled D × IsLostWell (meaning_of old) (mode_in b.uses)
-      (places_in means (mode_in b.uses) old b.prepared.split) (with_extras b.prepared.split
+      × ((D : Disk) × IsAllSettled D × IsLostWell (meaning_of old) (mode_in uses)
+      (places_in means (mode_in uses) old b.prepared.split) (with_extras b.prepared.split
       (extras_due means b.mid committer b.held)) D (tree_of means old) T))
 
   -- An update that was made: its edits were prepared and committed. Of the transaction's locks only those stay that are named, and one is
@@ -108,7 +109,7 @@ module _ {F : Type 0} (honest : Type 0) (means : F → Meaning) (faults : F → 
   abbrev pub IsUpdateError : (read : Type 0) → (old new : Store F) → Option SignatureRef →
       List RefEdit → UpdateError → (left : List Path) → Type 0
   IsUpdateError read old new committer edits (Prepare error) left =
-      (uses : PackedRefs Never) × RefusesGiven honest read means faults
+      RefusesGiven honest read means faults
       (OfFinder claims-value.it uses) (ends_of meaning-value.it uses) (mode_in uses)
       old new edits error left
   IsUpdateError read old new committer edits (Commit error) left =

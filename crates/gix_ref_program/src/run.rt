@@ -278,11 +278,11 @@ fn make_update<F: Files>(
     edit: RefEdit,
 ) -> (PackedRefs, Outcome)
     ensures packed_refs { result.0 ≡ packed_refs }
-    ensures outcome { EditOutcome F.honest F.means F.faults
+    ensures outcome { EditOutcome F.honest F.means F.faults packed_refs
         (HasReadFault F.Reader.faults) store.old store.new committer.entry edit result.1 }
     ensures leaves { F.honest → Leaves (F.means (files_of store.old)) (F.means (files_of store.new))
         (λ T. (T ≡ tree_of F.means store.old)
-        ⊎ IsStopOf F.honest F.means F.faults store.old committer.entry (edit ∷ []) T) }
+        ⊎ IsStopOf F.honest F.means F.faults packed_refs store.old committer.entry (edit ∷ []) T) }
 {
     let Ok(edits) = one_edit(alloc, edit) else {
         return (packed_refs, refused(alloc, Refusal::Memory));
@@ -402,14 +402,14 @@ fn print_update<F: Files, W: Write>(
     out: &mut W,
 ) -> (PackedRefs, io::Result<u8>)
     ensures packed_refs { result.0 ≡ packed_refs }
-    ensures prints { (kind : Kind) (message : Option (List ℕ)) (asked : Asked) → MatchResult edit
-        (IsAskedFor kind message asked) (NoEdit asked) → Prints (UpdateRan F.honest F.means F.faults
-        (HasReadFault F.Reader.faults) store.old store.new committer.entry kind message asked)
-        (W.contents out.old) (W.contents out.new) result.1 }
-    ensures leaves { F.honest → (kind : Kind) (message : Option (List ℕ)) (asked : Asked) →
-        MatchResult edit (IsAskedFor kind message asked) (NoEdit asked) →
-        Leaves (F.means (files_of store.old)) (F.means (files_of store.new))
-        (IsUpdateStop F.honest F.means F.faults store.old committer.entry kind message asked) }
+    ensures prints { (kind : Kind) (message : Option (List ℕ)) (asked : Asked) →
+        MatchResult edit (IsAskedFor kind message asked) (NoEdit asked) → Prints (UpdateRan
+        F.honest F.means F.faults packed_refs (HasReadFault F.Reader.faults) store.old store.new
+        committer.entry kind message asked) (W.contents out.old) (W.contents out.new) result.1 }
+    ensures leaves { F.honest → (kind : Kind) (message : Option (List ℕ))
+        (asked : Asked) → MatchResult edit (IsAskedFor kind message asked) (NoEdit asked) →
+        Leaves (F.means (files_of store.old)) (F.means (files_of store.new)) (IsUpdateStop
+        F.honest F.means F.faults packed_refs store.old committer.entry kind message asked) }
 {
     match edit {
         Ok(edit) => {
@@ -429,12 +429,12 @@ fn execute<F: Files, W: Write>(
     out: &mut W,
 ) -> (PackedRefs, io::Result<u8>)
     ensures packed_refs { result.0 ≡ packed_refs }
-    ensures prints { Prints (CommandRan F.honest F.means F.faults F.Reader.ReadAt store.old
-        store.new line.now.committer line.now.object_hash (line_asked line.now).message
+    ensures prints { Prints (CommandRan F.honest F.means F.faults packed_refs F.Reader.ReadAt
+        store.old store.new line.now.committer line.now.object_hash (line_asked line.now).message
         (line_asked line.now).asked) (W.contents out.old) (W.contents out.new) result.1 }
     ensures leaves { F.honest → Leaves (F.means (files_of store.old)) (F.means (files_of store.new))
-        (IsStop F.honest F.means F.faults store.old line.now.committer line.now.object_hash
-        (line_asked line.now).message (line_asked line.now).asked) }
+        (IsStop F.honest F.means F.faults packed_refs store.old line.now.committer
+        line.now.object_hash (line_asked line.now).message (line_asked line.now).asked) }
 {
     let kind = line.object_hash;
     match &line.command {
@@ -471,10 +471,11 @@ fn run_line<F: Files, W: Write>(
     out: &mut W,
 ) -> RunResult<F>
     ensures packed_refs { result.packed_refs ≡ packed_refs }
-    ensures prints { Prints (LineRan F.honest F.means F.faults F.Reader.ReadAt files result.files
+    ensures prints { Prints
+        (LineRan F.honest F.means F.faults packed_refs F.Reader.ReadAt files result.files
         (line_asked line.now)) (W.contents out.old) (W.contents out.new) result.status }
     ensures leaves { F.honest → Leaves (F.means files) (F.means result.files)
-        (IsStopIn F.honest F.means F.faults files (line_asked line.now)) }
+        (IsStopIn F.honest F.means F.faults packed_refs files (line_asked line.now)) }
 {
     match store_in(alloc, files, line) {
         Ok(mut store) => {
@@ -511,10 +512,10 @@ pub fn run<F: Files, W: Write>(
     out: &mut W,
 ) -> RunResult<F>
     ensures packed_refs { result.packed_refs ≡ packed_refs }
-    ensures ran { RunsWrong files result.files (texts words.now)
-        (W.contents out.old) (W.contents out.new) result.status
-        ⊎ RunsLine F.honest F.means F.faults F.Reader.ReadAt files result.files (texts words.now)
-        (W.contents out.old) (W.contents out.new) result.status }
+    ensures ran { RunsWrong
+        files result.files (texts words.now) (W.contents out.old) (W.contents out.new)
+        result.status ⊎ RunsLine F.honest F.means F.faults packed_refs F.Reader.ReadAt files
+        result.files (texts words.now) (W.contents out.old) (W.contents out.new) result.status }
 {
     let Some(line) = parse(words) else {
         let status = print(alloc, Outcome::WrongWords, out);

@@ -53,16 +53,16 @@ pub fn update<F: Files>(
     committer: Option<SignatureRef<'_>>,
     edits: Vec<RefEdit>,
 ) -> UpdateReport
-    ensures done { result.error ≡ None → UpdateMade F.honest F.means F.faults store.old store.new
-        committer.entry edits.items (paths_of result.locks_left.items) }
-    ensures error { IfSome result.error (λ error. IsUpdateError F.honest F.means F.faults
-        (HasReadFault F.Reader.faults) store.old store.new committer.entry edits.items error
-        (paths_of result.locks_left.items)) }
+    ensures done { result.error ≡ None → UpdateMade F.honest F.means F.faults packed_refs
+        store.old store.new committer.entry edits.items (paths_of result.locks_left.items) }
+    ensures error { IfSome result.error
+        (λ error. IsUpdateError F.honest F.means F.faults packed_refs (HasReadFault F.Reader.faults)
+        store.old store.new committer.entry edits.items error (paths_of result.locks_left.items)) }
     ensures leaves { F.honest → Leaves (F.means (files_of store.old)) (F.means (files_of store.new))
-        (IsStopOf F.honest F.means F.faults store.old committer.entry edits.items) }
+        (IsStopOf F.honest F.means F.faults packed_refs store.old committer.entry edits.items) }
     ensures lost { F.honest → HasGoodRecords F.means store.old → IsAtRest F.means store.old →
         Loses (F.means (files_of store.old)) (F.means (files_of store.new))
-        (IsLossOf F.honest F.means F.faults store.old committer.entry edits.items) }
+        (IsLossOf F.honest F.means F.faults packed_refs store.old committer.entry edits.items) }
     ensures settled { F.honest → result.error ≡ None → IsAtRest F.means store.old →
         IsAtRest F.means store.new }
     ensures packed_refs { result.packed_refs ≡ packed_refs }

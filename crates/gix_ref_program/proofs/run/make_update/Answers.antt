@@ -15,8 +15,8 @@ pub returns-clause-leaves : goal.returns-clause-leaves
 returns-clause-leaves g c h =
     let F = g.F.Files in
     let old = c.args.store.now in
-    let run : Leaves (F.means (files_of old)) (F.means (files_of c.update-error.new.store)) (IsStopOf F.honest F.means F.faults old c.args.committer (c.args.edit ∷ [])) =
-    subst (λ (edits : List RefEdit). Leaves (F.means (files_of old)) (F.means (files_of c.update-error.new.store)) (IsStopOf F.honest F.means F.faults old c.args.committer edits)) c.in-Ok.ensures (c.update-error.ensures.leaves h) in
+    let run : Leaves (F.means (files_of old)) (F.means (files_of c.update-error.new.store)) (IsStopOf F.honest F.means F.faults c.args.packed_refs old c.args.committer (c.args.edit ∷ [])) =
+    subst (λ (edits : List RefEdit). Leaves (F.means (files_of old)) (F.means (files_of c.update-error.new.store)) (IsStopOf F.honest F.means F.faults c.args.packed_refs old c.args.committer edits)) c.in-Ok.ensures (c.update-error.ensures.leaves h) in
     weaken run (λ (T : Tree) stop. inr stop)
 
 pub returns-clause-outcome : goal.returns-clause-outcome
@@ -28,10 +28,10 @@ returns-clause-outcome g c =
     let left = paths_of c.update-error.result.locks_left.items in
     elim c.match-error.branch [
       | in-None w ↦
-          subst (EditOutcome F.honest F.means F.faults read old new c.args.committer c.args.edit) (sym w.outcome-is)
-          (subst (λ (edits : List RefEdit). UpdateMade F.honest F.means F.faults old new c.args.committer edits left) c.in-Ok.ensures (c.update-error.ensures.done w.in-None.is))
+          subst (EditOutcome F.honest F.means F.faults c.args.packed_refs read old new c.args.committer c.args.edit) (sym w.outcome-is)
+          (subst (λ (edits : List RefEdit). UpdateMade F.honest F.means F.faults c.args.packed_refs old new c.args.committer edits left) c.in-Ok.ensures (c.update-error.ensures.done w.in-None.is))
       | in-Some w ↦
-          subst (EditOutcome F.honest F.means F.faults read old new c.args.committer c.args.edit) (sym w.outcome-is)
-          (subst (λ (edits : List RefEdit). IsUpdateError F.honest F.means F.faults read old new c.args.committer edits w.in-Some.error left) c.in-Ok.ensures
-          (subst (λ error. IfSome error (λ e. IsUpdateError F.honest F.means F.faults read old new c.args.committer c.in-Ok.edits.items e left)) w.in-Some.is c.update-error.ensures.error))
+          subst (EditOutcome F.honest F.means F.faults c.args.packed_refs read old new c.args.committer c.args.edit) (sym w.outcome-is)
+          (subst (λ (edits : List RefEdit). IsUpdateError F.honest F.means F.faults c.args.packed_refs read old new c.args.committer edits w.in-Some.error left) c.in-Ok.ensures
+          (subst (λ error. IfSome error (λ e. IsUpdateError F.honest F.means F.faults c.args.packed_refs read old new c.args.committer c.in-Ok.edits.items e left)) w.in-Some.is c.update-error.ensures.error))
     ]
