@@ -41,7 +41,7 @@ report() {
     done
 }
 
-# build_anew PROGRAM: proves and builds it by `rt ci`, in a folder of its own that has just the crates that the program needs, without their wrong
+# build_anew PROGRAM: proves and builds it by `rt ci`, in a temporary folder of just the crates that it needs, without their wrong
 # bodies: as many side by side as there are processors, the longest chain of crates first. What is proved stays kept on this machine, for
 # later calls, for other clones and for `bin/test`; where two calls come to the same crate, the second waits for the first.
 build_anew() {
