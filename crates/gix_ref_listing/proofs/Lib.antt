@@ -1,6 +1,6 @@
 pub mod CleanFolders
 pub mod FolderWalks
-pub mod ItemLemmas
+pub mod GoneFiles
 pub mod Listing
 pub mod MergeLemmas
 pub mod MergedListings
@@ -11,4 +11,6 @@ pub mod PrefixedRecords
 pub mod PristineLemmas
 pub mod PseudoLemmas
 pub mod StoreWalks
+pub mod TakenItems
 pub mod WalkLemmas
+pub mod WalkedNames

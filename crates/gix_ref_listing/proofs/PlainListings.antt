@@ -14,7 +14,7 @@ use Rattle.gix_ref_listing.specs.OwnRecords.{Own, own_of, own_name, own_records,
 use Rattle.gix_ref_listing.specs.Listings.{Listed, merged_listing, TakesRecord, IsNoRecord}
 use Rattle.gix_ref_listing.specs.Listings.Listed.{Walked, InPacked}
 use Rattle.gix_ref_listing.specs.LooseListings.{IsLooseListed, IsFoundIn}
-use Rattle.gix_ref_listing.specs.Items.{IsItem}
+use Rattle.gix_ref_listing.specs.GoneFiles.{IsGivenItem}
 use Rattle.gix_ref_listing.specs.Steps.{AreYet, GivesItem, GivesRecord, IsDrained}
 use Rattle.gix_ref_listing.specs.declared.error.Error.{Error}
 use Rattle.gix_ref_listing.specs.declared.found.Found.TheVariants.{File, Unlisted}
@@ -67,7 +67,7 @@ module _ (s : Settings) where
   none_plain old None none = λ listed yet. let before = of_plain old listed yet in subst IsNoRecord (sym before.2) (none before.0 before.1)
 
   -- an item
-  pub item_plain : (honest : Type 0) (view : View) (before now : ℕ) (one : Listed) (item : Result Reference Error) → IsItem honest s view before now one item → IsItem honest (plain s) view before now one item
+  pub item_plain : (honest : Type 0) (view : View) (before now : ℕ) (one : Listed) (item : Result Reference Error) → IsGivenItem honest s view before now one item → IsGivenItem honest (plain s) view before now one item
   item_plain honest view before now (Walked (key, File name path)) (Ok r) is = is
   item_plain honest view before now (Walked (key, File name path)) (Err e) is = is
   item_plain honest view before now (Walked (key, Unlisted path e)) (Ok r) is = is

@@ -1,11 +1,11 @@
 -- The items of a listing: a reference for each name, or why it has none.
-use Rattle.std.specs.Prelude.{◌≡◌, ◌≢◌, ◌⊎◌, ℕ, List, Some, None, Result, Ok, Err, true, false}
+use Rattle.std.specs.Prelude.{◌≡◌, ◌≢◌, ℕ, List, Some, None, Result, Ok, Err, true, false}
 use Rattle.gix_ref_hash.specs.declared.hash.Kind.{Kind}
 use Rattle.gix_ref_name.specs.Names.{full_bytes}
+use Rattle.gix_ref_name.specs.declared.name.FullName.{FullName}
 use Rattle.gix_ref_base.specs.Targets.{target_value}
 use Rattle.gix_ref_files.specs.Files.{HasRisen}
-use Rattle.gix_ref_files.specs.declared.files.FileError.TheVariants.{Device, Memory as no_memory}
-use Rattle.std.specs.declared.io.ErrorKind.TheVariants.{NotFound}
+use Rattle.gix_ref_files.specs.declared.files.FileError.TheVariants.{Memory as no_memory}
 use Rattle.gix_ref_theory.specs.Readings.{Store, reading_of_record}
 use Rattle.gix_ref_theory.specs.Readings.Reading.{Is}
 use Rattle.gix_ref_theory.specs.Lookups.{peeled_of}
@@ -19,13 +19,11 @@ use Rattle.gix_ref_lookup.specs.declared.settings.Settings.{Settings}
 use Rattle.gix_ref_lookup.specs.declared.find.error.ReadError.TheVariants.{File as file_error, DeviceName}
 use Rattle.gix_ref_lookup.specs.declared.find.error.Error.{Error as LookupError}
 use Rattle.gix_ref_lookup.specs.declared.find.error.Error.TheVariants as looking
-use Rattle.gix_ref_listing.specs.OwnRecords.{Own, own_of}
+use Rattle.gix_ref_listing.specs.OwnRecords.{Own}
 use Rattle.gix_ref_listing.specs.Listings.{Listed}
 use Rattle.gix_ref_listing.specs.Listings.Listed.{Walked, InPacked}
 use Rattle.gix_ref_listing.specs.declared.found.Found.{Found}
 use Rattle.gix_ref_listing.specs.declared.found.Found.TheVariants.{File, Unlisted}
-use Rattle.gix_ref_listing.specs.declared.merge.Taken.{Taken}
-use Rattle.gix_ref_listing.specs.declared.merge.Taken.TheVariants as taking
 use Rattle.gix_ref_listing.specs.declared.error.Error.{Error}
 use Rattle.gix_ref_listing.specs.declared.error.Error.TheVariants.{Traversal, ReadFileContents, ReferenceCreation, PackedReference, Memory}
 
@@ -45,21 +43,12 @@ IsOfLine (bad_header line) (PackedReference text n) = (text.items ≡ line.now) 
 IsOfLine line Memory = Unit {0}
 IsOfLine line other = ⊥
 
--- the fault of a file at this place that was removed since it was found
-abbrev pub IsGone : List ℕ → Error → Type 0
-IsGone place (ReadFileContents source path) = (source ≡ file_error (Device NotFound))
-    × (path.items ≡ place)
-IsGone place Memory = Unit {0}
-IsGone place other = ⊥
-
--- Why the file of a name gives no target: it could not be read, only where the count of faults rose, or it is gone, which it
--- is not in files that keep their meaning; its path has the name of a device, and the store prohibits these; it holds none, with the
--- reason; no memory.
+-- Why the file of a name gives no target: it could not be read, only where the count of faults rose; its path has the name of a
+-- device, and the store prohibits these; it holds none, with the reason; no memory.
 abbrev pub IsUnread : (honest : Type 0) → Kind → Store → View → (before now : ℕ) →
     (name path : List ℕ) → Error → Type 0
 IsUnread honest kind s view before now name at (ReadFileContents (file_error source) path) =
-    (HasRisen before now × (source ≢ no_memory) × (path.items ≡ at))
-    ⊎ ((honest → view at ≡ None) × (source ≡ Device NotFound) × (path.items ≡ s.place name))
+    HasRisen before now × (source ≢ no_memory) × (path.items ≡ at)
 IsUnread honest kind s view before now name at (ReadFileContents DeviceName path) =
     (s.is_prohibited at ≡ true) × (path.items ≡ at)
 IsUnread honest kind s view before now name at (ReferenceCreation source path) = (path.items ≡ name)
@@ -67,18 +56,22 @@ IsUnread honest kind s view before now name at (ReferenceCreation source path) =
 IsUnread honest kind s view before now name at Memory = Unit {0}
 IsUnread honest kind s view before now name at other = ⊥
 
--- What was found as an item: a file of a name as its target, or why it has none; a folder that could not be listed as that
--- fault.
+-- The file at a path as the item of a name: its target, or why it has none.
+abbrev pub IsFileItem : (honest : Type 0) → Settings → View → (before now : ℕ) → FullName →
+    (path : List ℕ) → Result Reference Error → Type 0
+IsFileItem honest settings view before now name path (Ok r) =
+    (r.name ≡ name)
+    × (honest → IsLooseTarget (meaning_in settings) (view path) (Some r.target))
+    × (r.peeled ≡ None)
+    × ((meaning_in settings).is_prohibited path ≡ false)
+IsFileItem honest settings view before now name path (Err error) =
+    IsUnread honest settings.kind (meaning_in settings) view before now (full_bytes name) path error
+
+-- What was found as an item: the file of a name; or a folder that could not be listed as that fault.
 abbrev pub IsFoundItem : (honest : Type 0) → Settings → View → (before now : ℕ) → Found →
     Result Reference Error → Type 0
-IsFoundItem honest settings view before now (File name path) (Ok r) =
-    (r.name ≡ name)
-    × (honest → IsLooseTarget (meaning_in settings) (view path.items) (Some r.target))
-    × (r.peeled ≡ None)
-    × ((meaning_in settings).is_prohibited path.items ≡ false)
-IsFoundItem honest settings view before now (File name path) (Err error) =
-    IsUnread honest settings.kind (meaning_in settings) view before now
-    (full_bytes name) path.items error
+IsFoundItem honest settings view before now (File name path) item =
+    IsFileItem honest settings view before now name path.items item
 IsFoundItem honest settings view before now (Unlisted path source) (Ok r) = ⊥
 IsFoundItem honest settings view before now (Unlisted path source) (Err error) = error
     ≡ Traversal source path
@@ -96,14 +89,3 @@ abbrev pub IsItem : (honest : Type 0) → Settings → View → (before now : �
 IsItem honest settings view before now (Walked e) item =
     IsFoundItem honest settings view before now e.1 item
 IsItem honest settings view before now (InPacked own) item = IsRecordItem own item
-
--- what was taken as an item
-abbrev pub IsTakenItem : (honest : Type 0) → Settings → View → (before now : ℕ) → Taken →
-    Result Reference Error → Type 0
-IsTakenItem honest settings view before now (taking.Walked found) item =
-    IsFoundItem honest settings view before now found item
-IsTakenItem honest settings view before now (taking.Packed (Ok own)) item =
-    IsRecordItem (own_of own) item
-IsTakenItem honest settings view before now (taking.Packed (Err error)) (Ok r) = ⊥
-IsTakenItem honest settings view before now (taking.Packed (Err line)) (Err error) =
-    IsOfLine line error

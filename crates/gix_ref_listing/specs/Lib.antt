@@ -1,4 +1,5 @@
 pub mod CleanPrefixes
+pub mod GoneFiles
 pub mod Items
 pub mod Listings
 pub mod LooseListings

@@ -8,7 +8,7 @@ use Rattle.gix_ref_lookup.specs.declared.settings.Settings.{Settings}
 use Rattle.gix_ref_listing.specs.OwnRecords.{Own, own_of, AreAhead}
 use Rattle.gix_ref_listing.specs.Listings.{Listed, merged_listing}
 use Rattle.gix_ref_listing.specs.Listings.Listed.{InPacked}
-use Rattle.gix_ref_listing.specs.Items.{IsItem}
+use Rattle.gix_ref_listing.specs.GoneFiles.{IsGivenItem}
 use Rattle.gix_ref_listing.specs.declared.own_records.OwnRecord.{OwnRecord}
 use Rattle.gix_ref_listing.specs.declared.error.Error.{Error}
 use Rattle.gix_ref_listing.specs.declared.merge.Merge.{Merge}
@@ -35,7 +35,8 @@ module _ {F : Type 0} (honest : Type 0) (means : F → Meaning) (faults : F → 
   GivesItem settings before now listed None t = (listed ≡ []) × AreYet settings t []
   GivesItem settings before now listed (Some item) t =
       (one : Listed) × (more : List Listed) × (listed ≡ one ∷ more) × AreYet settings t more
-      × IsItem honest settings (view_of (means before).tree) (faults before) (faults now) one item
+      × IsGivenItem honest settings (view_of (means before).tree) (faults before) (faults now) one
+      item
 
   -- What giving an item does: it is the first of those that are yet to come; no file changes; and what has ended stays ended,
   -- whatever the texts are.

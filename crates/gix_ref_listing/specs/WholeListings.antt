@@ -1,7 +1,7 @@
 -- What a whole listing is: each name with a loose file or a record, once, by ascending bytes.
 use Rattle.std.specs.Prelude.{◌≡◌, ◌⊎◌, ◌++◌, ℕ, List, [], ◌∷◌, Option, Some, None, IsSome}
 use denote.Ref.{Bor}
-use Rattle.std.specs.List.{AllByRecursion}
+use Rattle.std.specs.List.{All, AllByRecursion}
 use Rattle.gix_ref_hash.specs.Bytes.{BeginsWith}
 use Rattle.gix_ref_grammar.specs.NameGrammar.{IsPartialName}
 use Rattle.gix_ref_base.specs.PackedRecords.{Record, record_named}
@@ -19,6 +19,7 @@ use Rattle.gix_ref_lookup.specs.declared.settings.Settings.{Settings}
 use Rattle.gix_ref_listing.specs.Walks.{Holds, IsFile}
 use Rattle.gix_ref_listing.specs.OwnRecords.{YetOf}
 use Rattle.gix_ref_listing.specs.Steps.{AreYet}
+use Rattle.gix_ref_listing.specs.declared.list.LooseNames.{LooseNames}
 use Rattle.gix_ref_listing.specs.declared.merge.Merge.{Merge}
 use Rattle.gix_ref_listing.specs.Listings.{Listed}
 use Rattle.gix_ref_listing.specs.Listings.Listed.{Walked, InPacked}
@@ -111,3 +112,12 @@ pub record ListsAll (settings : Settings) (view : View) (records : List Record) 
   pub is : IsListing settings view records prefix listed
   pub names : AllByRecursion IsNameItem listed ⊎ HasRisen before now
   pub yet : AreYet settings m listed
+
+-- What a walk of the folders of a store found of a prefix while the count of faults went from `before` to `now`: each loose
+-- reference, unless a folder above it could not be listed, which is found only where that count rose; and nothing else.
+pub record IsWalkOf (settings : Settings) (view : View) (before now : ℕ)
+    (names : LooseNames) : Type 0 where
+  pub finds : (name : List ℕ) → IsLooseListed settings view names.prefix.items name →
+      Among (Holds name) names.found.entries
+  pub files : All IsFile names.found.entries ⊎ HasRisen before now
+  pub there : All (IsFoundIn settings view names.prefix.items) names.found.entries

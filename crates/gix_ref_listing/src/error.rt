@@ -18,7 +18,8 @@ pub enum Error {
         source: FileError,
         path: Vec<u8>,
     },
-    /// The file at this path could not be read, or was removed since the walk that found it.
+    /// The file at this path could not be read, or was removed since the walk that found it, and the name has no record in
+    /// `packed-refs` either. The path is that of `packed-refs` where this could not be opened or searched for such a name.
     #[error("the file of a reference could not be read: {source}")]
     ReadFileContents {
         source: ReadError,

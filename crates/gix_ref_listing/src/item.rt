@@ -1,12 +1,11 @@
 //! One item of a listing.
 ghost use Rattle.std.specs.Prelude.{◌≡◌, ◌≤◌, ◌+◌, List, IfSome, IfNone};
 ghost use Rattle.std.specs.Option.{option_len};
-ghost use Rattle.gix_ref_name.specs.Names.{full_bytes};
 ghost use Rattle.gix_ref_theory.specs.OnRealTrees.{contents};
-ghost use Rattle.gix_ref_lookup.specs.Lookups.{meaning_in};
 ghost use Rattle.gix_ref_lookup.specs.Looks.{OnlyLooks};
 ghost use Rattle.gix_ref_listing.specs.OwnRecords.{own_of};
-ghost use Rattle.gix_ref_listing.specs.Items.{IsGone, IsFoundItem, IsRecordItem, IsTakenItem};
+ghost use Rattle.gix_ref_listing.specs.GoneFiles.{IsFoundOrGone, IsTakenItem};
+ghost use Rattle.gix_ref_listing.specs.Items.{IsRecordItem};
 ghost use Rattle.gix_ref_listing.specs.Listings.{Listed, IsNoRecord, merge_left};
 ghost use Rattle.gix_ref_listing.specs.PlainSettings.{plain};
 ghost use Rattle.gix_ref_listing.specs.Steps.{AreYet, GivesNext, GivesRecord};
@@ -14,32 +13,18 @@ ghost use Rattle.gix_ref_listing.specs.declared.found.Found.TheVariants.{File};
 
 use crate::error::{Error, of_line, of_reading};
 use crate::found::Found;
+use crate::gone::find_again;
 use crate::merge::{Merge, Taken};
 use crate::own_records::OwnRecord;
 use gix_ref_base::target::Target;
-use gix_ref_files::files::{FileError, Files};
-use gix_ref_lookup::find::ReadError;
+use gix_ref_files::files::Files;
 use gix_ref_lookup::find::candidate::read_at;
 use gix_ref_lookup::settings::Settings;
 use gix_ref_name::name::FullName;
 use gix_ref_packed::raw::Reference;
 use std::alloc::Global;
-use std::io::ErrorKind;
 
-/// The fault of a file that was removed since it was found.
-fn gone(alloc: Global, settings: Settings<'_>, name: &FullName) -> Error
-    ensures { IsGone ((meaning_in settings.entry).place (full_bytes name.now)) result }
-{
-    match settings.place(alloc, name.as_ref()) {
-        Ok(path) => Error::ReadFileContents {
-            source: ReadError::File(FileError::Device(ErrorKind::NotFound)),
-            path,
-        },
-        Err(_) => Error::Memory,
-    }
-}
-
-/// The reference in the file of a name.
+/// The reference in the file of a name; where the file is gone, what the name reads now.
 fn file_item<F: Files>(
     alloc: Global,
     files: &mut F,
@@ -47,7 +32,7 @@ fn file_item<F: Files>(
     name: FullName,
     path: Vec<u8>,
 ) -> Result<Reference, Error>
-    ensures item { IsFoundItem F.honest settings.entry (contents F.means files.old)
+    ensures item { IsFoundOrGone F.honest settings.entry (contents F.means files.old)
         (F.faults files.old) (F.faults files.new) (File name path) result }
     ensures looks { OnlyLooks F.honest F.means F.faults files.old files.new }
 {
@@ -57,7 +42,7 @@ fn file_item<F: Files>(
             target,
             peeled: None,
         }),
-        Ok(None) => Err(gone(alloc, settings, &name)),
+        Ok(None) => find_again(alloc, files, settings, name),
         Err(error) => Err(of_reading(error)),
     }
 }
@@ -109,7 +94,8 @@ fn take_item<F: Files>(
     }
 }
 
-/// The next of a listing, as an item. Reads one file where it is a loose reference.
+/// The next of a listing, as an item. Reads one file where it is a loose reference; where that file was removed since the walk
+/// found it, its name is asked for once more, with `packed-refs` opened for it.
 pub fn next_item<F: Files>(
     alloc: Global,
     files: &mut F,

@@ -4,6 +4,7 @@
 
 pub mod error;
 pub mod found;
+mod gone;
 pub mod item;
 pub mod laws;
 pub mod list;

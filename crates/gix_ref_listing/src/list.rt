@@ -1,13 +1,15 @@
 //! The listing of a prefix.
-ghost use Rattle.std.specs.Prelude.{◌≡◌, ◌++◌, List, IfOk, IfErr};
+ghost use Rattle.std.specs.Prelude.{◌≡◌, ◌++◌, ℕ, List, IfOk, IfErr};
 ghost use Rattle.gix_ref_base.specs.PackedRecords.{Record};
 ghost use Rattle.gix_ref_theory.specs.OnRealTrees.{contents};
+ghost use Rattle.gix_ref_theory.specs.Views.{View};
 ghost use Rattle.gix_ref_lookup.specs.StoreLayout.{namespace_text};
 ghost use Rattle.gix_ref_lookup.specs.Looks.{OnlyLooks};
 ghost use Rattle.gix_ref_listing.specs.PlainSettings.{plain};
-ghost use Rattle.gix_ref_listing.specs.WholeListings.{AreHeldOf, IsAskedOf, ListsAll, key_in};
+ghost use Rattle.gix_ref_listing.specs.WholeListings.{AreHeldOf, IsAskedOf, IsWalkOf, ListsAll, key_in};
 ghost use Rattle.gix_ref_listing.specs.declared.prefix.Error.TheVariants.{Memory};
 
+use crate::found::FoundByKey;
 use crate::merge::Merge;
 use crate::own_records::OwnRecords;
 use crate::prefix::Error;
@@ -39,6 +41,58 @@ fn records_of<'p>(
     }
 }
 
+/// The loose references that a walk of a store found, of the names that begin with a prefix, and the folders that it could not
+/// list.
+#[derive(Debug, Drop)]
+pub struct LooseNames {
+    pub(crate) found: FoundByKey,
+    pub(crate) prefix: Vec<u8>,
+}
+
+/// Walks the folders of a store in which the loose references of a prefix may be, at the cost of one call of files for each.
+/// `Memory` where there was no memory for what was found.
+pub fn walk<F: Files>(
+    alloc: Global,
+    files: &mut F,
+    settings: Settings<'_>,
+    prefix: &[u8],
+) -> Result<LooseNames, Error>
+    ensures walks { F.honest → IfOk result (IsWalkOf (plain settings.entry)
+        (contents F.means files.old) (F.faults files.old) (F.faults files.new)) }
+    ensures asked { IfOk result (λ names. names.prefix.items ≡ prefix.now) }
+    ensures looks { OnlyLooks F.honest F.means F.faults files.old files.new }
+    ensures memory { IfErr result (λ error. error ≡ Memory) }
+{
+    let Ok(found) = walk_store(alloc, files, settings, prefix) else {
+        return Err(Error::Memory);
+    };
+    let prefix = prefix.to_vec(alloc)?;
+    Ok(LooseNames { found, prefix })
+}
+
+/// The loose references that a walk found, and those of a buffer, if one is given, whose names begin with the prefix of the walk.
+/// Of a reference that is packed between the walk and the opening of the buffer one of them has it. `Memory` where there was no
+/// memory for the prefix of the records.
+pub fn merge_walked<'p>(
+    alloc: Global,
+    settings: Settings<'_>,
+    names: LooseNames,
+    packed: Option<&'p Buffer>,
+) -> Result<Merge<'p>, Error>
+    ensures lists { (view : View) (before now : ℕ) (records : List Record) →
+        IsWalkOf (plain settings.entry) view before now names →
+        AreHeldOf (key_in settings.entry names.prefix.items) packed.entry records → IfOk result
+        (ListsAll (plain settings.entry) view records names.prefix.items before now) }
+    ensures memory { IfErr result (λ error. error ≡ Memory) }
+{
+    let LooseNames { found, prefix } = names;
+    // The keys of a map ascend, as its length says.
+    found.len();
+    let records = records_of(alloc, settings.namespace, &prefix, packed)?;
+    let packed = OwnRecords::of(settings, records);
+    Ok(Merge { found, packed })
+}
+
 /// The loose references of a store and those of a buffer, if one is given, whose names begin with the prefix. The loose
 /// ones are found now, at the cost of one call of files for each folder that such names may be in. `Memory` where there was no
 /// memory for what was found.
@@ -56,12 +110,8 @@ pub fn list<'p, F: Files>(
     ensures looks { OnlyLooks F.honest F.means F.faults files.old files.new }
     ensures memory { IfErr result (λ error. error ≡ Memory) }
 {
-    let Ok(found) = walk_store(alloc, files, settings, prefix) else {
-        return Err(Error::Memory);
-    };
-    // The keys of a map ascend, as its length says.
-    found.len();
-    let records = records_of(alloc, settings.namespace, prefix, packed)?;
-    let packed = OwnRecords::of(settings, records);
-    Ok(Merge { found, packed })
+    match walk(alloc, files, settings, prefix) {
+        Ok(names) => merge_walked(alloc, settings, names, packed),
+        Err(error) => Err(error),
+    }
 }
