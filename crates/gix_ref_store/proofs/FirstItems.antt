@@ -1,5 +1,5 @@
 -- The first items of a listing between counts of faults that are farther apart.
-use Rattle.std.proofs.Common.{inl, inr, ⊎_elim, arith, ℕ, List, [], ◌∷◌, Result, Ok, Err}
+use Rattle.std.proofs.Common.{arith, ℕ, List, [], ◌∷◌, Result, Ok, Err}
 use Rattle.std.specs.Prelude.{◌≤◌}
 use Rattle.gix_ref_files.specs.Files.{Meaning}
 use Rattle.gix_ref_theory.specs.Views.{View}
@@ -19,7 +19,7 @@ module _ (honest : Type 0) (settings : Settings) (view : View) where
   item_from : (before mid now : ℕ) (one : Listed) (item : Result Reference Error) → before ≤ mid → IsItem honest settings view mid now one item → IsItem honest settings view before now one item
   item_from before mid now (InPacked own) item le is = is
   item_from before mid now (Walked (key, File name path)) (Ok r) le is = is
-  item_from before mid now (Walked (key, File name path)) (Err (ReadFileContents (file_error source) at)) le is = ⊎_elim (λ risen. inl (risen_from before mid now le risen.0, risen.1, risen.2)) (λ gone. inr gone) is
+  item_from before mid now (Walked (key, File name path)) (Err (ReadFileContents (file_error source) at)) le is = (risen_from before mid now le is.0, is.1, is.2)
   item_from before mid now (Walked (key, File name path)) (Err (ReadFileContents DeviceName at)) le is = is
   item_from before mid now (Walked (key, File name path)) (Err (ReferenceCreation source at)) le is = is
   item_from before mid now (Walked (key, File name path)) (Err Memory) le is = is

@@ -6,10 +6,11 @@ pub mod FirstItems
 pub mod FolderRuns
 pub mod LentRecords
 pub mod LooseAnswers
-pub mod Platforms
 pub mod PreparedLosses
+pub mod Platforms
 pub mod Preparing
 pub mod Refusals
 pub mod Releasing
 pub mod SameStores
 pub mod SplitRuns
+pub mod Walked

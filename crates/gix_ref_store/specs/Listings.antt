@@ -18,8 +18,9 @@ use Rattle.gix_ref_listing.specs.OwnRecords.{own_of}
 use Rattle.gix_ref_listing.specs.PrefixedRecords.{IsHeldFor}
 use Rattle.gix_ref_listing.specs.PseudoListings.{IsPseudoListing}
 use Rattle.gix_ref_listing.specs.Steps.{AreYet, GivesNext, GivesRecord}
-use Rattle.gix_ref_listing.specs.WholeListings.{AreHeldOf, IsListing, IsNameItem, key_in}
+use Rattle.gix_ref_listing.specs.WholeListings.{AreHeldOf, IsListing, IsNameItem, IsWalkOf, key_in}
 use Rattle.gix_ref_listing.specs.declared.error.Error.{Error}
+use Rattle.gix_ref_listing.specs.declared.list.LooseNames.{LooseNames}
 use Rattle.gix_ref_listing.specs.declared.own_records.OwnRecord.{OwnRecord}
 use Rattle.gix_ref_lookup.specs.declared.settings.Settings.{Settings}
 use Rattle.gix_ref_theory.specs.Views.{View}
@@ -45,6 +46,10 @@ of_open opening.Memory = Memory
 of_open (opening.Io error) = PackedOpen (opening.Io error)
 of_open opening.HeaderParsing = PackedOpen opening.HeaderParsing
 of_open (opening.Iter line) = PackedOpen (opening.Iter line)
+
+-- what the names begin with that a walk found
+abbrev pub walked_prefix : LooseNames → List ℕ
+walked_prefix names = names.prefix.items
 
 module _ {F : Type 0} where
   -- how many items are yet to come at most
@@ -72,14 +77,18 @@ module _ {F : Type 0} where
   abbrev pub platform_store : Platform F (Option Buffer) → Store F
   platform_store p = p.store.now
 
-  -- for each prefix, its buffer has the records of the prefix of these
-  abbrev pub HasRecords : Platform F (Option Buffer) → List Record → Type 0
-  HasRecords p records = (prefix : List ℕ) → IsReadFor (platform_store p) prefix p.packed records
-
   -- why `packed-refs` is not opened: a fault, or a text that is refused, or no memory
   abbrev pub IsNotOpened : (means : F → Meaning) → Store F → ListError → Type 0
   IsNotOpened means store error = (why : OpenError) × RefusesBuffer means store why
       × (error ≡ of_open why)
+
+  -- why a listing of a platform is not made: no memory; the prefix has none, as `Prefix` says; or `packed-refs` is not opened
+  abbrev pub IsNoPlatformListing : (honest : Type 0) (means : F → Meaning) → Store F →
+      (Prefix : ListError → Type 0) → ListError → Type 0
+  IsNoPlatformListing honest means store Prefix (PackedOpen error) = honest →
+      RefusesBuffer means store error
+  IsNoPlatformListing honest means store Prefix Memory = Unit {0}
+  IsNoPlatformListing honest means store Prefix error = Prefix error
 
   -- and then nothing has changed but the count of faults, which a fault of files has raised by one
   abbrev pub LeavesUnopened : (honest : Type 0) (means : F → Meaning) (faults : F → ℕ) →
@@ -150,11 +159,20 @@ module _ {F : Type 0} where
           Yields (NextItem) it items t → GivesFirst store listed it t items
 
 module _ {F : Type 0} (honest : Type 0) (means : F → Meaning) (faults : F → ℕ) where
-  -- Why there is no listing: `packed-refs` is not opened, by a call of files that failed or for its text; the prefix has none; no memory.
+  -- A walk of the store `start` found these names, and the store is `now` since: nothing has changed but the count of faults.
+  pub record IsWalkedIn (start now : Store F) (names : LooseNames) : Type 0 where
+    pub walk : IsWalkOf (settings_of start) (view_in means start)
+        (faults (stores.files_of start)) (faults (stores.files_of now)) names
+    pub counts : faults (stores.files_of start) ≤ faults (stores.files_of now)
+    pub looks_up : LooksUp honest means start now
+
+  -- Why there is no listing: after the walk `packed-refs` is not opened, by a call of files that failed or for its text; the prefix has
+  -- none; no memory.
   abbrev pub IsNoListing : {R : Type 0} (G : Ghosts R) → (start new : Store F) → (prefix : List ℕ) →
       ListError → Type 0
   IsNoListing G start new prefix (PackedOpen error) =
-      honest → RefusesBuffer means start error × CountsRefusal G.faults
-      (faults (stores.files_of start)) (faults (stores.files_of new)) error
+      honest → RefusesBuffer means start error × ((walked : ℕ)
+      × (faults (stores.files_of start) ≤ walked)
+      × CountsRefusal G.faults walked (faults (stores.files_of new)) error)
   IsNoListing G start new prefix Memory = Unit {0}
   IsNoListing G start new prefix error = IsRefusedPrefix start.namespace prefix error

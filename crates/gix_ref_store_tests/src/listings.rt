@@ -100,3 +100,88 @@ fn ended_stays_ended(rt: HostRuntime) {
         "the end"
     );
 }
+
+/// The record of `refs/heads/a` in `packed-refs`.
+const PACKED: File = (
+    "/r/packed-refs",
+    b"1111111111111111111111111111111111111111 refs/heads/a\n",
+);
+
+/// The loose file of it.
+const LOOSE: File = ("/r/refs/heads/a", ONE);
+
+/// A listing beside a program that packs references.
+struct Beside {
+    meaning: &'static str,
+    /// The files that the walk meets.
+    walked: &'static [File],
+    /// Those that `packed-refs` is opened among.
+    opened: &'static [File],
+    /// Those that the items are read from.
+    read: &'static [File],
+    lines: &'static [u8],
+}
+
+const BESIDE: &[Beside] = &[
+    Beside {
+        meaning: "packed between the walk and the opening",
+        walked: &[LOOSE],
+        opened: &[PACKED],
+        read: &[PACKED],
+        lines: b"1 refs/heads/a\n",
+    },
+    Beside {
+        meaning: "packed once packed-refs is open",
+        walked: &[LOOSE],
+        opened: &[],
+        read: &[PACKED],
+        lines: b"1 refs/heads/a\n",
+    },
+    Beside {
+        meaning: "made loose after the walk",
+        walked: &[PACKED],
+        opened: &[PACKED],
+        read: &[LOOSE, PACKED],
+        lines: b"1 refs/heads/a\n",
+    },
+    Beside {
+        meaning: "deleted after the walk",
+        walked: &[LOOSE],
+        opened: &[],
+        read: &[],
+        lines: b"fault: ReadFileContents\n",
+    },
+    Beside {
+        meaning: "packed into a packed-refs that is damaged",
+        walked: &[LOOSE],
+        opened: &[],
+        read: &[("/r/packed-refs", b"xyz\n")],
+        lines: b"fault: ReadFileContents\n",
+    },
+];
+
+/// The lines of such a listing.
+fn lines_beside(rt: &impl Abort, alloc: Global, row: &Beside) -> Vec<u8> {
+    let mut walked = store(alloc, files_of(rt, alloc, row.walked), "", "").expect(rt, "a store");
+    let Ok(names) = walked.walk_prefixed(alloc, b"refs/") else {
+        panic!(rt; "a walk: {}", row.meaning);
+    };
+    let mut opened = store(alloc, files_of(rt, alloc, row.opened), "", "").expect(rt, "a store");
+    let Ok(packed) = opened.open_packed_prefixed(alloc, b"refs/") else {
+        panic!(rt; "records: {}", row.meaning);
+    };
+    let mut read = store(alloc, files_of(rt, alloc, row.read), "", "").expect(rt, "a store");
+    let Ok(listing) = read.iter_walked(alloc, names, packed.as_ref()) else {
+        panic!(rt; "a listing: {}", row.meaning);
+    };
+    lines(rt, alloc, listing)
+}
+
+#[test]
+fn beside_a_packer_none_is_missed(rt: HostRuntime) {
+    let alloc = rt.alloc();
+    for row in BESIDE {
+        let lines = lines_beside(&rt, alloc, row);
+        assert!(&rt; lines.as_slice() == row.lines, "{}", row.meaning);
+    }
+}

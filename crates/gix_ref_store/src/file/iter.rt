@@ -7,7 +7,8 @@ use crate::file::settings::settings;
 use crate::file::store::Store;
 use gix_ref_files::files::Files;
 use gix_ref_listing::item::{next_item, next_record};
-use gix_ref_listing::list::list;
+pub use gix_ref_listing::list::LooseNames;
+use gix_ref_listing::list::{list, merge_walked, walk};
 use gix_ref_listing::merge::Merge;
 pub use gix_ref_listing::own_records::OwnRecord;
 pub use gix_ref_listing::prefix::Error;
@@ -43,9 +44,9 @@ pub struct Remaining<'p> {
 }
 
 /// The loose references of a store and those of `packed-refs`, by ascending names, each name once and without the namespace: a
-/// loose reference has precedence over a packed one. The file of a loose reference is read when it is given. A fault is an item
-/// in the place of its reference, and the listing goes on after it. It borrows the store until it is dropped. As
-/// gix-ref's `file::iter::LooseThenPacked`.
+/// loose reference has precedence over a packed one. The file of a loose reference is read when it is given; if it is gone by then,
+/// the name is asked for once more, with `packed-refs` opened for it. A fault is an item in the place of its reference, and the
+/// listing goes on after it. It borrows the store until it is dropped. As gix-ref's `file::iter::LooseThenPacked`.
 #[derive(Drop)]
 pub struct LooseThenPacked<'p, F, R = Remaining<'p>> {
     store: &'p mut Store<F>,
@@ -108,26 +109,28 @@ impl<'p, F> LooseThenPacked<'p, F> {
     }
 }
 
-/// The references of a store among its loose files and the records that its `packed-refs` had when `iter` opened it, for any
-/// number of listings. It borrows the store until it is dropped. As gix-ref's `file::iter::Platform`.
+/// The references of a store, for any number of listings, each of the files as they are then. It borrows the store until it is
+/// dropped. As gix-ref's `file::iter::Platform`.
 #[derive(Drop)]
 pub struct Platform<'s, F, P = Option<Buffer>> {
     store: &'s mut Store<F>,
+    /// The records of the listing that was made last.
     packed: P,
 }
 
 impl<'s, F: Files> Platform<'s, F> {
-    ghost use Rattle.std.specs.Prelude.{◌≡◌, ◌⊎◌, List, IfOk, IfErr, OnOk};
+    ghost use Rattle.std.specs.Prelude.{◌≡◌, List, IfOk, IfErr, OnOk};
     ghost use Rattle.gix_ref_base.specs.PackedRecords.{Record};
     ghost use Rattle.gix_ref_listing.specs.declared.prefix.Error.TheVariants.{Memory};
     ghost use Rattle.gix_ref_listing.specs.CleanPrefixes.{IsAcceptedPrefix, IsRefusedPrefix};
-    ghost use Rattle.gix_ref_store.specs.Lookup.{LooksUp};
-    ghost use Rattle.gix_ref_store.specs.Listings.{IteratesListing, IteratesPseudo, HasRecords, prefix_of_all, platform_store};
+    ghost use Rattle.gix_ref_store.specs.Lookup.{AreRecordsIn, LooksUp};
+    ghost use Rattle.gix_ref_store.specs.Listings.{IteratesListing, IteratesPseudo, IsNoPlatformListing, prefix_of_all, platform_store};
 
-    /// The references below `refs/`, or in a namespace all of its references, as `iter_packed` gives them. As gix-ref's
-    /// `Platform::all`.
+    /// The references below `refs/`, or in a namespace all of its references, as `iter_packed` gives them. The folders are walked
+    /// first, and then `packed-refs` is opened. As gix-ref's `Platform::all`.
     ///
-    /// `Memory` where there was no memory for the names of the loose references.
+    /// `PackedOpen` where `packed-refs` cannot be opened or read, as `Store::iter` has it; `Memory` where there was no memory for the
+    /// names of the loose references or for the records.
     ///
     /// ```text
     /// let mut platform = store.iter(alloc)?;
@@ -138,20 +141,23 @@ impl<'s, F: Files> Platform<'s, F> {
     pub fn all(&mut self, alloc: Global) -> Result<LooseThenPacked<'_, F>, Error>
         ensures looks_up { IfOk result
             (λ it. LooksUp F.honest F.means (platform_store self.entry.now) it.store.now) }
-        ensures lists { F.honest → (records : List Record) → HasRecords self.entry.now records →
+        ensures lists { F.honest → (records : List Record) →
+            AreRecordsIn F.means (platform_store self.entry.now) records →
             IfOk result (IteratesListing F.honest F.means F.faults (platform_store self.entry.now)
             records (prefix_of_all (platform_store self.entry.now).namespace)) }
-        ensures memory { IfErr result (λ error. error ≡ Memory) }
+        ensures refused { IfErr result (IsNoPlatformListing F.honest F.means
+            (platform_store self.entry.now) (λ _. ⊥)) }
     {
-        let Platform { store, packed } = self;
-        store.iter_packed(alloc, packed.as_ref())
+        let prefix = prefix_of_all(&self.store.namespace);
+        self.prefixed(alloc, prefix)
     }
 
-    /// The references whose names begin with the prefix, as `iter_prefixed_packed` gives them. The records of the prefix are
-    /// found by halving where `packed-refs` is sorted. As gix-ref's `Platform::prefixed`.
+    /// The references whose names begin with the prefix, as `iter_prefixed_packed` gives them. The folders are walked first, and
+    /// then the records of the prefix are read, which are found by halving where `packed-refs` is sorted. As gix-ref's
+    /// `Platform::prefixed`.
     ///
     /// `EmptyPrefix` where the prefix is empty and the store is in no namespace; `PrefixNotClean` where it begins with a slash,
-    /// has two slashes in a row or a NUL, or a component of it is `.` or `..`; `Memory`.
+    /// has two slashes in a row or a NUL, or a component of it is `.` or `..`; `PackedOpen` and `Memory` as in `all`.
     ///
     /// ```text
     /// let mut platform = store.iter(alloc)?;
@@ -166,16 +172,23 @@ impl<'s, F: Files> Platform<'s, F> {
     ) -> Result<LooseThenPacked<'_, F>, Error>
         ensures looks_up { IfOk result
             (λ it. LooksUp F.honest F.means (platform_store self.entry.now) it.store.now) }
-        ensures lists { F.honest → (records : List Record) → HasRecords self.entry.now records →
+        ensures lists { F.honest → (records : List Record) →
+            AreRecordsIn F.means (platform_store self.entry.now) records →
             IfOk result (IteratesListing F.honest F.means F.faults
             (platform_store self.entry.now) records prefix.now) }
         ensures taken { OnOk result
             (IsAcceptedPrefix (platform_store self.entry.now).namespace prefix.now) }
-        ensures refused { IfErr result (λ error. (error ≡ Memory)
-            ⊎ IsRefusedPrefix (platform_store self.entry.now).namespace prefix.now error) }
+        ensures refused { IfErr result (IsNoPlatformListing F.honest F.means
+            (platform_store self.entry.now)
+            (IsRefusedPrefix (platform_store self.entry.now).namespace prefix.now)) }
     {
         let Platform { store, packed } = self;
-        store.iter_prefixed_packed(alloc, prefix, packed.as_ref())
+        let names = store.walk_prefixed(alloc, prefix)?;
+        *packed = match store.open_packed_prefixed(alloc, prefix) {
+            Ok(packed) => packed,
+            Err(error) => return Err(of_open(error)),
+        };
+        store.iter_walked(alloc, names, packed.as_ref())
     }
 
     /// The pseudo references, as `Store::iter_pseudo` gives them. `Memory` where there was no memory for their names.
@@ -212,7 +225,7 @@ impl<F: Files> Store<F> {
     ghost use Rattle.gix_ref_listing.specs.CleanPrefixes.{IsAcceptedPrefix, IsRefusedPrefix};
     ghost use Rattle.gix_ref_listing.specs.Steps.{AreYet, GivesNext, GivesRecord};
     ghost use Rattle.gix_ref_store.specs.Store.{files_of, IsSameStore};
-    ghost use Rattle.gix_ref_store.specs.Listings.{AreHeldFor, IteratesListing, IteratesPseudo, HasRecords, IsNotOpened, LeavesUnopened, prefix_of_all};
+    ghost use Rattle.gix_ref_store.specs.Listings.{AreHeldFor, IteratesListing, IteratesPseudo, IsNotOpened, IsWalkedIn, LeavesUnopened, prefix_of_all, walked_prefix};
     ghost use Rattle.gix_ref_store.specs.contracts.file.store.Store.{the_row};
 
     /// The next item of a listing.
@@ -269,11 +282,75 @@ impl<F: Files> Store<F> {
         }
     }
 
+    /// Walks the folders in which the loose references of a prefix may be, one call of files each, for `iter_walked`. Opened after
+    /// it, `packed-refs` has the references that a program packed meanwhile, so that a listing beside it misses none. For all
+    /// references the prefix is that of `prefix_of_all`. Not in gix-ref.
+    ///
+    /// `EmptyPrefix` where the prefix is empty and the store is in no namespace; `PrefixNotClean` where it begins with a slash,
+    /// has two slashes in a row or a NUL, or a component of it is `.` or `..`; `Memory`.
+    ///
+    /// ```text
+    /// let names = store.walk_prefixed(alloc, b"refs/tags/")?;
+    /// let packed = store.open_packed_prefixed(alloc, b"refs/tags/")?;
+    /// for tag in store.iter_walked(alloc, names, packed.as_ref())? {
+    ///     println!(rt; "{}", tag?.name)?;
+    /// }
+    /// ```
+    pub fn walk_prefixed(&mut self, alloc: Global, prefix: &[u8]) -> Result<LooseNames, Error>
+        ensures walks { F.honest → IfOk result
+            (IsWalkedIn F.honest F.means F.faults self.old self.new) }
+        ensures asked { IfOk result (λ names. walked_prefix names ≡ prefix.now) }
+        ensures taken { OnOk result (IsAcceptedPrefix self.old.namespace prefix.now) }
+        ensures refused { IfErr result (λ error. (error ≡ Memory)
+            ⊎ IsRefusedPrefix self.old.namespace prefix.now error) }
+        ensures counts { F.faults (files_of self.old) ≤ F.faults (files_of self.new) }
+        ensures unchanged { LooksUp F.honest F.means self.old self.new }
+    {
+        match check_prefix(&self.namespace, prefix) {
+            Ok(()) => {
+                let settings = settings!(self);
+                walk(alloc, &mut self.files, settings, prefix)
+            }
+            Err(error) => Err(error),
+        }
+    }
+
+    /// As `iter_prefixed_packed`, of the loose references that a walk found, with its prefix. `Memory`. Not in gix-ref.
+    pub fn iter_walked<'p>(
+        &'p mut self,
+        alloc: Global,
+        names: LooseNames,
+        packed: Option<&'p Buffer>,
+    ) -> Result<LooseThenPacked<'p, F>, Error>
+        ensures* rests { sem 𝓛 (RestsIfErr (the_row F.row) self.entry (λ it. it.store.ghost_name)
+            result (λ n. OnErr result (LooksUp F.honest F.means self.entry.now n))) }
+        ensures same_reference { IfOk result (λ it. it.store.ghost_name ≡ self.entry.ghost_name) }
+        ensures looks_up { IfOk result
+            (λ it. LooksUp F.honest F.means self.entry.now it.store.now) }
+        ensures lists { F.honest → (start : Store F) (records : List Record) →
+            IsWalkedIn F.honest F.means F.faults start self.entry.now names →
+            AreHeldFor self.entry.now (walked_prefix names) packed.entry records → IfOk result
+            (IteratesListing F.honest F.means F.faults start records (walked_prefix names)) }
+        ensures memory { IfErr result (λ error. error ≡ Memory) }
+    {
+        let settings = settings!(self);
+        match merge_walked(alloc, settings, names, packed) {
+            Ok(merge) => Ok(LooseThenPacked {
+                store: self,
+                rest: Remaining { alloc, merge },
+            }),
+            Err(error) => Err(error),
+        }
+    }
+
     /// The references below `refs/`, or in a namespace all of its references: the loose ones, and those of the buffer if one
     /// is given (`git for-each-ref`). Names are without the namespace. As gix-ref's `file::Store::iter_packed`.
     ///
     /// The folders of the loose references are listed now, one call of files each; a file is read when its reference is given,
     /// and a record is decoded when it is given. A folder that cannot be listed is an item.
+    ///
+    /// Beside a program that packs loose references, one that it packs between the opening of the buffer and this call is in
+    /// neither: there walk first, by `walk_prefixed`, or list by a `Platform`.
     ///
     /// `Memory` where there was no memory for the names of the loose references.
     ///
@@ -306,7 +383,8 @@ impl<F: Files> Store<F> {
 
     /// As `iter_packed`, of the references whose names begin with the prefix. Of the folders only those are listed that such
     /// names may be in, and of a sorted buffer only the records of the prefix are looked at. The buffer may be one that was read
-    /// for this prefix by `open_packed_prefixed`. As gix-ref's `file::Store::iter_prefixed_packed`.
+    /// for this prefix by `open_packed_prefixed`. Beside a program that packs, see `iter_packed`. As gix-ref's
+    /// `file::Store::iter_prefixed_packed`.
     ///
     /// `EmptyPrefix` where the prefix is empty and the store is in no namespace; `PrefixNotClean` where it begins with a slash,
     /// has two slashes in a row or a NUL, or a component of it is `.` or `..`; `Memory`.
@@ -340,7 +418,8 @@ impl<F: Files> Store<F> {
         }
     }
 
-    /// As `iter_packed`, of the loose references alone; `Memory`. As gix-ref's `file::Store::loose_iter`.
+    /// As `iter_packed`, of the loose references alone; `Memory`. One that is packed between the walk and its item is given by its
+    /// record. As gix-ref's `file::Store::loose_iter`.
     pub fn loose_iter(&mut self, alloc: Global) -> Result<LooseThenPacked<'_, F>, Error>
         ensures* rests { sem 𝓛 (RestsIfErr (the_row F.row) self.entry (λ it. it.store.ghost_name)
             result (λ n. OnErr result (LooksUp F.honest F.means self.entry.now n))) }
@@ -375,8 +454,8 @@ impl<F: Files> Store<F> {
         self.iter_prefixed_packed(alloc, prefix, None)
     }
 
-    /// Opens `packed-refs`, for listings of the store (`git for-each-ref`): the file is read once, as a whole. As
-    /// gix-ref's `file::Store::iter`.
+    /// A platform for listings of the store (`git for-each-ref`), where `packed-refs` can be opened. Nothing of it is kept: each
+    /// listing opens it once more, after its walk. As gix-ref's `file::Store::iter`, which keeps it.
     ///
     /// `PackedOpen` where it cannot be opened or read, begins with `#` and has no header, or has a line that is no record where
     /// the records are to be sorted; `Memory`.
@@ -395,14 +474,12 @@ impl<F: Files> Store<F> {
         ensures looks_up { IfOk result (λ p. LooksUp F.honest F.means self.entry.now p.store.now) }
         ensures no_fault { IfOk result (λ p. F.faults (files_of p.store.now)
             ≡ F.faults (files_of self.entry.now)) }
-        ensures opened { F.honest → (records : List Record) →
-            AreRecordsIn F.means self.entry.now records → IfOk result (λ p. HasRecords p records) }
         ensures refused { F.honest → IfErr result (IsNotOpened F.means self.entry.now) }
     {
-        match self.open_packed_buffer(alloc) {
-            Ok(packed) => Ok(Platform {
+        match self.force_refresh_packed_buffer(alloc) {
+            Ok(()) => Ok(Platform {
                 store: self,
-                packed,
+                packed: None,
             }),
             Err(error) => Err(of_open(error)),
         }

@@ -1,9 +1,14 @@
-use Rattle.gix_ref_store.specs.Listings.{platform_store, prefix_of_all}
-use Rattle.gix_ref_store.proofs.Platforms.{lent_for}
+use Rattle.std.proofs.Common.{List, ℕ, subst}
+use Rattle.std.specs.Prelude.{IfErr}
+use Rattle.gix_ref_listing.specs.CleanPrefixes.{IsRefusedPrefix}
+use Rattle.gix_ref_lookup.proofs.Opening.{if_err}
+use Rattle.gix_ref_store.specs.Listings.{IsNoPlatformListing, platform_store}
+use Rattle.gix_ref_store.proofs.Platforms.{all_not_made}
 use Rattle.gix_ref_store.proofs.file.iter.Platform+F.all.Goals as goal
 
-pub returns-clause-lists : goal.returns-clause-lists
-returns-clause-lists g c h records has =
+pub returns-clause-refused : goal.returns-clause-refused
+returns-clause-refused g c =
+    let F = g.F.Files in
     let store = platform_store c.args.self.now in
-    let prefix = prefix_of_all store.namespace in
-    c.iter_packed.ensures.lists h records (lent_for store prefix c.args.self.now.packed c.as_ref.result records c.as_ref.ensures.value (has prefix))
+    if_err c.prefixed.result (λ error why. all_not_made F.honest F.means store store.namespace error why)
+    (subst (λ (p : List ℕ). IfErr c.prefixed.result (IsNoPlatformListing F.honest F.means store (IsRefusedPrefix store.namespace p))) c.prefix_of_all-prefix.ensures c.prefixed.ensures.refused)

@@ -1,16 +1,8 @@
 use Rattle.std.proofs.Common.{refl}
-use Rattle.gix_ref_store.proofs.Platforms.{opened_for}
 use Rattle.gix_ref_store.proofs.file.store.Store.iter.Goals as goal
 
 pub returns-in-Ok : goal.returns-in-Ok
 returns-in-Ok g c = (
   (refl, (λ w. refl), _),
-  record {
-    rests = _;
-    same_reference = refl;
-    looks_up = c.in-Ok.ensures.unchanged;
-    no_fault = c.in-Ok.ensures.count;
-    opened = λ h records are prefix. opened_for g.F.Files.means c.args.self.now c.open_packed_buffer.new.self c.in-Ok.packed records (c.in-Ok.ensures.opened h) are prefix;
-    refused = _;
-  },
+  record { rests = _; same_reference = refl; looks_up = c.in-Ok.ensures.unchanged; no_fault = c.in-Ok.ensures.no_fault; refused = _ },
 )

@@ -1,6 +1,7 @@
 use Rattle.std.proofs.Common.{refl, ap}
 use Rattle.gix_ref_theory.specs.OnRealTrees.{view_of}
-use Rattle.gix_ref_store.proofs.ListingRuns.{each_run}
+use Rattle.gix_ref_store.specs.Lookup.{settings_of, view_in}
+use Rattle.gix_ref_store.proofs.ListingRuns.{all_pseudo_there, each_run}
 use Rattle.gix_ref_store.proofs.file.store.Store.iter_pseudo.Goals as goal
 
 pub returns-in-Ok : goal.returns-in-Ok
@@ -20,7 +21,8 @@ returns-in-Ok g c = (
           is = found.is;
           counts = c.in-Ok.ensures.looks.no_fewer;
           names = found.names;
-          runs = each_run g.F.Files.honest g.F.Files.means g.F.Files.faults c.args.self.now _ found.listed h refl (ap view_of (c.in-Ok.ensures.looks.leaves h).tree) found.yet;
+          runs = each_run g.F.Files.honest g.F.Files.means g.F.Files.faults c.args.self.now _ found.listed h refl (ap view_of (c.in-Ok.ensures.looks.leaves h).tree) found.yet
+              (all_pseudo_there (settings_of c.args.self.now) (view_in g.F.Files.means c.args.self.now) found.listed found.is.only);
         };
     memory = _;
   },
