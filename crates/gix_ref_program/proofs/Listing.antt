@@ -1,26 +1,18 @@
 -- What is printed of a listing, put together.
-use Rattle.std.proofs.Common.{◌≡◌, ◌⊎◌, inl, inr, ⊎_elim, arith, ℕ, List, [], true, false, Option, Some, None, Result, Ok, Err, refl, sym, ◌∙◌, ap, subst}
+use Rattle.std.proofs.Common.{◌≡◌, ◌⊎◌, inl, inr, ⊎_elim, arith, ℕ, List, [], true, false, Option, Result, Ok, Err, refl, ◌∙◌, subst}
 use Rattle.std.specs.Prelude.{◌≤◌, IfOk}
-use denote.Ref.{Bor}
-use Rattle.std.specs.Option.{option_copied}
 use Rattle.gix_ref_base.specs.PackedRecords.{Record}
 use Rattle.gix_ref_files.specs.Files.{Meaning}
 use Rattle.gix_ref_files.specs.declared.files.ReadAt.{Ghosts}
-use Rattle.gix_ref_theory.specs.OnRealTrees.{view_of}
-use Rattle.gix_ref_theory.specs.Views.{View}
-use Rattle.gix_ref_packed.specs.Buffers.{buffer_kind, buffer_text}
-use Rattle.gix_ref_packed.specs.declared.packed.buffer.Buffer.{Buffer}
-use Rattle.gix_ref_lookup.specs.declared.settings.Settings.{Settings}
 use Rattle.gix_ref_listing.specs.CleanPrefixes.{IsAcceptedPrefix, IsRefusedPrefix}
-use Rattle.gix_ref_listing.specs.WholeListings.{HoldsFor, key_in}
+use Rattle.gix_ref_listing.specs.declared.list.LooseNames.{LooseNames}
 use Rattle.gix_ref_listing.specs.declared.prefix.Error.{Error as PrefixError}
 use Rattle.gix_ref_listing.specs.declared.prefix.Error.TheVariants as no_list
 use Rattle.gix_ref_listing.proofs.FolderWalks.{risen_on, unchanged_on}
 use Rattle.gix_ref_store.specs.Store.{files_of}
 use Rattle.gix_ref_store.specs.Lookup.{LooksUp, AreRecordsIn, settings_of, view_in}
-use Rattle.gix_ref_store.specs.Listings.{IteratesListing, AreHeldFor, IsNoListing, IsReadFor, count_in, store_listed}
+use Rattle.gix_ref_store.specs.Listings.{IteratesListing, IsNoListing, IsWalkedIn, count_in, store_listed, walked_prefix}
 use Rattle.gix_ref_store.proofs.FirstItems.{first_from, first_to}
-use Rattle.gix_ref_store.proofs.ListingRuns.{same_settings}
 use Rattle.gix_ref_store.specs.declared.file.store.Store.{Store}
 use Rattle.gix_ref_store.specs.declared.file.iter.LooseThenPacked.{LooseThenPacked}
 use Rattle.gix_ref_store.specs.declared.file.iter.Remaining.{Remaining}
@@ -32,52 +24,46 @@ use Rattle.gix_ref_program.specs.declared.refusal.Refusal.TheVariants as refusal
 
 module _ {F : Type 0} (honest : Type 0) (means : F → Meaning) (faults : F → ℕ) where
   -- the items of a listing are printed
-  pub printed_all : {E : Type 0} (old new : Store F) (prefix : List ℕ) (Are : List Record → Type 0) (it t : LooseThenPacked F Remaining) (out now : Option (List ℕ)) (status : Result ℕ E) →
-      IsAcceptedPrefix old.namespace prefix → (honest → (records : List Record) → Are records → IteratesListing honest means faults old records prefix it) →
+  pub printed_all : {E : Type 0} (old new : Store F) (names : LooseNames) (Are : List Record → Type 0) (it t : LooseThenPacked F Remaining) (out now : Option (List ℕ)) (status : Result ℕ E) →
+      (honest → (start : Store F) (records : List Record) → IsWalkedIn honest means faults start old names → Are records → IteratesListing honest means faults start records (walked_prefix names) it) →
       count_in honest means faults it ≤ count_in honest means faults t → store_listed t ≡ new →
-      IfOk status (PrintsAll honest means faults it t out now) → Prints (ListRanAmong honest means faults old new prefix Are) out now status
-  printed_all old new prefix Are it t out now (Ok s) taken lists rises is all = record {
+      IfOk status (PrintsAll honest means faults it t out now) → Prints (ListRanAmong honest means faults old new names Are) out now status
+  printed_all old new names Are it t out now (Ok s) lists rises is all = record {
     ran = Listed true all.items;
-    does = (
-      taken,
-      λ h records are.
-          let l = lists h records are in
-          let first = l.runs all.items all.last all.gives in
-          let last : count_in honest means faults all.last ≤ faults (files_of new) = subst (λ (x : Store F). count_in honest means faults all.last ≤ faults (files_of x)) is all.ends.gives.rises in
-          let after : count_in honest means faults it ≤ faults (files_of new) = subst (λ (x : Store F). count_in honest means faults it ≤ faults (files_of x)) is rises in
-          record {
-            listed = l.listed;
-            is = l.is;
-            names = ⊎_elim (λ names. inl names) (λ risen. inr (risen_on (faults (files_of old)) (count_in honest means faults it) (faults (files_of new)) risen after)) l.names;
-            rest = first.rest;
-            first = first_from honest means faults (settings_of old) (view_in means old) (faults (files_of old)) (count_in honest means faults it) (faults (files_of new)) l.listed first.rest all.items l.counts
-                (first_to honest means faults (settings_of old) (view_in means old) (count_in honest means faults it) (count_in honest means faults all.last) (faults (files_of new)) l.listed first.rest all.items last first.first);
-            ends = λ whole. first.ends t all.ends;
-          },
-    );
+    does = λ h start records walked are.
+        let l = lists h start records walked are in
+        let first = l.runs all.items all.last all.gives in
+        let last : count_in honest means faults all.last ≤ faults (files_of new) = subst (λ (x : Store F). count_in honest means faults all.last ≤ faults (files_of x)) is all.ends.gives.rises in
+        let after : count_in honest means faults it ≤ faults (files_of new) = subst (λ (x : Store F). count_in honest means faults it ≤ faults (files_of x)) is rises in
+        record {
+          listed = l.listed;
+          is = l.is;
+          names = ⊎_elim (λ names. inl names) (λ risen. inr (risen_on (faults (files_of start)) (count_in honest means faults it) (faults (files_of new)) risen after)) l.names;
+          rest = first.rest;
+          first = first_from honest means faults (settings_of start) (view_in means start) (faults (files_of start)) (count_in honest means faults it) (faults (files_of new)) l.listed first.rest all.items l.counts
+              (first_to honest means faults (settings_of start) (view_in means start) (count_in honest means faults it) (count_in honest means faults all.last) (faults (files_of new)) l.listed first.rest all.items last first.first);
+          ends = λ whole. first.ends t all.ends;
+        };
     prints = (refl, all.status_is, all.prints);
   }
-  printed_all old new prefix Are it t out now (Err e) taken lists rises is all = record {
+  printed_all old new names Are it t out now (Err e) lists rises is all = record {
     ran = Listed false [];
-    does = (
-      taken,
-      λ h records are.
-          let l = lists h records are in
-          let after : count_in honest means faults it ≤ faults (files_of new) = subst (λ (x : Store F). count_in honest means faults it ≤ faults (files_of x)) is rises in
-          record {
-            listed = l.listed;
-            is = l.is;
-            names = ⊎_elim (λ names. inl names) (λ risen. inr (risen_on (faults (files_of old)) (count_in honest means faults it) (faults (files_of new)) risen after)) l.names;
-            rest = l.listed;
-            first = (omega (arith, l.counts, after), refl);
-            ends = λ whole. absurd (cc);
-          },
-    );
+    does = λ h start records walked are.
+        let l = lists h start records walked are in
+        let after : count_in honest means faults it ≤ faults (files_of new) = subst (λ (x : Store F). count_in honest means faults it ≤ faults (files_of x)) is rises in
+        record {
+          listed = l.listed;
+          is = l.is;
+          names = ⊎_elim (λ names. inl names) (λ risen. inr (risen_on (faults (files_of start)) (count_in honest means faults it) (faults (files_of new)) risen after)) l.names;
+          rest = l.listed;
+          first = (omega (arith, l.counts, after), refl);
+          ends = λ whole. absurd (cc);
+        };
     prints = _;
   }
 
   -- a prefix without a listing
-  no_listing : {R : Type 0} (G : Ghosts R) (old new : Store F) (prefix : List ℕ) (error : PrefixError) → (error ≡ no_list.Memory) ⊎ IsRefusedPrefix old.namespace prefix error →
+  pub no_listing : {R : Type 0} (G : Ghosts R) (old new : Store F) (prefix : List ℕ) (error : PrefixError) → (error ≡ no_list.Memory) ⊎ IsRefusedPrefix old.namespace prefix error →
       IsNoListing honest means faults G old new prefix error
   no_listing G old new prefix no_list.Memory why = _
   no_listing G old new prefix no_list.EmptyPrefix (inl none) = cc
@@ -87,39 +73,26 @@ module _ {F : Type 0} (honest : Type 0) (means : F → Meaning) (faults : F → 
   no_listing G old new prefix (no_list.PackedOpen error) (inl none) = cc
   no_listing G old new prefix (no_list.PackedOpen error) (inr refused) = absurd refused
 
-  -- a listing among the records that were read before it, without a fault
-  pub listed_from : {R : Type 0} (G : Ghosts R) (old mid new : Store F) (prefix : List ℕ) (Are : List Record → Type 0) → LooksUp honest means old mid → faults (files_of mid) ≡ faults (files_of old) →
-      (honest → (records : List Record) → AreRecordsIn means old records → Are records) → (ran : Ran) →
-      ListRanAmong honest means faults mid new prefix Are ran → ListRan honest means faults G old new prefix ran
-  listed_from G old mid new prefix Are looks counts read (Said (outcomes.Refused (refusals.List error) locks)) (why, none) =
-      (no_listing G old new prefix error (subst (λ (n : _). (error ≡ no_list.Memory) ⊎ IsRefusedPrefix n prefix error) looks.same.namespace why), none)
-  listed_from G old mid new prefix Are looks counts read (Listed whole items) (taken, among) = (
-    subst (λ (n : _). IsAcceptedPrefix n prefix) looks.same.namespace taken,
-    λ h records are.
-        subst (λ (n : ℕ). AreListed honest means faults (settings_of old) (view_in means old) n (faults (files_of new)) records prefix whole items) counts
-        (subst (λ (v : View). AreListed honest means faults (settings_of old) v (faults (files_of mid)) (faults (files_of new)) records prefix whole items) (ap view_of (looks.leaves h).tree)
-        (subst (λ (x : Settings). AreListed honest means faults x (view_in means mid) (faults (files_of mid)) (faults (files_of new)) records prefix whole items) (sym (same_settings old mid looks.same))
-        (among h records (read h records are)))),
+  -- a listing of the names that a walk found, among the records that were read after it
+  pub listed_from : {R : Type 0} (G : Ghosts R) (start old new : Store F) (prefix : List ℕ) (names : LooseNames) (Are : List Record → Type 0) → IsAcceptedPrefix start.namespace prefix → walked_prefix names ≡ prefix →
+      (honest → IsWalkedIn honest means faults start old names) → (honest → (records : List Record) → AreRecordsIn means start records → Are records) → (ran : Ran) →
+      ListRanAmong honest means faults old new names Are ran → ListRan honest means faults G start new prefix ran
+  listed_from G start old new prefix names Are taken asked walked read (Said (outcomes.Refused (refusals.List error) locks)) (why, none) = (no_listing G start new prefix error (inl why), none)
+  listed_from G start old new prefix names Are taken asked walked read (Listed whole items) among = (
+    taken,
+    λ h records are. subst (λ (p : List ℕ). AreListed honest means faults (settings_of start) (view_in means start) (faults (files_of start)) (faults (files_of new)) records p whole items) asked (among h start records (walked h) (read h records are)),
   )
-  listed_from G old mid new prefix Are looks counts read (Said outcomes.WrongWords) ran = absurd ran
-  listed_from G old mid new prefix Are looks counts read (Said (outcomes.Updated locks)) ran = absurd ran
-  listed_from G old mid new prefix Are looks counts read (Said (outcomes.Shown reference)) ran = absurd ran
-  listed_from G old mid new prefix Are looks counts read (Said (outcomes.Refused refusals.PathNotClean locks)) ran = absurd ran
-  listed_from G old mid new prefix Are looks counts read (Said (outcomes.Refused (refusals.Name error) locks)) ran = absurd ran
-  listed_from G old mid new prefix Are looks counts read (Said (outcomes.Refused (refusals.Update error) locks)) ran = absurd ran
-  listed_from G old mid new prefix Are looks counts read (Said (outcomes.Refused (refusals.Find error) locks)) ran = absurd ran
-  listed_from G old mid new prefix Are looks counts read (Said (outcomes.Refused (refusals.Log error) locks)) ran = absurd ran
-  listed_from G old mid new prefix Are looks counts read (Said (outcomes.Refused refusals.NotFound locks)) ran = absurd ran
-  listed_from G old mid new prefix Are looks counts read (Said (outcomes.Refused refusals.Memory locks)) ran = absurd ran
-  listed_from G old mid new prefix Are looks counts read (Logged whole items) ran = absurd ran
-
-  -- what was read for a prefix is held for it, as it is lent
-  pub read_for : (old mid : Store F) (prefix : List ℕ) (found : Option Buffer) (lent : Option (Bor Buffer)) (records : List Record) → LooksUp honest means old mid →
-      option_copied lent ≡ found → IsReadFor old prefix found records → AreHeldFor mid prefix lent records
-  read_for old mid prefix found None records looks value is = subst (λ (f : Option Buffer). IsReadFor old prefix f records) (sym value) is
-  read_for old mid prefix found (Some r) records looks value is =
-      subst (λ (x : Settings). HoldsFor (buffer_kind r.now) (key_in x prefix) records (buffer_text r.now)) (same_settings old mid looks.same)
-      (subst (λ (f : Option Buffer). IsReadFor old prefix f records) (sym value) is)
+  listed_from G start old new prefix names Are taken asked walked read (Said outcomes.WrongWords) ran = absurd ran
+  listed_from G start old new prefix names Are taken asked walked read (Said (outcomes.Updated locks)) ran = absurd ran
+  listed_from G start old new prefix names Are taken asked walked read (Said (outcomes.Shown reference)) ran = absurd ran
+  listed_from G start old new prefix names Are taken asked walked read (Said (outcomes.Refused refusals.PathNotClean locks)) ran = absurd ran
+  listed_from G start old new prefix names Are taken asked walked read (Said (outcomes.Refused (refusals.Name error) locks)) ran = absurd ran
+  listed_from G start old new prefix names Are taken asked walked read (Said (outcomes.Refused (refusals.Update error) locks)) ran = absurd ran
+  listed_from G start old new prefix names Are taken asked walked read (Said (outcomes.Refused (refusals.Find error) locks)) ran = absurd ran
+  listed_from G start old new prefix names Are taken asked walked read (Said (outcomes.Refused (refusals.Log error) locks)) ran = absurd ran
+  listed_from G start old new prefix names Are taken asked walked read (Said (outcomes.Refused refusals.NotFound locks)) ran = absurd ran
+  listed_from G start old new prefix names Are taken asked walked read (Said (outcomes.Refused refusals.Memory locks)) ran = absurd ran
+  listed_from G start old new prefix names Are taken asked walked read (Logged whole items) ran = absurd ran
 
   -- one look after another
   pub looks_on : (old mid new : Store F) → LooksUp honest means old mid → LooksUp honest means mid new → LooksUp honest means old new

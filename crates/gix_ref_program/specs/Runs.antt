@@ -27,13 +27,14 @@ use Rattle.gix_ref_store.specs.Lookup.{AreRecordsIn, FindsAmong, HitsIn, FailsIn
 use Rattle.gix_ref_store.specs.Prepared.{tree_of}
 use Rattle.gix_ref_store.specs.Store.{files_of, folders, kind_of}
 use Rattle.gix_ref_store.specs.Reflogs.{reflog_at, IsNoReflog}
-use Rattle.gix_ref_store.specs.Listings.{prefix_of_all, AreFirst, IsNoListing}
+use Rattle.gix_ref_store.specs.Listings.{prefix_of_all, walked_prefix, AreFirst, IsNoListing, IsWalkedIn}
 use Rattle.gix_ref_packed.specs.OpenFiles.{HasReadFault}
 use Rattle.gix_ref_records.specs.declared.raw.Reference.{Reference}
-use Rattle.gix_ref_listing.specs.CleanPrefixes.{IsAcceptedPrefix, IsRefusedPrefix}
+use Rattle.gix_ref_listing.specs.CleanPrefixes.{IsAcceptedPrefix}
 use Rattle.gix_ref_listing.specs.Listings.{Listed as ListedName}
 use Rattle.gix_ref_listing.specs.WholeListings.{IsListing, IsNameItem}
 use Rattle.gix_ref_listing.specs.declared.error.Error.{Error as ListError}
+use Rattle.gix_ref_listing.specs.declared.list.LooseNames.{LooseNames}
 use Rattle.gix_ref_listing.specs.declared.prefix.Error.TheVariants as no_list
 use Rattle.gix_ref_log.specs.LogItems.{EndsAtError}
 use Rattle.gix_ref_log.specs.declared.log.line.Line.{Line as LogLine}
@@ -329,17 +330,18 @@ module _ {F : Type 0} where
       pub first : AreFirst honest means faults settings view before now listed rest items
       pub ends : whole ≡ true → rest ≡ []
 
-    -- A listing among these records: the prefix has none, or no memory; or its items are printed, by ascending names.
-    abbrev pub ListRanAmong : (old new : Store F) → (prefix : List ℕ) →
-        (Are : List Record → Type 0) → Ran → Type 0
-    ListRanAmong old new prefix Are (Said (outcomes.Refused (refusals.List error) locks)) =
-        ((error ≡ no_list.Memory) ⊎ IsRefusedPrefix old.namespace prefix error) × (locks.items ≡ [])
-    ListRanAmong old new prefix Are (Listed whole items) =
-        IsAcceptedPrefix old.namespace prefix
-        × (honest → (records : List Record) → Are records →
-        AreListed (settings_of old) (view_in means old) (faults (files_of old))
-        (faults (files_of new)) records prefix whole items)
-    ListRanAmong old new prefix Are ran = ⊥
+    -- A listing of the names that a walk found, among these records: there was no memory; or its items are printed, by ascending
+    -- names.
+    abbrev pub ListRanAmong : (old new : Store F) → LooseNames → (Are : List Record → Type 0) →
+        Ran → Type 0
+    ListRanAmong old new names Are (Said (outcomes.Refused (refusals.List error) locks)) =
+        (error ≡ no_list.Memory) × (locks.items ≡ [])
+    ListRanAmong old new names Are (Listed whole items) =
+        honest → (start : Store F) (records : List Record) →
+        IsWalkedIn honest means faults start old names → Are records →
+        AreListed (settings_of start) (view_in means start) (faults (files_of start))
+        (faults (files_of new)) records (walked_prefix names) whole items
+    ListRanAmong old new names Are ran = ⊥
 
     -- A listing: it is refused; or its items are printed.
     abbrev pub ListRan : {R : Type 0} (G : Ghosts R) → (old new : Store F) → (prefix : List ℕ) →

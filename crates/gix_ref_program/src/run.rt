@@ -9,7 +9,7 @@ ghost use Rattle.gix_ref_base.specs.Targets.TargetValue.{object_id, symbolic_nam
 ghost use Rattle.gix_ref_lookup.specs.StoreLayout.{namespace_text};
 ghost use Rattle.gix_ref_log.specs.Signatures.{signature_ref_who};
 ghost use Rattle.gix_ref_store.specs.Store.{files_of};
-ghost use Rattle.gix_ref_store.specs.Listings.{AreHeldFor};
+ghost use Rattle.gix_ref_store.specs.Listings.{AreHeldFor, walked_prefix};
 ghost use Rattle.gix_ref_store.specs.Lookup.{LooksUp};
 ghost use Rattle.gix_ref_store.specs.Prepared.{tree_of};
 ghost use Rattle.gix_ref_files.specs.Calls.{Unchanged};
@@ -33,7 +33,7 @@ use gix_ref_log::actor::SignatureRef;
 use gix_ref_name::name::{FullName, FullNameRef, PartialNameRef};
 use gix_ref_name::namespace::{Namespace, expand};
 use gix_ref_packed::packed::Buffer;
-use gix_ref_store::file::iter::{self, prefix_of_all};
+use gix_ref_store::file::iter::{self, LooseNames, prefix_of_all};
 use gix_ref_store::file::transaction::PackedRefs;
 use gix_ref_store::file::{Store, store};
 use gix_ref_store::store::{Options, WriteReflog};
@@ -344,20 +344,20 @@ fn print_log<F: Files, W: Write>(
     }
 }
 
-/// Prints the listing of a prefix, among the records of a buffer that was read for it.
+/// Prints the listing of the names that a walk found, among the records of a buffer that was read for their prefix.
 fn print_among<F: Files, W: Write>(
     alloc: Global,
     store: &mut Store<F>,
-    prefix: &[u8],
+    names: LooseNames,
     packed: Option<&Buffer>,
     out: &mut W,
 ) -> io::Result<u8>
-    ensures prints { Prints (ListRanAmong F.honest F.means F.faults store.old store.new prefix.now
-        (AreHeldFor store.old prefix.now packed.entry)) (W.contents out.old)
+    ensures prints { Prints (ListRanAmong F.honest F.means F.faults store.old store.new names
+        (AreHeldFor store.old (walked_prefix names) packed.entry)) (W.contents out.old)
         (W.contents out.new) result }
     ensures unchanged { LooksUp F.honest F.means store.old store.new }
 {
-    match store.iter_prefixed_packed(alloc, prefix, packed) {
+    match store.iter_walked(alloc, names, packed) {
         Ok(mut items) => {
             let status = list::print_items(alloc, &mut items, out);
             items.into_store();
@@ -367,7 +367,8 @@ fn print_among<F: Files, W: Write>(
     }
 }
 
-/// Prints the listing of a prefix, or of all references.
+/// Prints the listing of a prefix, or of all references. `packed-refs` is opened after the walk, so that a listing beside a program
+/// that packs references misses none.
 fn print_listing<F: Files, W: Write>(
     alloc: Global,
     store: &mut Store<F>,
@@ -383,8 +384,12 @@ fn print_listing<F: Files, W: Write>(
         Some(prefix) => prefix,
         None => prefix_of_all(&store.namespace),
     };
+    let names = match store.walk_prefixed(alloc, prefix) {
+        Ok(names) => names,
+        Err(error) => return print(alloc, refused(alloc, Refusal::List(error)), out),
+    };
     match store.open_packed_prefixed(alloc, prefix) {
-        Ok(packed) => print_among(alloc, store, prefix, packed.as_ref(), out),
+        Ok(packed) => print_among(alloc, store, names, packed.as_ref(), out),
         Err(error) => {
             let error = iter::Error::PackedOpen(error);
             print(alloc, refused(alloc, Refusal::List(error)), out)

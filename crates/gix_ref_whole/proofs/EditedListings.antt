@@ -1,7 +1,5 @@
 -- The items of a listing, by what each reference reads as edited.
 use Rattle.std.proofs.Common.{◌≡◌, ◌⊎◌, inl, inr, ⊎_elim, arith, ℕ, Bool, true, false, List, [], ◌∷◌, ◌++◌, refl, sym, ◌∙◌, ap, subst, Option, Some, None, Result, Ok, Err, IfOk, codes, append-nil, append_assoc}
-use denote.Ref.{Bor}
-use Rattle.std.specs.Option.{option_copied}
 use Rattle.std.specs.declared.alloc.Global.{Global}
 use Rattle.std.specs.Prelude.{◌≤◌, Vec, ◌&&◌, is_none, is_some, option_to_list}
 use Rattle.std.specs.Iterator.{Yields}
@@ -11,13 +9,10 @@ use Rattle.gix_ref_hash.specs.Bytes.{BeginsWith}
 use Rattle.gix_ref_base.specs.Locations.{is_safe}
 use Rattle.gix_ref_base.specs.PackedRecords.{Record}
 use Rattle.gix_ref_base.proofs.LocationLemmas.{safe_is_tested}
-use Rattle.gix_ref_files.specs.Files.{Meaning, HasRisen}
+use Rattle.gix_ref_files.specs.Files.{Meaning}
 use Rattle.gix_ref_files.specs.declared.files.ReadAt.{Ghosts}
-use Rattle.gix_ref_name.specs.declared.namespace.Namespace.{Namespace}
 use Rattle.gix_ref_files.specs.Tree.{Path, Tree}
 use Rattle.gix_ref_files.proofs.Moments.{starts}
-use Rattle.gix_ref_packed.specs.Buffers.{buffer_kind, buffer_text}
-use Rattle.gix_ref_packed.specs.declared.packed.buffer.Buffer.{Buffer}
 use Rattle.gix_ref_records.specs.declared.raw.Reference.{Reference}
 use Rattle.gix_ref_theory.specs.Lookups.{is_there}
 use Rattle.gix_ref_theory.specs.OnRealTrees.{view_of}
@@ -29,14 +24,15 @@ use Rattle.gix_ref_lookup.specs.declared.settings.Settings.{Settings}
 use Rattle.gix_ref_listing.specs.Items.{IsItem}
 use Rattle.gix_ref_listing.specs.Listings.{Listed}
 use Rattle.gix_ref_listing.specs.Listings.Listed.{Walked, InPacked}
-use Rattle.gix_ref_listing.specs.WholeListings.{HoldsFor, IsInStore, IsListing, IsNameItem, key_in, listed_key}
+use Rattle.gix_ref_listing.specs.WholeListings.{IsInStore, IsListing, IsNameItem, listed_key}
 use Rattle.gix_ref_listing.specs.CleanPrefixes.{IsAcceptedPrefix, IsRefusedPrefix}
 use Rattle.gix_ref_listing.specs.declared.error.Error.{Error}
+use Rattle.gix_ref_listing.specs.declared.list.LooseNames.{LooseNames}
 use Rattle.gix_ref_listing.specs.declared.prefix.Error.{Error as PrefixError}
 use Rattle.gix_ref_listing.specs.declared.prefix.Error.TheVariants as no_list
 use Rattle.gix_ref_listing.specs.declared.found.Found.TheVariants.{File, Unlisted}
 use Rattle.gix_ref_listing.proofs.FolderWalks.{risen_on, unchanged_on}
-use Rattle.gix_ref_store.specs.Listings.{AreFirst, AreHeldFor, IsNoListing, IsReadFor, IteratesListing, NextItem, count_in, store_listed}
+use Rattle.gix_ref_store.specs.Listings.{AreFirst, IsNoListing, IsWalkedIn, IteratesListing, NextItem, count_in, store_listed, walked_prefix}
 use Rattle.gix_ref_store.specs.Lookup.{AreRecordsIn, LooksUp, settings_of, view_in}
 use Rattle.gix_ref_store.specs.Store.{files_of, folders, kind_of, meaning_of, IsSameStore}
 use Rattle.gix_ref_store.specs.declared.file.iter.LooseThenPacked.{LooseThenPacked}
@@ -184,20 +180,6 @@ module _ {F : Type 0} (honest : Type 0) (means : F → Meaning) (faults : F → 
             (first_to honest means faults (settings_of start) (view_in means start) (count_in honest means faults it) (count_in honest means faults all.last) (faults (files_of new)) l.listed first.rest items last first.first));
       }
 
-  -- the items of a listing of a store that was looked at before, without a fault
-  abbrev AreOf : (now : ℕ) (records : List Record) (prefix : List ℕ) (items : List (Result Reference Error)) → Settings → View → ℕ → Type 0
-  AreOf now records prefix items settings view before =
-      (listed : List Listed) × IsListing settings view records prefix listed × (AllByRecursion IsNameItem listed ⊎ HasRisen before now) × AreFirst honest means faults settings view before now listed [] items
-
-  items_from : (old mid : Store F) (before now : ℕ) (records : List Record) (prefix : List ℕ) (items : List (Result Reference Error)) → honest → LooksUp honest means old mid → faults (files_of mid) ≡ before →
-      AreItemsIn honest means faults mid (faults (files_of mid)) now records prefix items → AreItemsIn honest means faults old before now records prefix items
-  items_from old mid before now records prefix items h looks count are =
-      let moved : AreOf now records prefix items (settings_of old) (view_in means old) before =
-      subst (λ (n : ℕ). AreOf now records prefix items (settings_of old) (view_in means old) n) count
-      (subst (λ (T : Tree). AreOf now records prefix items (settings_of old) (view_of T) (faults (files_of mid))) (looks.leaves h).tree
-      (subst (λ (x : Settings). AreOf now records prefix items x (view_in means mid) (faults (files_of mid))) (sym (same_settings old mid looks.same)) (are.listed, are.is, are.names, are.first))) in
-      record { listed = moved.0; is = moved.1; names = moved.2; first = moved.3 }
-
   one_is_name : (settings : Settings) (view : View) (before now : ℕ) (one : Listed) (item : Result Reference Error) → IsItem honest settings view before now one item → IsNoFolder item → IsNameItem one
   one_is_name settings view before now (InPacked own) item is plain = tt
   one_is_name settings view before now (Walked (key, File n path)) item is plain = tt
@@ -257,7 +239,7 @@ module _ {F : Type 0} (honest : Type 0) (means : F → Meaning) (faults : F → 
       by (Err e) listing = tt
 
   -- a prefix without a listing
-  no_listing : {R : Type 0} (G : Ghosts R) (start new : Store F) (prefix : List ℕ) (error : PrefixError) → (error ≡ no_list.Memory) ⊎ IsRefusedPrefix start.namespace prefix error → IsNoListing honest means faults G start new prefix error
+  pub no_listing : {R : Type 0} (G : Ghosts R) (start new : Store F) (prefix : List ℕ) (error : PrefixError) → (error ≡ no_list.Memory) ⊎ IsRefusedPrefix start.namespace prefix error → IsNoListing honest means faults G start new prefix error
   no_listing G start new prefix no_list.Memory why = tt
   no_listing G start new prefix no_list.EmptyPrefix (inl none) = cc
   no_listing G start new prefix no_list.EmptyPrefix (inr refused) = refused
@@ -266,21 +248,12 @@ module _ {F : Type 0} (honest : Type 0) (means : F → Meaning) (faults : F → 
   no_listing G start new prefix (no_list.PackedOpen error) (inl none) = cc
   no_listing G start new prefix (no_list.PackedOpen error) (inr refused) = absurd refused
 
-  -- a listing among the records that were read before it, without a fault
-  pub listed_from : {R : Type 0} (G : Ghosts R) (old mid new : Store F) (prefix : List ℕ) (Are : List Record → Type 0) → LooksUp honest means old mid → faults (files_of mid) ≡ faults (files_of old) →
-      (honest → (records : List Record) → AreRecordsIn means old records → Are records) → (r : Result (Vec (Result Reference Error) Global) PrefixError) →
-      ListsAmong honest means faults mid new prefix Are r → ListsIn honest means faults G old new prefix r
-  listed_from G old mid new prefix Are looks count read (Ok all) (taken, among) = (
-    subst (λ (n : Option Namespace). IsAcceptedPrefix n prefix) looks.same.namespace taken,
-    λ h records are. items_from old mid (faults (files_of old)) (faults (files_of new)) records prefix all.items h looks count (among h records (read h records are)),
+  -- a listing of the names that a walk found, among the records that were read after it
+  pub listed_from : {R : Type 0} (G : Ghosts R) (start old new : Store F) (prefix : List ℕ) (names : LooseNames) (Are : List Record → Type 0) → IsAcceptedPrefix start.namespace prefix → walked_prefix names ≡ prefix →
+      (honest → IsWalkedIn honest means faults start old names) → (honest → (records : List Record) → AreRecordsIn means start records → Are records) → (r : Result (Vec (Result Reference Error) Global) PrefixError) →
+      ListsAmong honest means faults old new names Are r → ListsIn honest means faults G start new prefix r
+  listed_from G start old new prefix names Are taken asked walked read (Ok all) among = (
+    taken,
+    λ h records are. subst (λ (p : List ℕ). AreItemsIn honest means faults start (faults (files_of start)) (faults (files_of new)) records p all.items) asked (among h start records (walked h) (read h records are)),
   )
-  listed_from G old mid new prefix Are looks count read (Err error) why =
-      no_listing G old new prefix error (subst (λ (n : Option Namespace). (error ≡ no_list.Memory) ⊎ IsRefusedPrefix n prefix error) looks.same.namespace why)
-
-  -- what was read for a prefix is held for it, as it is lent
-  pub read_for : (old mid : Store F) (prefix : List ℕ) (found : Option Buffer) (lent : Option (Bor Buffer)) (records : List Record) → LooksUp honest means old mid →
-      option_copied lent ≡ found → IsReadFor old prefix found records → AreHeldFor mid prefix lent records
-  read_for old mid prefix found None records looks value is = subst (λ (f : Option Buffer). IsReadFor old prefix f records) (sym value) is
-  read_for old mid prefix found (Some r) records looks value is =
-      subst (λ (x : Settings). HoldsFor (buffer_kind r.now) (key_in x prefix) records (buffer_text r.now)) (same_settings old mid looks.same)
-      (subst (λ (f : Option Buffer). IsReadFor old prefix f records) (sym value) is)
+  listed_from G start old new prefix names Are taken asked walked read (Err error) why = no_listing G start new prefix error (inl why)

@@ -171,8 +171,7 @@ module _ (settings : Settings) (view : View) (composed : AreComposed settings vi
     -- a file that holds no target reads a fault; and one that is there could not be read only where a call of files failed
     fault_of : (honest : Type 0) → honest → (before now : ℕ) (name key path : List ℕ) (e : Error) → s.place key ≡ path → name ≡ key → IsSome (view path) → IsUnread honest settings.kind s view before now name path e →
         IsReadingFault s before now key (reads key) e
-    fault_of honest h before now name key path (ReadFileContents (file_error source) p) at named there (inl failed) = (failed.0, failed.2 ∙ sym at)
-    fault_of honest h before now name key path (ReadFileContents (file_error source) p) at named there (inr gone) = absurd (none_there (subst (λ (f : Option (List ℕ)). IsSome f) (gone.0 h) there))
+    fault_of honest h before now name key path (ReadFileContents (file_error source) p) at named there failed = (failed.0, failed.2 ∙ sym at)
     fault_of honest h before now name key path (ReadFileContents DeviceName p) at named there unread = (ap s.is_prohibited at ∙ unread.0, unread.1 ∙ sym at)
     fault_of honest h before now name key path Memory at named there unread = tt
     fault_of honest h before now name key path (Traversal source p) at named there unread = unread

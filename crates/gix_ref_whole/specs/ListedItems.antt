@@ -8,12 +8,13 @@ use Rattle.gix_ref_files.specs.Files.{Meaning, HasRisen}
 use Rattle.gix_ref_files.specs.declared.files.ReadAt.{Ghosts}
 use Rattle.gix_ref_records.specs.declared.raw.Reference.{Reference}
 use Rattle.gix_ref_listing.specs.Listings.{Listed}
-use Rattle.gix_ref_listing.specs.CleanPrefixes.{IsAcceptedPrefix, IsRefusedPrefix}
+use Rattle.gix_ref_listing.specs.CleanPrefixes.{IsAcceptedPrefix}
 use Rattle.gix_ref_listing.specs.WholeListings.{IsListing, IsNameItem}
 use Rattle.gix_ref_listing.specs.declared.error.Error.{Error}
+use Rattle.gix_ref_listing.specs.declared.list.LooseNames.{LooseNames}
 use Rattle.gix_ref_listing.specs.declared.prefix.Error.{Error as PrefixError}
 use Rattle.gix_ref_listing.specs.declared.prefix.Error.TheVariants.{Memory}
-use Rattle.gix_ref_store.specs.Listings.{AreFirst, IsNoListing, NextItem}
+use Rattle.gix_ref_store.specs.Listings.{AreFirst, IsNoListing, IsWalkedIn, NextItem, walked_prefix}
 use Rattle.gix_ref_store.specs.Lookup.{AreRecordsIn, settings_of, view_in}
 use Rattle.gix_ref_store.specs.Store.{files_of}
 use Rattle.gix_ref_store.specs.declared.file.iter.LooseThenPacked.{LooseThenPacked}
@@ -46,18 +47,18 @@ module _ {F : Type 0} (honest : Type 0) (means : F → Meaning) (faults : F → 
     pub first : AreFirst honest means faults (settings_of store)
         (view_in means store) before now listed [] items
 
-  -- A listing of a prefix of the store `start`, which leaves `new`, among the records that `Are` accepts: the items; or the prefix has no
-  -- listing, or there was no memory.
-  abbrev pub ListsAmong : (start new : Store F) → (prefix : List ℕ) → (Are : List Record → Type 0) →
+  -- A listing of the names that a walk found, in the store `old`, which leaves `new`, among the records that `Are` accepts: the items;
+  -- or there was no memory.
+  abbrev pub ListsAmong : (old new : Store F) → LooseNames → (Are : List Record → Type 0) →
       Result (Vec (Result Reference Error) Global) PrefixError → Type 0
-  ListsAmong start new prefix Are (Ok all) =
-      IsAcceptedPrefix start.namespace prefix
-      × (honest → (records : List Record) → Are records →
-      AreItemsIn start (faults (files_of start)) (faults (files_of new)) records prefix all.items)
-  ListsAmong start new prefix Are (Err error) = (error ≡ Memory)
-      ⊎ IsRefusedPrefix start.namespace prefix error
+  ListsAmong old new names Are (Ok all) =
+      honest → (start : Store F) (records : List Record) →
+      IsWalkedIn honest means faults start old names → Are records → AreItemsIn start
+      (faults (files_of start)) (faults (files_of new)) records (walked_prefix names) all.items
+  ListsAmong old new names Are (Err error) = error ≡ Memory
 
-  -- and a listing among the records of its `packed-refs`
+  -- A listing of a prefix of the store `start`, which leaves `new`, among the records of its `packed-refs`: the items; or why there is
+  -- none.
   abbrev pub ListsIn : {R : Type 0} (G : Ghosts R) → (start new : Store F) → (prefix : List ℕ) →
       Result (Vec (Result Reference Error) Global) PrefixError → Type 0
   ListsIn G start new prefix (Ok all) =

@@ -1,7 +1,7 @@
 //! A listing after a transaction.
 ghost use Rattle.std.specs.Prelude.{◌≡◌, ◌<◌, true, IfOk, IfErr};
 ghost use Rattle.gix_ref_packed.specs.OpenFiles.{HasReadFault};
-ghost use Rattle.gix_ref_store.specs.Listings.{AreHeldFor, items_ahead, store_listed};
+ghost use Rattle.gix_ref_store.specs.Listings.{AreHeldFor, items_ahead, store_listed, walked_prefix};
 ghost use Rattle.gix_ref_store.specs.Lookup.{LooksUp};
 ghost use Rattle.gix_ref_whole.specs.ListedItems.{TakesNext, GivesAll, ListsAmong, ListsIn};
 ghost use Rattle.gix_ref_whole.specs.WholeRuns.{ListsAfter, IsNotMade};
@@ -13,7 +13,7 @@ use gix_ref_files::files::Files;
 use gix_ref_log::actor::SignatureRef;
 use gix_ref_packed::packed::Buffer;
 use gix_ref_store::file::Store;
-use gix_ref_store::file::iter::{self, LooseThenPacked, loose_then_packed};
+use gix_ref_store::file::iter::{self, LooseNames, LooseThenPacked, loose_then_packed};
 use gix_ref_store::file::transaction::Done;
 use gix_ref_store::raw::Reference;
 use std::alloc::{AllocError, Global};
@@ -63,18 +63,18 @@ fn collect<F: Files>(
     Ok(all)
 }
 
-/// The items of the listing of a prefix, among the records of a buffer that was read for it.
+/// The items of the listing of the names that a walk found, among the records of a buffer that was read for their prefix.
 fn list_among<F: Files>(
     alloc: Global,
     store: &mut Store<F>,
-    prefix: &[u8],
+    names: LooseNames,
     packed: Option<&Buffer>,
 ) -> Result<Vec<Result<Reference, loose_then_packed::Error>>, iter::Error>
-    ensures lists { ListsAmong F.honest F.means F.faults store.old store.new prefix.now
-        (AreHeldFor store.old prefix.now packed.entry) result }
+    ensures lists { ListsAmong F.honest F.means F.faults store.old store.new names
+        (AreHeldFor store.old (walked_prefix names) packed.entry) result }
     ensures unchanged { LooksUp F.honest F.means store.old store.new }
 {
-    match store.iter_prefixed_packed(alloc, prefix, packed) {
+    match store.iter_walked(alloc, names, packed) {
         Ok(mut items) => {
             let all = collect(alloc, &mut items);
             items.into_store();
@@ -97,8 +97,12 @@ pub(crate) fn list<F: Files>(
         prefix.now result }
     ensures unchanged { LooksUp F.honest F.means store.old store.new }
 {
+    let names = match store.walk_prefixed(alloc, prefix) {
+        Ok(names) => names,
+        Err(error) => return Err(error),
+    };
     match store.open_packed_prefixed(alloc, prefix) {
-        Ok(packed) => list_among(alloc, store, prefix, packed.as_ref()),
+        Ok(packed) => list_among(alloc, store, names, packed.as_ref()),
         Err(error) => Err(iter::Error::PackedOpen(error)),
     }
 }
