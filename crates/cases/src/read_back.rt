@@ -1,5 +1,6 @@
 //! The verbs that commit and read what was committed: `make`, `make-then-find NAME`, `make-then-list PREFIX` and
-//! `make-then-read NAME PREFIX` print what `commit` does, and then what the lookup finds and what the listing gives.
+//! `make-then-read NAME PREFIX` print what `commit` does, and then what the lookup finds and what the listing gives. They use
+//! `packed-refs` as the case says, and find no object.
 //!
 //! `packed-commit` and `packed-rollback` give the edits to a transaction of `packed-refs` alone, whose lock is held, and which asks the
 //! objects of the case.
@@ -86,7 +87,8 @@ fn then_list(
     prefix: &[u8],
 ) -> Result<Said> {
     let alloc = world.alloc;
-    match commit_then_list(alloc, store, given, world.signature(), prefix) {
+    let mode = world.mode_without_objects();
+    match commit_then_list(alloc, store, mode, given, world.signature(), prefix) {
         Ok(listed) => {
             let said = outcome(alloc, "done", listed.done.locks_left.as_slice())?;
             with_items(alloc, said, listed.items)
@@ -99,7 +101,8 @@ fn then_list(
 fn then_find(world: &World, store: &mut Store<Memory>, given: Given, name: &[u8]) -> Result<Said> {
     let alloc = world.alloc;
     let name = PartialNameRef::try_from(name).context("a partial name")?;
-    match commit_then_find(alloc, store, given, world.signature(), name) {
+    let mode = world.mode_without_objects();
+    match commit_then_find(alloc, store, mode, given, world.signature(), name) {
         Ok(made) => {
             let said = outcome(alloc, "done", made.done.locks_left.as_slice())?;
             with_found(alloc, said, made.found)
@@ -118,7 +121,8 @@ fn then_read(
 ) -> Result<Said> {
     let alloc = world.alloc;
     let name = PartialNameRef::try_from(name).context("a partial name")?;
-    match commit_then_read(alloc, store, given, world.signature(), name, prefix) {
+    let mode = world.mode_without_objects();
+    match commit_then_read(alloc, store, mode, given, world.signature(), name, prefix) {
         Ok(made) => {
             let said = outcome(alloc, "done", made.done.locks_left.as_slice())?;
             let said = with_found(alloc, said, made.found)?;
@@ -130,8 +134,7 @@ fn then_read(
 
 /// Plays a verb that commits and reads.
 pub fn make_and_read(world: &mut World, texts: &Texts, word: &str, rest: &str) -> Result<Said> {
-    world.hold_no_mode(word)?;
-    let alloc = world.alloc;
+    let (alloc, mode) = (world.alloc, world.mode_without_objects());
     let (first, second) = split(rest);
     let (first, second) = (texts.text(first)?, texts.text(second)?);
     let given = world.take_edits();
@@ -146,7 +149,7 @@ pub fn make_and_read(world: &mut World, texts: &Texts, word: &str, rest: &str) -
             first.as_slice(),
             second.as_slice(),
         ),
-        _ => match make(alloc, &mut store, given, world.signature()) {
+        _ => match make(alloc, &mut store, mode, given, world.signature()) {
             Ok(done) => outcome(alloc, "done", done.locks_left.as_slice()),
             Err(error) => not_made(alloc, &error),
         },

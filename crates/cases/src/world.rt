@@ -22,6 +22,7 @@ use gix_ref_log::actor::{SignatureRef, Time};
 use gix_ref_memory::memory::Memory;
 use gix_ref_name::name::PartialNameRef;
 use gix_ref_name::namespace::{Namespace, expand};
+use gix_ref_object::object::Never;
 use gix_ref_store::file::Store;
 use gix_ref_store::file::transaction::PackedRefs;
 use gix_ref_store::store::{Options, WriteReflog};
@@ -206,6 +207,17 @@ impl World {
             }
         }
         Ok(())
+    }
+
+    /// The mode of a transaction, with a finder that finds no object.
+    pub fn mode_without_objects(&self) -> PackedRefs {
+        match self.packing {
+            Packing::Deletions => PackedRefs::DeletionsOnly,
+            Packing::Updates => PackedRefs::DeletionsAndNonSymbolicUpdates(Never),
+            Packing::UpdatesAlone => {
+                PackedRefs::DeletionsAndNonSymbolicUpdatesRemoveLooseSourceReference(Never)
+            }
+        }
     }
 
     /// Fails where updates are to be packed: a verb of this name has no mode.

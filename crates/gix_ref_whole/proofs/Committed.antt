@@ -1,6 +1,7 @@
 -- What a store reads after a commit, and what a lookup finds then.
 use Rattle.std.proofs.Common.{◌≡◌, ◌≢◌, inl, inr, ⊎_elim, ℕ, Bool, true, false, List, [], ◌∷◌, refl, sym, ◌∙◌, ap, subst, Option, Some, None, Result, IfOk, IfErr, ◌&&◌, bytes_eq, if◌then◌else◌}
 use Rattle.gix_ref_hash.specs.declared.hash.Kind.{Kind}
+use Rattle.gix_ref_hash.specs.declared.hash.ObjectId.{ObjectId}
 use Rattle.gix_ref_base.specs.PackedRecords.{Record}
 use Rattle.gix_ref_files.specs.Disk.{Disk, Lost}
 use Rattle.gix_ref_files.specs.Files.{Meaning}
@@ -11,8 +12,7 @@ use Rattle.gix_ref_files.specs.declared.files.ReadAt.{Ghosts}
 use Rattle.gix_ref_files.proofs.Moments.{joins, loses_joins, loses_weaken, weaken}
 use Rattle.gix_ref_files.proofs.Settling.{lost_holds}
 use Rattle.gix_ref_theory.specs.Between.{IsCommitted}
-use Rattle.gix_ref_theory.specs.Edits.{edited_reading, new_reading}
-use Rattle.gix_ref_theory.specs.Edits.Mode.{DeletionsOnly}
+use Rattle.gix_ref_theory.specs.Edits.{Mode, edited_reading, new_reading}
 use Rattle.gix_ref_theory.specs.OnRealTrees.{view_of}
 use Rattle.gix_ref_theory.specs.Readings.{Store as Places, HasLaws, Reading, reading, reading_among, reading_by, records_of_file}
 use Rattle.gix_ref_theory.specs.Readings.Reading.{Fault}
@@ -22,6 +22,7 @@ use Rattle.gix_ref_theory.proofs.PlaceLaws.{laws_hold}
 use Rattle.gix_ref_records.specs.declared.raw.Reference.{Reference}
 use Rattle.gix_ref_log.specs.declared.actor.SignatureRef.{SignatureRef}
 use Rattle.gix_ref_edits.specs.declared.transaction.RefEdit.{RefEdit}
+use Rattle.gix_ref_object.specs.Objects.{Stored}
 use Rattle.gix_ref_lookup.specs.Lookups.{ReturnsHit, ArePackedRecords, IsSound, lookup_of, name_asked}
 use Rattle.gix_ref_lookup.specs.StoreLayout.{git_options}
 use Rattle.gix_ref_lookup.specs.declared.find.error.Error.{Error as FindError}
@@ -52,18 +53,19 @@ use Rattle.gix_ref_commit.proofs.Alike.{are_same}
 use Rattle.gix_ref_store.specs.CommitLines.{extras_due, line_rules, lines_due}
 use Rattle.gix_ref_store.specs.CommitResult.{CommitsFrom, EveryLossFrom, EveryStopFrom, SettlesFrom, StaysGoodFrom}
 use Rattle.gix_ref_store.specs.Lookup.{LooksUp, AreRecordsIn, FindsAmong, MissesAmong, MissesIn, composes_in, settings_of, view_in}
-use Rattle.gix_ref_store.specs.Prepared.{HasGoodRecords, IsAtRest, disk_in, locks_in, places_in, tree_of}
+use Rattle.gix_ref_store.specs.Prepared.{HasGoodRecords, IsAtRest, PreparesGiven, disk_in, locks_in, places_in, tree_of}
 use Rattle.gix_ref_store.specs.Store.{files_of, folders, kind_of, meaning_of, IsSameStore}
 use Rattle.gix_ref_store.specs.declared.file.store.Store.{Store}
 use Rattle.gix_ref_store.proofs.Commits.{same_meaning, started}
 use Rattle.gix_ref_whole.specs.EditedReadings.{FailsAs, IsAskedFirst}
 use Rattle.gix_ref_whole.specs.FoundReferences.{FindsIn}
-use Rattle.gix_ref_whole.specs.Outside.{IsLock, IsOneOf}
-use Rattle.gix_ref_whole.specs.WholeRuns.{FindsEdited, HasFault, IsSameOutside, KeepsEdited, LossesOutside, Prepares, ReadsEdited, StopsOutside, reads_after}
+use Rattle.gix_ref_whole.specs.Outside.{AllPutReadable, IsLock, IsOneOf}
+use Rattle.gix_ref_whole.specs.WholeRuns.{FindsEdited, HasFault, IsSameOutside, KeepsEdited, LossesOutside, ReadsEdited, StopsOutside, reads_after}
 use Rattle.gix_ref_whole.proofs.DueLemmas.{all_count, lines_same}
 use Rattle.gix_ref_whole.proofs.FoundNames.{fails_as, found_as}
 use Rattle.gix_ref_whole.proofs.OutsideLemmas.{committed_outside, locking_outside, losses_outside, stops_outside, unlocked, unlost_outside}
 use Rattle.gix_ref_whole.proofs.PackedAgain.{computed}
+use Rattle.gix_ref_whole.proofs.ReadablePuts.{all_readable}
 use Rattle.gix_ref_store.proofs.SameStores.{same_on}
 
 -- log lines change no reading
@@ -106,8 +108,8 @@ module _ {F : Type 0} (honest : Type 0) (means : F → Meaning) (faults : F → 
       subst (λ (k : Kind). ArePackedRecords k (view_in means new (meaning_of new).packed_path) rs) (sym same.of_kind)
       (subst (λ (s : Places). ArePackedRecords (kind_of old) (view_in means new s.packed_path) rs) (sym (same_meaning old new same)) are)
 
-  module _ (old mid new : Store F) (given : List RefEdit) (committer : Option SignatureRef) (packed : Option Path) (held : List Edit) (left : List Path) (from : Prepares honest means faults old mid given packed held)
-      (stops : EveryStopFrom honest means faults mid new committer packed held left) where
+  module _ (claims : Type 0) (meaning : ObjectId → Stored) (mode : Mode) (old mid new : Store F) (given : List RefEdit) (committer : Option SignatureRef) (packed : Option Path) (held : List Edit) (left : List Path)
+      (from : PreparesGiven honest means faults claims meaning mode old mid given packed held) (stops : EveryStopFrom honest means faults mid new committer packed held left) where
     abbrev s : Places
     s = meaning_of old
 
@@ -115,9 +117,9 @@ module _ {F : Type 0} (honest : Type 0) (means : F → Meaning) (faults : F → 
     laws = laws_hold (folders old) (git_options (kind_of old) old.prohibit_windows_device_names) (folders_laid old.dirs old.namespace)
 
     -- a lock of the edits is none that is at `packed-refs`
-    packed_apart : is_in (locks_in means DeletionsOnly old from.split) s.packed_path ≡ false
-    packed_apart = is_false (is_in (locks_in means DeletionsOnly old from.split) s.packed_path)
-        (λ within. let l = own_is_lock (places_in means DeletionsOnly old from.split) s.packed_path (own_all s DeletionsOnly (tree_of means old) from.split s.packed_path within) in laws.packed_is_no_lock l.0 l.1)
+    packed_apart : is_in (locks_in means mode old from.split) s.packed_path ≡ false
+    packed_apart = is_false (is_in (locks_in means mode old from.split) s.packed_path)
+        (λ within. let l = own_is_lock (places_in means mode old from.split) s.packed_path (own_all s mode (tree_of means old) from.split s.packed_path within) in laws.packed_is_no_lock l.0 l.1)
 
     -- the edits that are returned carry what was found in the files before
     pub carried_before : honest → HasGoodRecords means old → (after : List RefEdit) → after ≡ updates held → AreCarried from.split (old_targets s (tree_of means old) from.split) after
@@ -126,75 +128,79 @@ module _ {F : Type 0} (honest : Type 0) (means : F → Meaning) (faults : F → 
         (subst (λ (was : List (Option TargetValue)). AreCarried from.split was (updates held)) (from.prepared.held.found h good) from.prepared.carried)
 
     -- a log of theirs is no lock
-    log_apart : (n : List ℕ) → s.is_reference n ≡ true → is_in (locks_in means DeletionsOnly old from.split) (s.log n) ≡ false
-    log_apart n is = is_false (is_in (locks_in means DeletionsOnly old from.split) (s.log n))
-        (λ within. let l = own_is_lock (places_in means DeletionsOnly old from.split) (s.log n) (own_all s DeletionsOnly (tree_of means old) from.split (s.log n) within) in laws.log_is_no_lock n l.0 is l.1)
+    log_apart : (n : List ℕ) → s.is_reference n ≡ true → is_in (locks_in means mode old from.split) (s.log n) ≡ false
+    log_apart n is = is_false (is_in (locks_in means mode old from.split) (s.log n))
+        (λ within. let l = own_is_lock (places_in means mode old from.split) (s.log n) (own_all s mode (tree_of means old) from.split (s.log n) within) in laws.log_is_no_lock n l.0 is l.1)
 
     -- so the lines that are due are so by the files before
     lines_before : honest → lines_due means mid committer held ≡ lines_due means old committer held
     lines_before h =
-        lines_same (λ (q : Path). is_in (locks_in means DeletionsOnly old from.split) q ≡ false) (line_rules mid committer) (asked held) (view_in means mid) (view_in means old)
-        (λ q apart. same_view file_of refl (locks_in means DeletionsOnly old from.split) (locks_in means DeletionsOnly old from.split) (tree_of means old) (tree_of means mid) q (from.prepared.held.adds h) apart)
-        (all_count (λ (q : Path). is_in (locks_in means DeletionsOnly old from.split) q ≡ false) (line_rules mid committer) s (same_meaning old mid from.prepared.held.same) log_apart from.split held 0
+        lines_same (λ (q : Path). is_in (locks_in means mode old from.split) q ≡ false) (line_rules mid committer) (asked held) (view_in means mid) (view_in means old)
+        (λ q apart. same_view file_of refl (locks_in means mode old from.split) (locks_in means mode old from.split) (tree_of means old) (tree_of means mid) q (from.prepared.held.adds h) apart)
+        (all_count (λ (q : Path). is_in (locks_in means mode old from.split) q ≡ false) (line_rules mid committer) s (same_meaning old mid from.prepared.held.same) log_apart from.split held 0
         (are_same from.split from.prepared.was (updates held) from.prepared.carried)
         (references (folders old) (git_options (kind_of old) old.prohibit_windows_device_names) (folders_laid old.dirs old.namespace) (kind_of old) [] from.split from.prepared.held.valid))
         ∙ ap (λ (r : LogRules). due_lines r (view_in means old) (asked held)) (rules_same old mid committer from.prepared.held.same)
 
-    pub committed_before : CommitsFrom honest means faults mid new committer packed held left → honest → HasGoodRecords means old → AreCommitted s DeletionsOnly from.split (extras_due means old committer held) (tree_of means old) left (tree_of means new)
+    pub committed_before : CommitsFrom honest means faults mid new committer packed held left → honest → HasGoodRecords means old → AreCommitted s mode from.split (extras_due means old committer held) (tree_of means old) left (tree_of means new)
     committed_before commits h good =
-        subst (λ (extras : List Extra). AreCommitted s DeletionsOnly from.split extras (tree_of means old) left (tree_of means new)) (ap (λ (lines : List (Option (List ℕ))). with_ends lines held) (lines_before h)) (commits old DeletionsOnly from.split from.prepared h good)
+        subst (λ (extras : List Extra). AreCommitted s mode from.split extras (tree_of means old) left (tree_of means new)) (ap (λ (lines : List (Option (List ℕ))). with_ends lines held) (lines_before h)) (commits old mode from.split from.prepared h good)
+
+    -- what they put can be read again
+    puts : AllPutReadable s mode (kind_of old) (with_extras from.split (extras_due means mid committer held))
+    puts = all_readable s mode (kind_of old) from.split held (are_same from.split from.prepared.was (updates held) from.prepared.carried) from.prepared.puts from.prepared.can_be_put (lines_due means mid committer held)
 
     -- at every stop inside the `prepare` and the commit
-    pub stops_same : honest → HasGoodRecords means old → StopsOutside honest means faults old new from.split
+    pub stops_same : honest → HasGoodRecords means old → StopsOutside honest means faults mode old new from.split
     stops_same h good = joins
-        (weaken (from.prepared.held.leaves h) (λ T adds. locking_outside (folders old) (kind_of old) old.prohibit_windows_device_names (locks_in means DeletionsOnly old from.split) (tree_of means old) T packed_apart adds))
-        (weaken ((stops old DeletionsOnly from.split from.prepared).leaves h)
-        (λ T well. stops_outside (folders old) (kind_of old) old.prohibit_windows_device_names from.split (extras_due means mid committer held) (tree_of means old) T good (well good)))
+        (weaken (from.prepared.held.leaves h) (λ T adds. locking_outside (folders old) (kind_of old) old.prohibit_windows_device_names (locks_in means mode old from.split) (tree_of means old) T packed_apart adds))
+        (weaken ((stops old mode from.split from.prepared).leaves h)
+        (λ T well. stops_outside (folders old) (kind_of old) old.prohibit_windows_device_names mode from.split (extras_due means mid committer held) (tree_of means old) T good puts (well good)))
 
     -- and after every loss of power inside them
     pub losses_same : EveryLossFrom honest means faults mid new committer packed held → honest → HasGoodRecords means old → IsAtRest means old → LossesOutside honest means faults old new
     losses_same lost h good at_rest = loses_joins
         (loses_weaken (from.prepared.lost h).loses
-        (λ T spoken. unlost_outside (folders old) (kind_of old) old.prohibit_windows_device_names (places_in means DeletionsOnly old from.split) (disk_in means old) T laws.packed_is_no_lock at_rest.0 spoken))
-        (loses_weaken (lost old DeletionsOnly from.split from.prepared h good at_rest).loses
-        (λ T well. losses_outside (folders old) (kind_of old) old.prohibit_windows_device_names from.split (extras_due means mid committer held) (disk_in means mid) (tree_of means old) T good
-        (started honest means faults DeletionsOnly old mid committer from.split packed held from.prepared h at_rest).0 well))
+        (λ T spoken. unlost_outside (folders old) (kind_of old) old.prohibit_windows_device_names (places_in means mode old from.split) (disk_in means old) T laws.packed_is_no_lock at_rest.0 spoken))
+        (loses_weaken (lost old mode from.split from.prepared h good at_rest).loses
+        (λ T well. losses_outside (folders old) (kind_of old) old.prohibit_windows_device_names mode from.split (extras_due means mid committer held) (disk_in means mid) (tree_of means old) T good puts
+        (started honest means faults mode old mid committer from.split packed held from.prepared h at_rest).0 well))
 
     module _ (same : IsSameStore old new) (commits : CommitsFrom honest means faults mid new committer packed held left) (stays : StaysGoodFrom honest means faults mid new packed held) where
-      committed : honest → HasGoodRecords means old → IsCommitted s DeletionsOnly (s.packed_path ∷ places_of s from.split) (with_extras from.split (extras_due means mid committer held)) (view_in means old) (view_in means new)
+      committed : honest → HasGoodRecords means old → IsCommitted s mode (s.packed_path ∷ places_of s from.split) (with_extras from.split (extras_due means mid committer held)) (view_in means old) (view_in means new)
       committed h good =
-          commits old DeletionsOnly from.split from.prepared h good (s.packed_path ∷ places_of s from.split)
-          (λ q within. own_possible s from.split q ((stops old DeletionsOnly from.split from.prepared).ours q within))
+          commits old mode from.split from.prepared h good (s.packed_path ∷ places_of s from.split)
+          (λ q within. own_possible s from.split q ((stops old mode from.split from.prepared).ours q within))
 
       -- the locks that stay are locks
       are_locks : (q : Path) → is_in left q ≡ true → IsLock q
-      are_locks q within = own_is_lock (s.packed_path ∷ places_of s from.split) q (own_possible s from.split q ((stops old DeletionsOnly from.split from.prepared).ours q within))
+      are_locks q within = own_is_lock (s.packed_path ∷ places_of s from.split) q (own_possible s from.split q ((stops old mode from.split from.prepared).ours q within))
 
       -- of these places
       named : (places : List Path) × ((q : Path) → is_in left q ≡ true → IsOwnLock places q) × ((q : Path) → IsOwnLock places q → is_in left q ≡ true)
       named = unlocked left are_locks
 
-      pub made : ReadsEdited honest means faults old new given left
+      pub made : ReadsEdited honest means faults mode old new given left
       made = record {
         split = from.split;
         splits = from.splits;
-        good = λ h good. stays old DeletionsOnly from.split from.prepared h good;
+        good = λ h good. stays old mode from.split from.prepared h good;
         reads = λ h good name is.
             (committed h good).readings name is ∙ without_lines s from.split (extras_due means mid committer held) name (reading s (view_in means old) name);
         named = are_locks;
         outside = λ h good.
-            committed_outside (folders old) (kind_of old) old.prohibit_windows_device_names (with_extras from.split (extras_due means mid committer held)) named.0 (IsOneOf left) named.2 (tree_of means old) good.0 good.1 (tree_of means new)
-            (commits old DeletionsOnly from.split from.prepared h good named.0 named.1);
+            committed_outside (folders old) (kind_of old) old.prohibit_windows_device_names mode (with_extras from.split (extras_due means mid committer held)) named.0 (IsOneOf left) named.2 (tree_of means old) good.0 good.1 puts (tree_of means new)
+            (commits old mode from.split from.prepared h good named.0 named.1);
         stops = stops_same;
       }
 
       -- and it is kept, where the commit leaves all at rest
-      pub keeps : SettlesFrom honest means faults mid new packed held → EveryLossFrom honest means faults mid new committer packed held → KeepsEdited honest means faults old new given left
+      pub keeps : SettlesFrom honest means faults mid new packed held → EveryLossFrom honest means faults mid new committer packed held → KeepsEdited honest means faults mode old new given left
       keeps settles losses = record {
         made = made;
-        rests = λ h at_rest. settles old DeletionsOnly from.split from.prepared h at_rest;
+        rests = λ h at_rest. settles old mode from.split from.prepared h at_rest;
         kept = λ h good at_rest T lost name is.
-            lost_reading s laws (disk_in means new) T (settles old DeletionsOnly from.split from.prepared h at_rest).0 lost name is ∙ made.reads h good name is;
+            lost_reading s laws (disk_in means new) T (settles old mode from.split from.prepared h at_rest).0 lost name is ∙ made.reads h good name is;
         losses = losses_same losses;
       }
 
@@ -209,7 +215,7 @@ module _ {F : Type 0} (honest : Type 0) (means : F → Meaning) (faults : F → 
       subst (λ (s : Places). ArePackedRecords (kind_of old) (view_in means new s.packed_path) rs) (same_meaning old new same)
       (subst (λ (k : Kind). ArePackedRecords k (view_in means new (meaning_of new).packed_path) rs) same.of_kind are)
 
-  module _ (old mid new : Store F) (given : List RefEdit) (left : List Path) (made : ReadsEdited honest means faults old mid given left) (same : IsSameStore old mid) (looks : LooksUp honest means mid new) where
+  module _ (mode : Mode) (old mid new : Store F) (given : List RefEdit) (left : List Path) (made : ReadsEdited honest means faults mode old mid given left) (same : IsSameStore old mid) (looks : LooksUp honest means mid new) where
     view_is : honest → view_in means new ≡ view_in means mid
     view_is h = ap view_of (looks.leaves h).tree
 
@@ -223,7 +229,7 @@ module _ {F : Type 0} (honest : Type 0) (means : F → Meaning) (faults : F → 
         (again.0, subst (λ (v : View). ArePackedRecords (kind_of old) (v (meaning_of old).packed_path) again.0) (sym (view_is h)) (packed_back old mid same again.0 again.1))
 
     -- a call that only looks up leaves what the commit made
-    pub still_made : ReadsEdited honest means faults old new given left
+    pub still_made : ReadsEdited honest means faults mode old new given left
     still_made = record {
       split = made.split;
       splits = made.splits;
@@ -233,7 +239,7 @@ module _ {F : Type 0} (honest : Type 0) (means : F → Meaning) (faults : F → 
       named = made.named;
       outside = λ h good. subst (IsSameOutside honest means faults old (IsOneOf left)) (sym (looks.leaves h).tree) (made.outside h good);
       stops = λ h good.
-          joins (made.stops h good) (weaken (looks.leaves h) (λ T is. subst (IsSameOutside honest means faults old (IsOneOf (locks_in means DeletionsOnly old made.split))) (sym is) (made.stops h good).tree));
+          joins (made.stops h good) (weaken (looks.leaves h) (λ T is. subst (IsSameOutside honest means faults old (IsOneOf (locks_in means mode old made.split))) (sym is) (made.stops h good).tree));
     }
 
     pub still_split : still_made.split ≡ made.split
@@ -260,7 +266,7 @@ module _ {F : Type 0} (honest : Type 0) (means : F → Meaning) (faults : F → 
           fails_as G honest h (settings_of mid) (tree_of means mid) rs are (faults (files_of mid)) (faults (files_of new)) name (composes_in true mid) asked.first
           (ap (λ (b : Bool). name_asked (b && true) name) same.composes ∙ asked.composed) reads (reads_left h rs reads is) e sound fails
 
-      pub found_edited : FindsEdited honest means faults G old mid new given left name found
+      pub found_edited : FindsEdited honest means faults G mode old mid new given left name found
       unfolding still_made records_left
       found_edited = record {
         made = still_made;

@@ -14,6 +14,7 @@ use Rattle.gix_ref_files.specs.declared.files.ReadAt.{Ghosts}
 use Rattle.gix_ref_files.specs.Tree.{Path, Tree}
 use Rattle.gix_ref_files.proofs.Moments.{starts}
 use Rattle.gix_ref_records.specs.declared.raw.Reference.{Reference}
+use Rattle.gix_ref_theory.specs.Edits.{Mode}
 use Rattle.gix_ref_theory.specs.Lookups.{is_there}
 use Rattle.gix_ref_theory.specs.OnRealTrees.{view_of}
 use Rattle.gix_ref_theory.specs.Readings.{Store as Places, Reading, reading_among}
@@ -201,9 +202,9 @@ module _ {F : Type 0} (honest : Type 0) (means : F → Meaning) (faults : F → 
   begins_on name prefix front (rest, is) (more, begins) = (more ++ rest, is ∙ (ap (λ p. p ++ rest) begins ∙ append_assoc front more rest))
 
   -- the items by what each reference reads as edited
-  names_edited : (old mid new : Store F) (given : List RefEdit) (left : List Path) (made : ReadsEdited honest means faults old mid given left) → IsSameStore old mid → LooksUp honest means mid new → (prefix : List ℕ) (items : List (Result Reference Error)) →
+  names_edited : (mode : Mode) (old mid new : Store F) (given : List RefEdit) (left : List Path) (made : ReadsEdited honest means faults mode old mid given left) → IsSameStore old mid → LooksUp honest means mid new → (prefix : List ℕ) (items : List (Result Reference Error)) →
       (honest → (records : List Record) → AreRecordsIn means mid records → AreItemsIn honest means faults mid (faults (files_of mid)) (faults (files_of new)) records prefix items) → ListsNames honest means faults old mid new made.split prefix items
-  names_edited old mid new given left made same looks prefix items are h good below composed no_folder =
+  names_edited mode old mid new given left made same looks prefix items are h good below composed no_folder =
       let again = made.good h good in
       let before = faults (files_of mid) in
       let now = faults (files_of new) in
@@ -222,20 +223,20 @@ module _ {F : Type 0} (honest : Type 0) (means : F → Meaning) (faults : F → 
       (all_names (settings_of mid) (view_in means mid) items before now all.listed all.first no_folder) honest h means faults now items before all.first)
 
   -- and so as the result of a listing
-  pub listed_edited : {R : Type 0} (G : Ghosts R) (old mid new : Store F) (given : List RefEdit) (left : List Path) → ReadsEdited honest means faults old mid given left → IsSameStore old mid → LooksUp honest means mid new → (prefix : List ℕ) →
-      (r : Result (Vec (Result Reference Error) Global) PrefixError) → ListsIn honest means faults G mid new prefix r → ListsEdited honest means faults G old mid new given left prefix r
-  listed_edited G old mid new given left made same looks prefix r listing = record {
-    made = still_made honest means faults old mid new given left made same looks;
+  pub listed_edited : {R : Type 0} (G : Ghosts R) (mode : Mode) (old mid new : Store F) (given : List RefEdit) (left : List Path) → ReadsEdited honest means faults mode old mid given left → IsSameStore old mid → LooksUp honest means mid new → (prefix : List ℕ) →
+      (r : Result (Vec (Result Reference Error) Global) PrefixError) → ListsIn honest means faults G mid new prefix r → ListsEdited honest means faults G mode old mid new given left prefix r
+  listed_edited G mode old mid new given left made same looks prefix r listing = record {
+    made = still_made honest means faults mode old mid new given left made same looks;
     listing = listing;
     changes = looks;
     lists = by r listing;
   }
     where
       by : (r : Result (Vec (Result Reference Error) Global) PrefixError) → ListsIn honest means faults G mid new prefix r →
-          IfOk r (λ all. ListsNames honest means faults old mid new (still_made honest means faults old mid new given left made same looks).split prefix all.items)
+          IfOk r (λ all. ListsNames honest means faults old mid new (still_made honest means faults mode old mid new given left made same looks).split prefix all.items)
       by (Ok all) listing =
-          subst (λ (split : List RefEdit). ListsNames honest means faults old mid new split prefix all.items) (sym (still_split honest means faults old mid new given left made same looks))
-          (names_edited old mid new given left made same looks prefix all.items listing.1)
+          subst (λ (split : List RefEdit). ListsNames honest means faults old mid new split prefix all.items) (sym (still_split honest means faults mode old mid new given left made same looks))
+          (names_edited mode old mid new given left made same looks prefix all.items listing.1)
       by (Err e) listing = tt
 
   -- a prefix without a listing

@@ -7,3 +7,4 @@ pub mod Namespaces
 pub mod OutsideLemmas
 pub mod OwnPlaces
 pub mod PackedAgain
+pub mod ReadablePuts

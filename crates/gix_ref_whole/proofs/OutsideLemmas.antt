@@ -16,8 +16,7 @@ use Rattle.gix_ref_lookup.specs.Lookups.{ArePackedRecords}
 use Rattle.gix_ref_lookup.specs.StoreLayout.{git_options}
 use Rattle.gix_ref_theory.specs.Between.{IsBetween, IsCommitted, MergesRecords, IsOther, IsPackedFile}
 use Rattle.gix_ref_theory.specs.ConcreteStore.{Options, store_of}
-use Rattle.gix_ref_theory.specs.Edits.{Edit, alters_packed, file_of_records, is_key, merged_record, edited_record}
-use Rattle.gix_ref_theory.specs.Edits.Mode.{DeletionsOnly}
+use Rattle.gix_ref_theory.specs.Edits.{Edit, Mode, alters_packed, file_of_records, is_key, merged_record, edited_record}
 use Rattle.gix_ref_theory.specs.Losses.{IsLostBetween}
 use Rattle.gix_ref_theory.specs.OnDisks.{IsSpokenOf}
 use Rattle.gix_ref_theory.specs.OnRealTrees.{view_of}
@@ -31,7 +30,7 @@ use Rattle.gix_ref_transaction.specs.PrepareSteps.{own_locks, own_places}
 use Rattle.gix_ref_transaction.proofs.Adds.{any_cases, any_right, clash, in_here, in_one, is_false, same_path, same_view}
 use Rattle.gix_ref_transaction.proofs.LockRounds.{own_all, owned_all}
 use Rattle.gix_ref_commit.specs.LogEffects.{with_extras}
-use Rattle.gix_ref_whole.specs.Outside.{EveryLossLeavesTheOutside, EveryStopLeavesTheOutside, IsKeyInside, IsLock, IsLogInside, IsOneOf, IsOutside, IsPlaceInside, KeysLieInTheNamespace, LogsLieInTheNamespace, OutsideIsAsBefore, OwnLocksAreLocks, PlacesLieInside, ReadingsOutsideStay, TheseLocksAreLocks}
+use Rattle.gix_ref_whole.specs.Outside.{AllPutReadable, EveryLossLeavesTheOutside, EveryStopLeavesTheOutside, IsKeyInside, IsLock, IsLogInside, IsOneOf, IsOutside, IsPlaceInside, KeysLieInTheNamespace, LogsLieInTheNamespace, OutsideIsAsBefore, OwnLocksAreLocks, PlacesLieInside, ReadingsOutsideStay, TheseLocksAreLocks}
 use Rattle.gix_ref_whole.proofs.PackedAgain.{read_again}
 
 -- ---- the table
@@ -120,51 +119,51 @@ module _ (f : Layout) (k : Kind) (prohibits : Bool) where
   }
 
   -- the record of a key that no edit has stays
-  merged_same : (edits : List Edit) (key : List ℕ) (old : Option Record) → (IsKeyInside f key → ⊥) → merged_record git DeletionsOnly edits key old ≡ old
-  merged_same [] key old out = refl
-  merged_same (e ∷ edits) key old out =
-      cond-false (e.and_reference && is_key (git.key e.name) key) (edited_record DeletionsOnly key e e.change old) (merged_record git DeletionsOnly edits key old)
+  merged_same : (mode : Mode) (edits : List Edit) (key : List ℕ) (old : Option Record) → (IsKeyInside f key → ⊥) → merged_record git mode edits key old ≡ old
+  merged_same mode [] key old out = refl
+  merged_same mode (e ∷ edits) key old out =
+      cond-false (e.and_reference && is_key (git.key e.name) key) (edited_record mode key e e.change old) (merged_record git mode edits key old)
       (and_false e.and_reference (is_key (git.key e.name) key) (not_key (git.key e.name) key (λ is. out (keys_inside f (git_options k prohibits) e.name key is))))
-      ∙ merged_same edits key old out
+      ∙ merged_same mode edits key old out
 
-  records_outside : (edits : List Edit) (old new : Option (List ℕ)) (rs : List Record) → ArePackedRecords k old rs → IsPackedFile git DeletionsOnly edits old new → (key : List ℕ) → (IsKeyInside f key → ⊥) →
+  records_outside : (mode : Mode) (edits : List Edit) (old new : Option (List ℕ)) (rs : List Record) → ArePackedRecords k old rs → AllPutReadable git mode k edits → IsPackedFile git mode edits old new → (key : List ℕ) → (IsKeyInside f key → ⊥) →
       record_named key (records_of_file git new) ≡ record_named key (records_of_file git old)
-  records_outside edits old new rs are file key out = go (alters_packed git DeletionsOnly (records_of_file git old) edits) file
+  records_outside mode edits old new rs are puts file key out = go (alters_packed git mode (records_of_file git old) edits) file
     where
-      go : (b : Bool) → MatchBool b ((merged : List Record) × MergesRecords git DeletionsOnly edits (records_of_file git old) merged × (new ≡ file_of_records git merged)) (new ≡ old) →
+      go : (b : Bool) → MatchBool b ((merged : List Record) × MergesRecords git mode edits (records_of_file git old) merged × (new ≡ file_of_records git merged)) (new ≡ old) →
           record_named key (records_of_file git new) ≡ record_named key (records_of_file git old)
       go false same = ap (λ (n : Option (List ℕ)). record_named key (records_of_file git n)) same
       go true (merged, m, is) =
           ap (λ (n : Option (List ℕ)). record_named key (records_of_file git n)) is
-          ∙ (ap (record_named key) (read_again f k prohibits edits old rs merged are m)
-          ∙ (m.each key ∙ merged_same edits key (record_named key (records_of_file git old)) out))
+          ∙ (ap (record_named key) (read_again f k prohibits mode edits old rs merged are puts m)
+          ∙ (m.each key ∙ merged_same mode edits key (record_named key (records_of_file git old)) out))
 
-  module _ (edits : List Edit) (locked : List Path) (Excepted : Path → Type 0) (named : (q : Path) → IsOwnLock locked q → Excepted q) (before : Tree) (rs : List Record) (are : ArePackedRecords k (view_of before git.packed_path) rs) (T : Tree) where
+  module _ (mode : Mode) (edits : List Edit) (locked : List Path) (Excepted : Path → Type 0) (named : (q : Path) → IsOwnLock locked q → Excepted q) (before : Tree) (rs : List Record) (are : ArePackedRecords k (view_of before git.packed_path) rs) (puts : AllPutReadable git mode k edits) (T : Tree) where
     -- after a commit
-    pub committed_outside : IsCommitted git DeletionsOnly locked edits (view_of before) (view_of T) → OutsideIsAsBefore f git Excepted before T
+    pub committed_outside : IsCommitted git mode locked edits (view_of before) (view_of T) → OutsideIsAsBefore f git Excepted before T
     committed_outside c = record {
       files = λ path out. c.others path (outside_is_other locked Excepted edits path named out);
-      records = λ key out. records_outside edits (view_of before git.packed_path) (view_of T git.packed_path) rs are c.packed key out;
+      records = λ key out. records_outside mode edits (view_of before git.packed_path) (view_of T git.packed_path) rs are puts c.packed key out;
     }
 
     -- and at a stop inside it
-    pub between_outside : IsBetween git DeletionsOnly locked edits (view_of before) (view_of T) → OutsideIsAsBefore f git Excepted before T
+    pub between_outside : IsBetween git mode locked edits (view_of before) (view_of T) → OutsideIsAsBefore f git Excepted before T
     between_outside b = record {
       files = λ path out. b.others path (outside_is_other locked Excepted edits path named out);
       records = λ key out. ⊎_elim
           (λ same. ap (λ (n : Option (List ℕ)). record_named key (records_of_file git n)) same)
-          (λ file. records_outside edits (view_of before git.packed_path) (view_of T git.packed_path) rs are file key out)
+          (λ file. records_outside mode edits (view_of before git.packed_path) (view_of T git.packed_path) rs are puts file key out)
           b.packed;
     }
 
   -- after a loss of power inside it
-  pub lost_outside : (edits : List Edit) (locked : List Path) (D : Disk) (before : Tree) (rs : List Record) → ArePackedRecords k (view_of before git.packed_path) rs → (T : Tree) → IsAllSettled D →
-      IsLostBetween git DeletionsOnly locked edits D (view_of before) (view_of T) → OutsideIsAsBefore f git IsLock before T
-  lost_outside edits locked D before rs are T settled b = record {
+  pub lost_outside : (mode : Mode) (edits : List Edit) (locked : List Path) (D : Disk) (before : Tree) (rs : List Record) → ArePackedRecords k (view_of before git.packed_path) rs → AllPutReadable git mode k edits → (T : Tree) → IsAllSettled D →
+      IsLostBetween git mode locked edits D (view_of before) (view_of T) → OutsideIsAsBefore f git IsLock before T
+  lost_outside mode edits locked D before rs are puts T settled b = record {
     files = λ path out. b.others path (outside_is_other locked IsLock edits path (own_is_lock locked) out) (settled path (λ p is. out.not_excepted (p, is)));
     records = λ key out. ⊎_elim
         (λ same. ap (λ (n : Option (List ℕ)). record_named key (records_of_file git n)) same)
-        (λ file. records_outside edits (view_of before git.packed_path) (view_of T git.packed_path) rs are file key out)
+        (λ file. records_outside mode edits (view_of before git.packed_path) (view_of T git.packed_path) rs are puts file key out)
         b.packed;
   }
 
@@ -187,13 +186,13 @@ module _ (f : Layout) (k : Kind) (prohibits : Bool) where
     }
 
 pub stops_outside : EveryStopLeavesTheOutside
-stops_outside f k prohibits edits lines before T good well =
+stops_outside f k prohibits mode edits extras before T good puts well =
     let s : Store = store_of f (git_options k prohibits) in
-    between_outside f k prohibits (with_extras edits lines) (own_places s DeletionsOnly before edits) (IsOneOf (own_locks s DeletionsOnly before edits)) (owned_all s DeletionsOnly before edits) before good.0 good.1 T well.between
+    between_outside f k prohibits mode (with_extras edits extras) (own_places s mode before edits) (IsOneOf (own_locks s mode before edits)) (owned_all s mode before edits) before good.0 good.1 puts T well.between
 
 pub losses_outside : EveryLossLeavesTheOutside
-losses_outside f k prohibits edits lines D before T good settled well =
-    lost_outside f k prohibits (with_extras edits lines) (own_places (store_of f (git_options k prohibits)) DeletionsOnly before edits) D before good.0 good.1 T settled well.between
+losses_outside f k prohibits mode edits extras D before T good puts settled well =
+    lost_outside f k prohibits mode (with_extras edits extras) (own_places (store_of f (git_options k prohibits)) mode before edits) D before good.0 good.1 puts T settled well.between
 
 pub own_are_locks : OwnLocksAreLocks
 own_are_locks s mode T edits q within = own_is_lock (own_places s mode T edits) q (own_all s mode T edits q within)

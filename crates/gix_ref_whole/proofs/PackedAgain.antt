@@ -1,11 +1,11 @@
 -- Merged records are those of their file.
-use Rattle.std.proofs.Common.{◌≡◌, ◌⊎◌, ◌&&◌, inl, inr, ℕ, suc, Bool, true, false, List, [], ◌∷◌, refl, sym, ◌∙◌, ap, subst, arith, Option, Some, None, cond, bytes_eq}
+use Rattle.std.proofs.Common.{◌≡◌, ◌⊎◌, ◌&&◌, inl, inr, ⊎_elim, ℕ, suc, Bool, true, false, List, [], ◌∷◌, refl, sym, ◌∙◌, ap, subst, arith, Option, Some, None, cond, bytes_eq}
 use Rattle.std.specs.Prelude.{AllPairs}
 use Rattle.std.specs.List.{All}
 use Rattle.std.specs.Cmp.Lexicographic.{slice_cmp}
 use Rattle.std.specs.Ordering.{nat_cmp, is_eq, ordering_reverse}
 use Rattle.std.specs.declared.cmp.Ordering.TheVariants.{Less}
-use Rattle.std.proofs.lemmas.Bool.{cond-true, cond-false, cases_Bool}
+use Rattle.std.proofs.lemmas.Bool.{cond-true, cond-false, cases_Bool, true≢false}
 use Rattle.std.proofs.lemmas.Cmp.{nat_list_cmp_total}
 use Rattle.std.proofs.lemmas.Map.Text.{is_eq-slice_cmp}
 use Rattle.std.proofs.lemmas.Slice.Eq.{bytes_eq-Decides}
@@ -21,35 +21,49 @@ use Rattle.gix_ref_packed.proofs.RecordsOfText.{records_computed}
 use Rattle.gix_ref_rewrite.proofs.OutcomeLemmas.{well_formed}
 use Rattle.gix_ref_lookup.specs.Lookups.{ArePackedRecords}
 use Rattle.gix_ref_lookup.specs.StoreLayout.{git_options}
-use Rattle.gix_ref_theory.specs.Between.{MergesRecords}
+use Rattle.gix_ref_theory.specs.Between.{IsEdit, MergesRecords}
 use Rattle.gix_ref_theory.specs.ConcreteStore.{store_of}
-use Rattle.gix_ref_theory.specs.Edits.{Edit, Change, merged_record, edited_record, file_of_records, is_key}
+use Rattle.gix_ref_theory.specs.Edits.{Edit, Change, Mode, merged_record, edited_record, file_of_records, is_key}
 use Rattle.gix_ref_theory.specs.Edits.Change.{Update, Delete}
-use Rattle.gix_ref_theory.specs.Edits.Mode.{DeletionsOnly}
+use Rattle.gix_ref_theory.specs.Edits.Mode.{DeletionsOnly, Packing, PackingAndRemoving}
 use Rattle.gix_ref_theory.specs.Readings.{Store, records_of_file}
 use Rattle.gix_ref_rewrite.proofs.OutcomeLemmas.{records_read}
+use Rattle.gix_ref_whole.specs.Outside.{AllPutReadable}
 
 -- ---- the records that are left
 
 no_record : (r : Record) → None ≡ Some r → ⊥
 no_record r is = cc
 
--- an edit leaves the record of a key as it was, or removes it
-one_kept : (key : List ℕ) (e : Edit) (change : Change) (old : Option Record) (r : Record) → edited_record DeletionsOnly key e change old ≡ Some r → old ≡ Some r
-one_kept key e Delete old r is = absurd (no_record r is)
-one_kept key e (Update (symbolic_name name)) old r is = is
-one_kept key e (Update (object_id id)) old r is = is
+-- an edit leaves the record of a key as it was, removes it, or puts the one that it puts where there was none
+one_left : (mode : Mode) (key : List ℕ) (e : Edit) (change : Change) (old : Option Record) (r : Record) → edited_record mode key e change old ≡ Some r → (edited_record mode key e change None ≡ Some r) ⊎ (old ≡ Some r)
+one_left mode key e Delete old r is = absurd (no_record r is)
+one_left mode key e (Update (symbolic_name name)) old r is = inr is
+one_left DeletionsOnly key e (Update (object_id id)) old r is = inr is
+one_left Packing key e (Update (object_id id)) old r is = inl is
+one_left PackingAndRemoving key e (Update (object_id id)) old r is = inl is
 
-either : (b : Bool) (x y old : Option Record) (r : Record) → (x ≡ Some r → old ≡ Some r) → (y ≡ Some r → old ≡ Some r) → cond b x y ≡ Some r → old ≡ Some r
-either true x y old r first second is = first is
-either false x y old r first second is = second is
+key_is : (own : Option (List ℕ)) (key : List ℕ) → is_key own key ≡ true → own ≡ Some key
+key_is None key is = absurd (true≢false (sym is))
+key_is (Some name) key is = ap Some ((bytes_eq-Decides name key).0 is)
+
+both : (a b : Bool) → (a && b) ≡ true → (a ≡ true) × (b ≡ true)
+both true b is = (refl, is)
+both false b is = absurd (true≢false (sym is))
 
 -- and so all of them
-all_kept : (s : Store) (edits : List Edit) (key : List ℕ) (old : Option Record) (r : Record) → merged_record s DeletionsOnly edits key old ≡ Some r → old ≡ Some r
-all_kept s [] key old r is = is
-all_kept s (e ∷ edits) key old r is =
-    either (e.and_reference && is_key (s.key e.name) key) (edited_record DeletionsOnly key e e.change old) (merged_record s DeletionsOnly edits key old) old r
-    (one_kept key e e.change old r) (all_kept s edits key old r) is
+all_left : (P : Record → Type 0) (s : Store) (mode : Mode) (edits : List Edit) (key : List ℕ) (old : Option Record) (r : Record) →
+    ((e : Edit) → IsEdit e edits → e.and_reference ≡ true → s.key e.name ≡ Some key → edited_record mode key e e.change None ≡ Some r → P r) → (old ≡ Some r → P r) →
+    merged_record s mode edits key old ≡ Some r → P r
+all_left P s mode [] key old r put kept is = kept is
+all_left P s mode (e ∷ edits) key old r put kept is =
+    by (e.and_reference && is_key (s.key e.name) key) refl is (all_left P s mode edits key old r (λ f within. put f (inr within)) kept)
+  where
+    by : (b : Bool) → (e.and_reference && is_key (s.key e.name) key) ≡ b → cond b (edited_record mode key e e.change old) (merged_record s mode edits key old) ≡ Some r → (merged_record s mode edits key old ≡ Some r → P r) → P r
+    by true here is later =
+        let at = both e.and_reference (is_key (s.key e.name) key) here in
+        ⊎_elim (put e (inl refl) at.0 (key_is (s.key e.name) key at.1)) kept (one_left mode key e e.change old r is)
+    by false other is later = later is
 
 -- ---- records found by their names
 
@@ -108,18 +122,19 @@ module _ (f : Layout) (k : Kind) (prohibits : Bool) where
   readable None rs are = subst (All (IsReadable k)) (sym are) (All-nil (IsReadable k))
   readable (Some text) rs are = let whole = are.1.whole in records_read k whole.0 rs whole.2
 
-  -- merged records can be read
-  merged_read : (edits : List Edit) (old new : List Record) → MergesRecords git DeletionsOnly edits old new → All (IsReadable k) old → All (IsReadable k) new
-  merged_read edits old new m all =
+  -- merged records can be read, where those that are put can
+  merged_read : (mode : Mode) (edits : List Edit) (old new : List Record) → MergesRecords git mode edits old new → AllPutReadable git mode k edits → All (IsReadable k) old → All (IsReadable k) new
+  merged_read mode edits old new m puts all =
       all_found (IsReadable k) new (pairs_ascend new m.ascending)
-      (λ key r is. found_one (IsReadable k) key old r all (all_kept git edits key (record_named key old) r (sym (m.each key) ∙ is)))
+      (λ key r is. all_left (IsReadable k) git mode edits key (record_named key old) r (λ e within. puts e within key r) (found_one (IsReadable k) key old r all) (sym (m.each key) ∙ is))
 
   merged_has : (merged : List Record) → AllPairs (λ (r later : Record). slice_cmp nat_cmp r.name later.name ≡ Less) merged → All (IsReadable k) merged → ArePackedRecords k (file_of_records git merged) merged
   merged_has [] m all = refl
   merged_has (r ∷ rs) m all = (Some written_header, well_formed k (r ∷ rs) (pairs_ascend (r ∷ rs) m) all)
 
   -- merged records are those of their file
-  pub read_again : (edits : List Edit) (old : Option (List ℕ)) (rs merged : List Record) → ArePackedRecords k old rs → MergesRecords git DeletionsOnly edits (records_of_file git old) merged → records_of_file git (file_of_records git merged) ≡ merged
-  read_again edits old rs merged are m =
+  pub read_again : (mode : Mode) (edits : List Edit) (old : Option (List ℕ)) (rs merged : List Record) → ArePackedRecords k old rs → AllPutReadable git mode k edits → MergesRecords git mode edits (records_of_file git old) merged →
+      records_of_file git (file_of_records git merged) ≡ merged
+  read_again mode edits old rs merged are puts m =
       computed (file_of_records git merged) merged
-      (merged_has merged m.ascending (merged_read edits (records_of_file git old) merged m (subst (All (IsReadable k)) (sym (computed old rs are)) (readable old rs are))))
+      (merged_has merged m.ascending (merged_read mode edits (records_of_file git old) merged m puts (subst (All (IsReadable k)) (sym (computed old rs are)) (readable old rs are))))

@@ -1,15 +1,17 @@
 -- What lies outside of the namespace of a store, and that it is as before (`gitnamespaces`).
-use Rattle.std.specs.Prelude.{◌≡◌, ◌≢◌, ◌⊎◌, ℕ, List, ◌++◌, Bool, true, Some, codes}
+use Rattle.std.specs.Prelude.{◌≡◌, ◌≢◌, ◌⊎◌, ℕ, List, ◌++◌, Bool, true, Some, None, codes}
 use Rattle.gix_ref_hash.specs.Bytes.{BeginsWith, NoByte}
 use Rattle.gix_ref_hash.specs.declared.hash.Kind.{Kind}
 use Rattle.gix_ref_base.specs.Layout.{IsLayout, Layout, below, linked_log, packed_refs}
-use Rattle.gix_ref_base.specs.PackedRecords.{record_named}
+use Rattle.gix_ref_base.specs.PackedRecords.{Record, record_named}
 use Rattle.gix_ref_files.specs.Disk.{Disk}
 use Rattle.gix_ref_files.specs.Lock.{lock_of}
 use Rattle.gix_ref_files.specs.Settled.{IsAllSettled}
 use Rattle.gix_ref_files.specs.Tree.{Tree, Path}
+use Rattle.gix_ref_records.specs.Positions.{IsReadable}
+use Rattle.gix_ref_theory.specs.Between.{IsEdit}
 use Rattle.gix_ref_theory.specs.ConcreteStore.{Options, store_of}
-use Rattle.gix_ref_theory.specs.Edits.{Mode}
+use Rattle.gix_ref_theory.specs.Edits.{Edit, Mode, edited_record}
 use Rattle.gix_ref_theory.specs.Edits.Mode.{DeletionsOnly}
 use Rattle.gix_ref_theory.specs.Losses.{IsLostWell}
 use Rattle.gix_ref_theory.specs.OnRealTrees.{view_of}
@@ -81,25 +83,42 @@ abbrev pub KeysLieInTheNamespace : Type 0
 KeysLieInTheNamespace = (f : Layout) (o : Options) (name key : List ℕ) →
     (store_of f o).key name ≡ Some key → IsKeyInside f key
 
+-- What an edit puts into `packed-refs`, if it puts a record there, can be read again: its name is a full one, and its ids are of the kind.
+abbrev pub PutsReadable : Store → Mode → Kind → Edit → Type 0
+PutsReadable s mode kind e = (key : List ℕ) (r : Record) → e.and_reference ≡ true →
+    s.key e.name ≡ Some key → edited_record mode key e e.change None ≡ Some r → IsReadable kind r
+
+-- and so with each of these edits
+abbrev pub AllPutReadable : Store → Mode → Kind → List Edit → Type 0
+AllPutReadable s mode kind edits = (e : Edit) → IsEdit e edits → PutsReadable s mode kind e
+
+-- Where `packed-refs` changes for deletions alone, no edit puts a record there.
+abbrev pub DeletionsPutNothing : Type 0
+DeletionsPutNothing = (s : Store) (kind : Kind) (edits : List Edit) →
+    AllPutReadable s DeletionsOnly kind edits
+
 -- Where each reference is as before or as edited, as at a stop inside a commit, all outside of the namespace is as before, but for the
--- locks of the transaction.
+-- locks of the transaction. In each mode, where the records that are put can be read again.
 abbrev pub EveryStopLeavesTheOutside : Type 0
 EveryStopLeavesTheOutside =
-    (f : Layout) (k : Kind) (prohibits : Bool) (edits : List RefEdit)
+    (f : Layout) (k : Kind) (prohibits : Bool) (mode : Mode) (edits : List RefEdit)
     (extras : List Extra) (before T : Tree) →
     IsPackedWell k (view_of before (packed_refs f)) →
-    IsOldOrNew (store_of f (git_options k prohibits)) DeletionsOnly edits extras before T →
+    AllPutReadable (store_of f (git_options k prohibits)) mode k (with_extras edits extras) →
+    IsOldOrNew (store_of f (git_options k prohibits)) mode edits extras before T →
     OutsideIsAsBefore f (store_of f (git_options k prohibits))
-    (IsOneOf (own_locks (store_of f (git_options k prohibits)) DeletionsOnly before edits)) before T
+    (IsOneOf (own_locks (store_of f (git_options k prohibits)) mode before edits)) before T
 
 -- And so after a loss of power inside a commit that began on a settled disk D, but for locks.
 abbrev pub EveryLossLeavesTheOutside : Type 0
 EveryLossLeavesTheOutside =
-    (f : Layout) (k : Kind) (prohibits : Bool) (edits : List RefEdit)
+    (f : Layout) (k : Kind) (prohibits : Bool) (mode : Mode) (edits : List RefEdit)
     (extras : List Extra) (D : Disk) (before T : Tree) →
-    IsPackedWell k (view_of before (packed_refs f)) → IsAllSettled D →
-    IsLostWell (store_of f (git_options k prohibits)) DeletionsOnly
-    (own_places (store_of f (git_options k prohibits)) DeletionsOnly before edits)
+    IsPackedWell k (view_of before (packed_refs f)) →
+    AllPutReadable (store_of f (git_options k prohibits)) mode k (with_extras edits extras) →
+    IsAllSettled D →
+    IsLostWell (store_of f (git_options k prohibits)) mode
+    (own_places (store_of f (git_options k prohibits)) mode before edits)
     (with_extras edits extras) D before T →
     OutsideIsAsBefore f (store_of f (git_options k prohibits)) IsLock before T
 

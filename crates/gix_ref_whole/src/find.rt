@@ -12,7 +12,7 @@ use gix_ref_log::actor::SignatureRef;
 use gix_ref_name::name::PartialNameRef;
 use gix_ref_store::file::Store;
 use gix_ref_store::file::find::existing;
-use gix_ref_store::file::transaction::Done;
+use gix_ref_store::file::transaction::{Done, PackedRefs};
 use gix_ref_store::raw::Reference;
 use std::alloc::Global;
 
@@ -32,16 +32,19 @@ pub struct Found {
 pub fn commit_then_find<F: Files>(
     alloc: Global,
     store: &mut Store<F>,
+    packed_refs: PackedRefs,
     edits: Vec<RefEdit>,
     committer: Option<SignatureRef<'_>>,
     name: PartialNameRef<'_>,
 ) -> Result<Found, Error>
-    ensures found { IfOk result (λ r. FindsAfter F.honest F.means F.faults F.Reader.ReadAt store.old
-        store.new committer.entry edits.items r.done (partial_ref_bytes name.entry) r.found) }
-    ensures not_made { IfErr result (IsNotMade F.honest F.means F.faults
-        (HasReadFault F.Reader.faults) store.old store.new committer.entry edits.items) }
+    ensures found { IfOk result (λ r. FindsAfter F.honest F.means F.faults packed_refs
+        F.Reader.ReadAt store.old store.new committer.entry edits.items
+        r.done (partial_ref_bytes name.entry) r.found) }
+    ensures not_made { IfErr result (IsNotMade F.honest F.means F.faults packed_refs
+        (HasReadFault F.Reader.faults) store.old store.new
+        committer.entry edits.items) }
 {
-    match make(alloc, store, edits, committer) {
+    match make(alloc, store, packed_refs, edits, committer) {
         Ok(done) => {
             let found = store.find(alloc, name);
             Ok(Found { done, found })

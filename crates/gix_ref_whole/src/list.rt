@@ -14,7 +14,7 @@ use gix_ref_log::actor::SignatureRef;
 use gix_ref_packed::packed::Buffer;
 use gix_ref_store::file::Store;
 use gix_ref_store::file::iter::{self, LooseNames, LooseThenPacked, loose_then_packed};
-use gix_ref_store::file::transaction::Done;
+use gix_ref_store::file::transaction::{Done, PackedRefs};
 use gix_ref_store::raw::Reference;
 use std::alloc::{AllocError, Global};
 
@@ -115,16 +115,19 @@ pub(crate) fn list<F: Files>(
 pub fn commit_then_list<F: Files>(
     alloc: Global,
     store: &mut Store<F>,
+    packed_refs: PackedRefs,
     edits: Vec<RefEdit>,
     committer: Option<SignatureRef<'_>>,
     prefix: &[u8],
 ) -> Result<Listed, Error>
-    ensures listed { IfOk result (λ r. ListsAfter F.honest F.means F.faults F.Reader.ReadAt
-        store.old store.new committer.entry edits.items r.done prefix.now r.items) }
-    ensures not_made { IfErr result (IsNotMade F.honest F.means F.faults
-        (HasReadFault F.Reader.faults) store.old store.new committer.entry edits.items) }
+    ensures listed { IfOk result (λ r. ListsAfter F.honest F.means F.faults packed_refs
+        F.Reader.ReadAt store.old store.new committer.entry edits.items
+        r.done prefix.now r.items) }
+    ensures not_made { IfErr result (IsNotMade F.honest F.means F.faults packed_refs
+        (HasReadFault F.Reader.faults) store.old store.new
+        committer.entry edits.items) }
 {
-    match make(alloc, store, edits, committer) {
+    match make(alloc, store, packed_refs, edits, committer) {
         Ok(done) => {
             let items = list(alloc, store, prefix);
             Ok(Listed { done, items })

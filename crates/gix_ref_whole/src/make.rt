@@ -9,26 +9,34 @@ use gix_ref_edits::transaction::RefEdit;
 use gix_ref_files::files::Files;
 use gix_ref_log::actor::SignatureRef;
 use gix_ref_store::file::Store;
-use gix_ref_store::file::transaction::Done;
+use gix_ref_store::file::transaction::{Done, PackedRefs};
 use std::alloc::Global;
 
-/// Prepares the edits and commits them: each reference then reads as edited, and does so after every later loss of power. Returns what
-/// `Prepared::commit` returns: the edits as they were prepared, and the locks that could not be removed.
+/// Prepares the edits and commits them, with this use of `packed-refs`: each reference then reads as edited, and does so after every
+/// later loss of power. Returns what `Prepared::commit` returns: the edits as they were prepared, the use of `packed-refs` as it was
+/// given, and the locks that could not be removed.
 ///
-/// `Prepare` where the edits are refused, and `Commit` where their commit fails.
+/// `Prepare` where the edits are refused, and `Commit` where their commit fails; both hand the use of `packed-refs` back. Its finder finds
+/// no object, so an edit that would put one into `packed-refs` is refused.
 pub fn make<F: Files>(
     alloc: Global,
     store: &mut Store<F>,
+    packed_refs: PackedRefs,
     edits: Vec<RefEdit>,
     committer: Option<SignatureRef<'_>>,
 ) -> Result<Done, Error>
-    ensures made { IfOk result
-        (MakesEdited F.honest F.means F.faults store.old store.new committer.entry edits.items) }
-    ensures not_made { IfErr result (IsNotMade F.honest F.means F.faults
-        (HasReadFault F.Reader.faults) store.old store.new committer.entry edits.items) }
+    ensures made { IfOk result (MakesEdited F.honest F.means F.faults packed_refs
+        store.old store.new committer.entry edits.items) }
+    ensures not_made { IfErr result (IsNotMade F.honest F.means F.faults packed_refs
+        (HasReadFault F.Reader.faults) store.old store.new
+        committer.entry edits.items) }
     ensures same { IsSameStore store.old store.new }
 {
-    match store.transaction().prepare(alloc, edits) {
+    match store
+        .transaction()
+        .packed_refs(packed_refs)
+        .prepare(alloc, edits)
+    {
         Err(refused) => Err(Error::Prepare(refused)),
         Ok(prepared) => match prepared.commit(alloc, committer) {
             Err(failed) => Err(Error::Commit(failed)),

@@ -14,7 +14,7 @@ use gix_ref_name::name::PartialNameRef;
 use gix_ref_store::file::Store;
 use gix_ref_store::file::find::existing;
 use gix_ref_store::file::iter::{self, loose_then_packed};
-use gix_ref_store::file::transaction::Done;
+use gix_ref_store::file::transaction::{Done, PackedRefs};
 use gix_ref_store::raw::Reference;
 use std::alloc::Global;
 
@@ -36,18 +36,20 @@ pub struct Read {
 pub fn commit_then_read<F: Files>(
     alloc: Global,
     store: &mut Store<F>,
+    packed_refs: PackedRefs,
     edits: Vec<RefEdit>,
     committer: Option<SignatureRef<'_>>,
     name: PartialNameRef<'_>,
     prefix: &[u8],
 ) -> Result<Read, Error>
-    ensures read { IfOk result (λ r. ReadsAfter F.honest F.means F.faults F.Reader.ReadAt store.old
-        store.new committer.entry edits.items r.done
-        (partial_ref_bytes name.entry) prefix.now r.found r.items) }
-    ensures not_made { IfErr result (IsNotMade F.honest F.means F.faults
-        (HasReadFault F.Reader.faults) store.old store.new committer.entry edits.items) }
+    ensures read { IfOk result (λ r. ReadsAfter F.honest F.means F.faults packed_refs
+        F.Reader.ReadAt store.old store.new committer.entry edits.items
+        r.done (partial_ref_bytes name.entry) prefix.now r.found r.items) }
+    ensures not_made { IfErr result (IsNotMade F.honest F.means F.faults packed_refs
+        (HasReadFault F.Reader.faults) store.old store.new
+        committer.entry edits.items) }
 {
-    match make(alloc, store, edits, committer) {
+    match make(alloc, store, packed_refs, edits, committer) {
         Ok(done) => {
             let found = store.find(alloc, name);
             let items = list(alloc, store, prefix);

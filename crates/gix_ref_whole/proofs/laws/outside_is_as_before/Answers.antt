@@ -1,5 +1,6 @@
 use Rattle.gix_ref_whole.proofs.Namespaces.{others_stay}
 use Rattle.gix_ref_whole.proofs.OutsideLemmas.{keys_inside, logs_inside, losses_outside, own_are_locks, places_inside, readings_stay, stops_outside, these_are_locks}
+use Rattle.gix_ref_whole.proofs.ReadablePuts.{nothing_put}
 use Rattle.gix_ref_whole.proofs.laws.outside_is_as_before.Goals as goal
 
 pub returns-clause-places : goal.returns-clause-places
@@ -10,6 +11,9 @@ returns-clause-logs c = logs_inside
 
 pub returns-clause-keys : goal.returns-clause-keys
 returns-clause-keys c = keys_inside
+
+pub returns-clause-deletions : goal.returns-clause-deletions
+returns-clause-deletions c = nothing_put
 
 pub returns-clause-stops : goal.returns-clause-stops
 returns-clause-stops c = stops_outside
