@@ -139,7 +139,7 @@ pub fn kind_of(word: &str) -> LineKind {
         "let" | "repeat" => LineKind::Name,
         ">" | "then" | "gone" | "has-folder" | "no-folder" | "calls" | "lose" => LineKind::After,
         "each" => LineKind::Each,
-        "readings" | "|" | "logs-of" | "may" => LineKind::Disturbed,
+        "readings" | "|" | "logs-of" | "between" | "may" => LineKind::Disturbed,
         _ => LineKind::Before,
     }
 }

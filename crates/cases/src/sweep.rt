@@ -10,6 +10,7 @@
 //! - `each allocation`: `bin/refuse-allocations` refuses each allocation of memory in turn
 //! - `readings NAME ..`, and rows `| TARGET ..`: what these references read then, `absent` where they do not exist: the first row before
 //!   the verb, and the others after each step of it, in their order
+//! - `between PATH TEXT`: what a file may hold between two transactions of a script
 //! - `logs-of PATH ..`: the log of each step, or several joined by `+`, or `-`: it is whole where the step is done
 //! - `may OUTCOME`: the beginning of what is printed after a fault. Each comes, and no others, unless all is done
 //!
@@ -42,6 +43,18 @@ struct Sweep<'l> {
     before: Tree,
     after: &'l Tree,
     bits: u64,
+}
+
+/// The numbers of the rows that were seen, a bit for each.
+#[derive(Clone, Copy)]
+struct Rows {
+    after_stops: u64,
+    after_losses: u64,
+}
+
+/// The bit of a row.
+fn bit_of(row: usize) -> u64 {
+    1u64.rotate_left((row % 64) as u32)
 }
 
 /// What came of a disturbed verb.
@@ -144,12 +157,29 @@ impl<'l> Sweep<'l> {
         }
     }
 
+    /// Whether a file may hold this between two transactions.
+    fn is_between(&self, path: &[u8], text: Option<&[u8]>) -> Result<bool> {
+        for line in self.lines {
+            if let Some(rest) = line.as_str().strip_prefix("between ") {
+                let (written, held) = split(rest);
+                let held = self.texts.text(held)?;
+                if path_of(self.alloc, self.texts, written)?.as_slice() == path
+                    && text == Some(held.as_slice())
+                {
+                    return Ok(true);
+                }
+            }
+        }
+        Ok(false)
+    }
+
     /// Holds each file to what it may be.
     fn hold_files(&self, tree: &Tree, lost: bool) -> Result<()> {
         let known = self.before.files().iter().chain(self.after.files());
         for file in known.chain(tree.files()) {
             let path = file.path.as_slice();
-            if !self.may_hold(path, tree.text_at(path), lost) {
+            let text = tree.text_at(path);
+            if !self.may_hold(path, text, lost) && !self.is_between(path, text)? {
                 bail!("{} is neither as before nor as after", path.as_bstr())
             }
         }
@@ -230,7 +260,8 @@ impl<'l> Sweep<'l> {
     }
 
     /// Losses of power after this plan, with so many single changes kept; of one that was done, only the last row shows.
-    fn losses(&self, plan: Plan, bits: u64, done: bool) -> Result<()> {
+    fn losses(&self, plan: Plan, bits: u64, done: bool) -> Result<u64> {
+        let mut seen = 0u64;
         for at in 0..bits.saturating_add(2) {
             let mut came = self.disturbed(plan)?;
             came.world
@@ -244,19 +275,21 @@ impl<'l> Sweep<'l> {
             if done && row != self.last_row() {
                 bail!("a loss of power undid what was done")
             }
+            seen |= bit_of(row);
         }
-        Ok(())
+        Ok(seen)
     }
 
     /// One stop, and losses of power after it; the number of the row.
-    fn stop(&self, call: u64, parts: usize, bits: u64) -> Result<usize> {
+    fn stop(&self, rows: &mut Rows, call: u64, parts: usize, bits: u64) -> Result<usize> {
         let plan = Plan::Stops(call, parts);
         let mut came = self.disturbed(plan)?;
         let row = self.hold(&mut came.world, false)?;
         if is_done(&came.said) && row != self.last_row() {
             bail!("done, and not all is there")
         }
-        self.losses(plan, bits, false)?;
+        rows.after_stops |= bit_of(row);
+        rows.after_losses |= self.losses(plan, bits, false)?;
         Ok(row)
     }
 
@@ -268,14 +301,20 @@ impl<'l> Sweep<'l> {
     }
 
     /// Stops in a call after each number of parts up to this one, or after none, one and all where the others leave the same.
-    fn stops_up_to(&self, call: u64, all: usize, at_least: usize) -> Result<usize> {
+    fn stops_up_to(
+        &self,
+        rows: &mut Rows,
+        call: u64,
+        all: usize,
+        at_least: usize,
+    ) -> Result<usize> {
         let mut least = at_least;
         let has_parts = self.has_parts(call, all)?;
         for parts in 0..all.saturating_add(1) {
             let is_edge = parts < 2 || parts == all;
             if has_parts || is_edge {
                 let bits = if is_edge { self.bits } else { 7 };
-                let row = self.stop(call, parts, bits)?;
+                let row = self.stop(rows, call, parts, bits)?;
                 if row < least {
                     bail!("call {call}, {parts} parts: row {row} after row {least}")
                 }
@@ -286,21 +325,50 @@ impl<'l> Sweep<'l> {
     }
 
     /// Stops in a call after each of these numbers of parts.
-    fn stops_in(&self, call: u64, numbers: &str, at_least: usize) -> Result<usize> {
+    fn stops_in(
+        &self,
+        rows: &mut Rows,
+        call: u64,
+        numbers: &str,
+        at_least: usize,
+    ) -> Result<usize> {
         if let Some(all) = numbers.strip_prefix("0-") {
             let all = usize::try_from(number(all)?).context("a number")?;
-            return self.stops_up_to(call, all, at_least);
+            return self.stops_up_to(rows, call, all, at_least);
         }
         let mut least = at_least;
         for parts in numbers.split(' ') {
             let parts = usize::try_from(number(parts)?).context("a number")?;
-            let row = self.stop(call, parts, self.bits)?;
+            let row = self.stop(rows, call, parts, self.bits)?;
             if row < least {
                 bail!("call {call}, {parts} parts: row {row} after row {least}")
             }
             least = row;
         }
         Ok(least)
+    }
+
+    /// Stops in each call, and losses of power after them. Each row shows after some stop, and after some loss.
+    fn stops(&self, calls: u64, numbers: &str) -> Result<()> {
+        let mut rows = Rows {
+            after_stops: 0,
+            after_losses: 0,
+        };
+        let mut least = 0usize;
+        for call in 1..calls.saturating_add(1) {
+            least = self
+                .stops_in(&mut rows, call, numbers, least)
+                .with_context(|| "a stop")?;
+        }
+        for row in 0..self.last_row().saturating_add(1) {
+            if rows.after_stops & bit_of(row) == 0 {
+                bail!("row {row} shows after no stop")
+            }
+            if rows.after_losses & bit_of(row) == 0 {
+                bail!("row {row} shows after no loss of power")
+            }
+        }
+        Ok(())
     }
 
     /// Holds what was printed after a fault: which of the outcomes of the case it is.
@@ -378,13 +446,13 @@ impl<'l> Sweep<'l> {
         for call in 1..calls.saturating_add(1) {
             let outcome = self.fault(call).with_context(|| "a fault")?;
             if let Some(at) = outcome {
-                seen |= 1u64.rotate_left((at % 64) as u32);
+                seen |= bit_of(at as usize);
             }
         }
         let mut at = 0u32;
         for line in self.lines {
             if line.as_str().starts_with("may ") {
-                if seen & 1u64.rotate_left(at % 64) == 0 {
+                if seen & bit_of(at as usize) == 0 {
                     bail!("never: {line}")
                 }
                 at = at.saturating_add(1);
@@ -503,12 +571,7 @@ pub fn sweep_case(alloc: Global, texts: &Texts, lines: &[String], after: &Tree) 
         sweep.losses(Plan::Runs, sweep.bits, true)?;
     }
     if let Some(numbers) = stops {
-        let mut least = 0usize;
-        for call in 1..calls.saturating_add(1) {
-            least = sweep
-                .stops_in(call, numbers, least)
-                .with_context(|| "a stop")?;
-        }
+        sweep.stops(calls, numbers)?;
     }
     if faults.is_some() {
         sweep.faults(calls)?;

@@ -7,3 +7,8 @@ pub mod ItemLemmas
 pub mod Listing
 pub mod ListLoop
 pub mod LentLines
+pub mod Writing
+pub mod ScriptWords
+pub mod ScriptEdits
+pub mod ScriptLoop
+pub mod ScriptRuns

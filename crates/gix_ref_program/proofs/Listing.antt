@@ -18,7 +18,7 @@ use Rattle.gix_ref_store.specs.declared.file.iter.LooseThenPacked.{LooseThenPack
 use Rattle.gix_ref_store.specs.declared.file.iter.Remaining.{Remaining}
 use Rattle.gix_ref_program.specs.ListPrinting.{PrintsAll}
 use Rattle.gix_ref_program.specs.Runs.{Ran, Prints, AreListed, ListRan, ListRanAmong}
-use Rattle.gix_ref_program.specs.Runs.Ran.{Said, Listed, Logged}
+use Rattle.gix_ref_program.specs.Runs.Ran.{Said, Listed, Logged, Scripted}
 use Rattle.gix_ref_program.specs.declared.outcome.Outcome.TheVariants as outcomes
 use Rattle.gix_ref_program.specs.declared.refusal.Refusal.TheVariants as refusals
 
@@ -91,8 +91,11 @@ module _ {F : Type 0} (honest : Type 0) (means : F → Meaning) (faults : F → 
   listed_from G start old new prefix names Are taken asked walked read (Said (outcomes.Refused (refusals.Find error) locks)) ran = absurd ran
   listed_from G start old new prefix names Are taken asked walked read (Said (outcomes.Refused (refusals.Log error) locks)) ran = absurd ran
   listed_from G start old new prefix names Are taken asked walked read (Said (outcomes.Refused refusals.NotFound locks)) ran = absurd ran
+  listed_from G start old new prefix names Are taken asked walked read (Said (outcomes.Refused refusals.ReadFileContents locks)) ran = absurd ran
+  listed_from G start old new prefix names Are taken asked walked read (Said (outcomes.Refused refusals.WrongLine locks)) ran = absurd ran
   listed_from G start old new prefix names Are taken asked walked read (Said (outcomes.Refused refusals.Memory locks)) ran = absurd ran
   listed_from G start old new prefix names Are taken asked walked read (Logged whole items) ran = absurd ran
+  listed_from G start old new prefix names Are taken asked walked read (Scripted end said) ran = absurd ran
 
   -- one look after another
   pub looks_on : (old mid new : Store F) → LooksUp honest means old mid → LooksUp honest means mid new → LooksUp honest means old new

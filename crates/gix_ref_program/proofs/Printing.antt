@@ -4,14 +4,12 @@ use Rattle.std.specs.Prelude.{IfOk, OnOk}
 use Rattle.std.specs.Iterator.Runs.{WholeRun}
 use Rattle.std.specs.Io.KnownBytes.{Appends}
 use Rattle.gix_ref_grammar.specs.NameGrammar.{full_error}
-use Rattle.gix_ref_hash.specs.declared.hash.Kind.{Kind}
 use Rattle.gix_ref_files.specs.Files.{Meaning}
 use Rattle.gix_ref_files.specs.Tree.{Content, is_file, bytes_of}
 use Rattle.gix_ref_files.specs.declared.files.ReadAt.{Ghosts}
 use Rattle.gix_ref_log.specs.LogItems.{IsRun, items_from}
 use Rattle.gix_ref_log.specs.LogWindows.{NextStep}
 use Rattle.gix_ref_log.specs.declared.log.iter.backward.Reverse.{Reverse}
-use Rattle.gix_ref_log.specs.declared.actor.SignatureRef.{SignatureRef}
 use Rattle.gix_ref_reflog.specs.declared.error.Error.{Error as LogError}
 use Rattle.gix_ref_reflog.specs.declared.error.Error.TheVariants as log_errors
 use Rattle.gix_ref_store.specs.Reflogs.{reflog_at, ReadsBackward, EndsAtErrors, IsNoReverse, IsNoReflog}
@@ -19,17 +17,9 @@ use Rattle.gix_ref_store.specs.declared.file.store.Store.{Store}
 use Rattle.gix_ref_program.specs.LogPrinting.{log_text}
 use Rattle.gix_ref_program.specs.Printed.{items_status}
 use Rattle.gix_ref_program.specs.Outcomes.{printed, status_of}
-use Rattle.gix_ref_program.specs.Words.{Asked}
-use Rattle.gix_ref_object.specs.declared.object.Never.{Never}
-use Rattle.gix_ref_transaction.specs.declared.packing.PackedRefs.{PackedRefs}
-use Rattle.gix_ref_program.specs.Runs.{Ran, Prints, LogRan, UpdateOutcome, NoEdit}
+use Rattle.gix_ref_program.specs.Runs.{Ran, Prints, LogRan}
 use Rattle.gix_ref_program.specs.Runs.Ran.{Said, Logged}
 use Rattle.gix_ref_program.specs.declared.outcome.Outcome.{Outcome}
-use Rattle.gix_ref_program.specs.declared.outcome.Outcome.TheVariants as outcomes
-use Rattle.gix_ref_program.specs.declared.refusal.Refusal.{Refusal}
-use Rattle.gix_ref_program.specs.declared.refusal.Refusal.TheVariants as refusals
-use Rattle.std.specs.Prelude.{Vec}
-use Rattle.std.specs.declared.alloc.Global.{Global}
 
 -- an outcome is printed as a whole
 pub said : {E : Type 0} (Does : Ran → Type 0) (out now : Option (List ℕ)) (status : Result ℕ E) (outcome : Outcome) → Does (Said outcome) →
@@ -59,18 +49,6 @@ logged G honest means old new name lines out now (Ok s) full reads ends ran =
     }
 logged G honest means old new name lines out now (Err e) full reads ends ran =
     record { ran = Logged false []; does = (full, λ h. inr ((reads h).0, λ never. absurd (cc)), _); prints = _ }
-
--- an update that has no edit
-pub no_edit : {F : Type 0} (honest : Type 0) (means : F → Meaning) (faults : F → ℕ) (uses : PackedRefs Never) (read : Type 0) (store : Store F) (committer : Option SignatureRef) (kind : Kind) (message : Option (List ℕ)) (asked : Asked) (refusal : Refusal) (locks : Vec (Vec ℕ Global) Global) →
-    NoEdit asked refusal → locks.items ≡ [] → UpdateOutcome honest means faults uses read store store committer kind message asked (outcomes.Refused refusal locks)
-no_edit honest means faults uses read store committer kind message asked (refusals.Name error) locks none empty = (none, refl, empty)
-no_edit honest means faults uses read store committer kind message asked refusals.Memory locks none empty = (refl, empty)
-no_edit honest means faults uses read store committer kind message asked refusals.PathNotClean locks none empty = absurd none
-no_edit honest means faults uses read store committer kind message asked (refusals.Find error) locks none empty = absurd none
-no_edit honest means faults uses read store committer kind message asked (refusals.List error) locks none empty = absurd none
-no_edit honest means faults uses read store committer kind message asked (refusals.Log error) locks none empty = absurd none
-no_edit honest means faults uses read store committer kind message asked (refusals.Update error) locks none empty = absurd none
-no_edit honest means faults uses read store committer kind message asked refusals.NotFound locks none empty = absurd none
 
 -- nothing is printed where there is no log
 pub no_log : {F E : Type 0} (honest : Type 0) (means : F → Meaning) (old new : Store F) (name : List ℕ) (out : Option (List ℕ)) → full_error name ≡ None → (honest → is_file (reflog_at means old name) ≡ false) →

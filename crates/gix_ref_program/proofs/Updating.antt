@@ -95,3 +95,8 @@ module _ {F : Type 0} (honest : Type 0) (means : F → Meaning) (faults : F → 
   stops left ends h =
       joins (weaken (from.prepared.held.leaves h) (λ T adds. inl (from.split, split_tried h, adds)))
       (commit_stops honest means faults old new committer edits uses begun ((ends old (mode_in uses) from.split from.prepared).leaves h))
+
+  -- where `packed-refs` was well formed it is so again
+  pub goods : {T : Type 0} (answer : Result (Done T) (Failed T)) (error : Option UpdateError) → error ≡ error_of answer → IfOk answer (λ d. HasSucceeded honest means faults mid new committer packed held d.edits.items (paths_of d.locks_left.items)) → honest → error ≡ None → HasGoodRecords means old → HasGoodRecords means new
+  goods (Ok d) error is succeeded h none good = succeeded.good old (mode_in uses) from.split from.prepared h good
+  goods (Err f) error is succeeded h none good = absurd (differ (Commit f.error) (sym is ∙ none))

@@ -8,7 +8,7 @@ use Rattle.gix_ref_hash.specs.declared.hash.ObjectId.{ObjectId}
 use Rattle.gix_ref_hash.specs.declared.hash.Kind.{Kind}
 use Rattle.gix_ref_hash.specs.declared.hash.Kind.TheVariants as kinds
 use Rattle.gix_ref_hash.proofs.IdLemmas.{reads_whole}
-use Rattle.gix_ref_program.specs.Words.{Asked, Update, Symbolic, Delete, Show, Listing, Log, LineAsked, first_is, IsOldWord, IsUpdate, IsDeletion, IsCommand, IsOption, IsSigned, AreWordsOf, deref_words, kind_words, option_words, command_asked}
+use Rattle.gix_ref_program.specs.Words.{Asked, Update, Symbolic, Delete, Show, Listing, Log, Script, LineAsked, first_is, IsOldWord, IsUpdate, IsDeletion, IsCommand, IsOption, IsSigned, AreWordsOf, deref_words, kind_words, option_words, command_asked}
 use Rattle.gix_ref_log.specs.Signatures.{Who}
 use Rattle.gix_ref_program.specs.declared.words.Command.{Command}
 
@@ -67,6 +67,7 @@ updates words after rest deref None are option_are not_first none = by
     by (Show name) same = no_way (ap (bytes_eq (codes "update")) (heads (sym are ∙ same)))
     by (Listing prefix) same = no_way (ap (bytes_eq (codes "update")) (heads (sym are ∙ same)))
     by (Log name) same = no_way (ap (bytes_eq (codes "update")) (heads (sym are ∙ same)))
+    by (Script path) same = no_way (ap (bytes_eq (codes "update")) (heads (sym are ∙ same)))
 
 -- and one that begins with `delete`
 pub deletions : (words after rest : List (List ℕ)) (deref : Bool) (r : Option Command) → words ≡ codes "delete" ∷ after → after ≡ deref_words deref ++ rest →
@@ -86,6 +87,7 @@ deletions words after rest deref None are option_are not_first none = by
     by (Show name) same = no_way (ap (bytes_eq (codes "delete")) (heads (sym are ∙ same)))
     by (Listing prefix) same = no_way (ap (bytes_eq (codes "delete")) (heads (sym are ∙ same)))
     by (Log name) same = no_way (ap (bytes_eq (codes "delete")) (heads (sym are ∙ same)))
+    by (Script path) same = no_way (ap (bytes_eq (codes "delete")) (heads (sym are ∙ same)))
 
 -- no command begins with a word that begins with `-`
 no_dash : (option : List ℕ) (command : List (List ℕ)) (asked : Asked) → IsCommand command asked → first_is command (45 ∷ option) ≡ false
@@ -95,6 +97,7 @@ no_dash option command (Delete deref name old) (behind, same, u) = ap (λ ws. fi
 no_dash option command (Show name) same = ap (λ ws. first_is ws (45 ∷ option)) same
 no_dash option command (Listing prefix) same = ap (λ ws. first_is ws (45 ∷ option)) same
 no_dash option command (Log name) same = ap (λ ws. first_is ws (45 ∷ option)) same
+no_dash option command (Script path) same = ap (λ ws. first_is ws (45 ∷ option)) same
 
 -- nor do words of another option before words that do not
 behind_other : (option other : List ℕ) (value : Option (List ℕ)) (rest : List (List ℕ)) → bytes_eq other option ≡ false → first_is rest option ≡ false → first_is (option_words other value ++ rest) option ≡ false

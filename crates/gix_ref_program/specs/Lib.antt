@@ -1,7 +1,11 @@
+pub mod AskedEdits
 pub mod ListPrinting
 pub mod Outcomes
 pub mod Runs
+pub mod ScriptLines
+pub mod Scripts
 pub mod Updates
 pub mod Words
+pub mod Writes
 pub mod LogPrinting
 pub mod Printed

@@ -121,6 +121,8 @@ refusal_word (refusals.Update (error.Commit error)) = commit_word error
 refusal_word (refusals.Find error) = find_word error
 refusal_word (refusals.List error) = list_word error
 refusal_word (refusals.Log error) = log_word error
+refusal_word refusals.ReadFileContents = codes "ReadFileContents"
+refusal_word refusals.WrongLine = codes "WrongLine"
 refusal_word refusals.NotFound = codes "NotFound"
 refusal_word refusals.Memory = codes "Memory"
 

@@ -1,18 +1,13 @@
 -- The outcome of a run of the program.
 use Rattle.std.specs.Prelude.{◌≡◌, ◌⊎◌, ℕ, List, [], ◌∷◌, Bool, true, false, codes, Option, Some, None, Result, IfOk}
 use Rattle.std.specs.Io.KnownBytes.{Appends}
-use Rattle.std.specs.List.{AllByRecursion}
-use Rattle.gix_ref_hash.specs.Ids.{null_id}
+use Rattle.std.specs.List.{AllByRecursion, flat_map}
 use Rattle.gix_ref_grammar.specs.NameGrammar.{full_error, partial_error}
 use Rattle.gix_ref_name.specs.Namespaces.{expanded}
-use Rattle.gix_ref_base.specs.Targets.{TargetValue}
-use Rattle.gix_ref_base.specs.Targets.TargetValue.{object_id, symbolic_name}
-use Rattle.gix_ref_grammar.specs.declared.name.error.Error.{Error as NameError}
 use Rattle.gix_ref_hash.specs.declared.hash.Kind.{Kind}
-use Rattle.gix_ref_hash.specs.declared.hash.ObjectId.{ObjectId}
-use Rattle.gix_ref_files.specs.Tree.{Tree}
-use Rattle.gix_ref_files.specs.Files.{Meaning, Leaves, HasRisen}
-use Rattle.gix_ref_transaction.specs.OwnLocks.{paths_of}
+use Rattle.gix_ref_files.specs.Tree.{Tree, is_file}
+use Rattle.gix_ref_files.specs.Tree.Content.{File}
+use Rattle.gix_ref_files.specs.Files.{Meaning, Leaves, Loses, HasRisen, disk_of}
 use Rattle.gix_ref_lookup.specs.CleanPaths.{is_clean}
 use Rattle.gix_ref_log.specs.Signatures.{Who, signature_ref_who}
 use Rattle.gix_ref_log.specs.declared.actor.SignatureRef.{SignatureRef}
@@ -24,7 +19,7 @@ use Rattle.gix_ref_lookup.specs.declared.settings.Settings.{Settings}
 use Rattle.gix_ref_theory.specs.Views.{View}
 use Rattle.gix_ref_lookup.specs.declared.find.records.Records.TheVariants.{Unopened}
 use Rattle.gix_ref_store.specs.Lookup.{AreRecordsIn, FindsAmong, HitsIn, FailsIn, settings_of, view_in}
-use Rattle.gix_ref_store.specs.Prepared.{tree_of}
+use Rattle.gix_ref_store.specs.Prepared.{tree_of, HasGoodRecords, IsAtRest}
 use Rattle.gix_ref_store.specs.Store.{files_of, folders, kind_of}
 use Rattle.gix_ref_store.specs.Reflogs.{reflog_at, IsNoReflog}
 use Rattle.gix_ref_store.specs.Listings.{prefix_of_all, walked_prefix, AreFirst, IsNoListing, IsWalkedIn}
@@ -39,98 +34,24 @@ use Rattle.gix_ref_listing.specs.declared.prefix.Error.TheVariants as no_list
 use Rattle.gix_ref_log.specs.LogItems.{EndsAtError}
 use Rattle.gix_ref_log.specs.declared.log.line.Line.{Line as LogLine}
 use Rattle.gix_ref_log.specs.declared.log.iter.error.ReverseError.{ReverseError}
-use Rattle.gix_ref_edits.specs.RefEdits.{name_of, new_of, mode_of, is_forced, message_of, expected_of, matched}
 use Rattle.gix_ref_store.specs.declared.file.store.Store.{Store}
 use Rattle.gix_ref_lines.specs.declared.write_reflog.WriteReflog.TheVariants.{Normal, Disable}
 use Rattle.gix_ref_lines.specs.declared.write_reflog.WriteReflog.{WriteReflog}
-use Rattle.gix_ref_edits.specs.declared.transaction.PreviousValue.{PreviousValue}
-use Rattle.gix_ref_edits.specs.declared.transaction.PreviousValue.TheVariants.{Any, MustNotExist}
-use Rattle.gix_ref_edits.specs.declared.transaction.LogChange.{LogChange}
-use Rattle.gix_ref_edits.specs.declared.transaction.RefEdit.{RefEdit}
-use Rattle.gix_ref_edits.specs.declared.transaction.RefLog.TheVariants.{AndReference}
+pub use Rattle.gix_ref_program.specs.AskedEdits.{IsExpected, IsLogChange, IsEditOf, IsUpdateOf, IsDeletionEdit, IsDeletionOf, IsAskedFor, BreaksRule, IsNoName, NoEdit, message_text}
 use Rattle.gix_ref_program.specs.Outcomes.{printed, status_of}
 use Rattle.gix_ref_object.specs.declared.object.Never.{Never}
 use Rattle.gix_ref_transaction.specs.declared.packing.PackedRefs.{PackedRefs}
-use Rattle.gix_ref_program.specs.Updates.{UpdateMade, IsUpdateError, IsStopOf}
+use Rattle.gix_ref_program.specs.ScriptLines.{script_lines}
+use Rattle.gix_ref_program.specs.Scripts.{IsSaid, IsScriptLoss, IsScriptStop, ScriptEnd, ScriptEnds, script_status}
+use Rattle.gix_ref_program.specs.Writes.{IsKept, IsWriteLoss, IsWriteStop, Terms, WriteComes, terms_of}
 use Rattle.gix_ref_program.specs.ListPrinting.{list_text}
 use Rattle.gix_ref_program.specs.LogPrinting.{log_text, AreLogItems}
 use Rattle.gix_ref_program.specs.Printed.{items_status}
-use Rattle.gix_ref_program.specs.Words.{Asked, Update, Symbolic, Delete, Show, Listing as AskedListing, Log, LineAsked, AreWordsOf}
+use Rattle.gix_ref_program.specs.Words.{Asked, Update, Symbolic, Delete, Show, Listing as AskedListing, Log, Script, LineAsked, AreWordsOf, MayWrite}
 use Rattle.gix_ref_program.specs.declared.outcome.Outcome.{Outcome}
 use Rattle.gix_ref_program.specs.declared.outcome.Outcome.TheVariants as outcomes
 use Rattle.gix_ref_program.specs.declared.refusal.Refusal.{Refusal}
 use Rattle.gix_ref_program.specs.declared.refusal.Refusal.TheVariants as refusals
-
--- what an update with this OLD expects: nothing; with the null id, that there is no reference; else this target
-abbrev pub IsExpected : Kind → Option ObjectId → PreviousValue → Type 0
-IsExpected kind None expected = expected ≡ Any
-IsExpected kind (Some old) expected =
-    ((old ≡ null_id kind) × (expected ≡ MustNotExist))
-    ⊎ ((old ≡ null_id kind → ⊥) × (matched expected ≡ Some (object_id old)))
-
--- the message of the log lines: the TEXT of `--message`, or none
-abbrev pub message_text : Option (List ℕ) → List ℕ
-message_text None = []
-message_text (Some text) = text
-
--- the change of the log: with the reference, made by no force, and with this message
-pub record IsLogChange (message : Option (List ℕ)) (log : LogChange) : Type 0 where
-  pub mode : log.mode ≡ AndReference
-  pub not_forced : log.force_create_reflog ≡ false
-  pub message_is : log.message.items ≡ message_text message
-
--- the edit that gives a reference, or with `deref` the one that it leads to, this target
-pub record IsEditOf (name : List ℕ) (deref : Bool) (message : Option (List ℕ))
-    (target : TargetValue) (expected : PreviousValue) (edit : RefEdit) : Type 0 where
-  pub full : full_error name ≡ None
-  pub name_is : name_of edit ≡ name
-  pub new : new_of edit.change ≡ Some target
-  pub mode : mode_of edit.change ≡ AndReference
-  pub not_forced : is_forced edit.change ≡ false
-  pub message_is : message_of edit.change ≡ message_text message
-  pub deref_is : edit.deref ≡ deref
-  pub expects : expected_of edit.change ≡ expected
-
--- and the one of an update with this OLD
-pub record IsUpdateOf (kind : Kind) (message : Option (List ℕ)) (deref : Bool) (name : List ℕ)
-    (id : ObjectId) (old : Option ObjectId) (edit : RefEdit) : Type 0 where
-  pub expected : PreviousValue
-  pub is_expected : IsExpected kind old expected
-  pub is_edit : IsEditOf name deref message (object_id id) expected edit
-
--- the edit that deletes a reference, or with `deref` the one that it leads to, with its log
-pub record IsDeletionEdit (name : List ℕ) (deref : Bool) (expected : PreviousValue)
-    (edit : RefEdit) : Type 0 where
-  pub full : full_error name ≡ None
-  pub name_is : name_of edit ≡ name
-  pub deletes : new_of edit.change ≡ None
-  pub mode : mode_of edit.change ≡ AndReference
-  pub deref_is : edit.deref ≡ deref
-  pub expects : expected_of edit.change ≡ expected
-
--- and the one of a deletion with this OLD
-pub record IsDeletionOf (kind : Kind) (deref : Bool) (name : List ℕ) (old : Option ObjectId)
-    (edit : RefEdit) : Type 0 where
-  pub expected : PreviousValue
-  pub is_expected : IsExpected kind old expected
-  pub is_edit : IsDeletionEdit name deref expected edit
-
--- the edit that a command asks for
-abbrev pub IsAskedFor : Kind → (message : Option (List ℕ)) → Asked → RefEdit → Type 0
-IsAskedFor kind message (Update deref name id old) edit =
-    IsUpdateOf kind message deref name id old edit
-IsAskedFor kind message (Symbolic name target) edit =
-    IsEditOf name false message (symbolic_name target) Any edit
-IsAskedFor kind message (Delete deref name old) edit = IsDeletionOf kind deref name old edit
-IsAskedFor kind message asked edit = ⊥
-
--- the rule that its first wrong name breaks
-abbrev pub BreaksRule : Asked → NameError → Type 0
-BreaksRule (Update deref name id old) error = full_error name ≡ Some error
-BreaksRule (Symbolic name target) error = (full_error name ≡ Some error)
-    ⊎ ((full_error name ≡ None) × (full_error target ≡ Some error))
-BreaksRule (Delete deref name old) error = full_error name ≡ Some error
-BreaksRule asked error = ⊥
 
 -- the namespace that a NAME expands to
 abbrev pub namespace_of : Option (List ℕ) → List ℕ
@@ -153,28 +74,32 @@ abbrev pub IsCommitterOf : LineAsked → Option SignatureRef → Type 0
 IsCommitterOf line committer = option_map signature_ref_who committer ≡ line.committer
 
 -- What becomes of a line: an outcome, which is printed as a whole; or the items of a listing or of a reflog, each printed as it
--- comes, all where `whole` says so.
+-- comes, all where `whole` says so; or the outcomes of the lines of a script that were begun, each printed as it comes.
 pub data Ran : Type 0 where
   Said : Outcome → Ran
   Listed : (whole : Bool) (items : List (Result Reference ListError)) → Ran
   Logged : (whole : Bool) (items : List (Result LogLine ReverseError)) → Ran
+  Scripted : (end : ScriptEnd) (said : List Outcome) → Ran
 
 -- what is printed of it, and the status
 abbrev pub ran_text : Ran → List ℕ
 ran_text (Said outcome) = printed outcome
 ran_text (Listed whole items) = list_text items
 ran_text (Logged whole items) = log_text items
+ran_text (Scripted end said) = flat_map printed said
 
 abbrev pub status_after : Ran → ℕ
 status_after (Said outcome) = status_of outcome
 status_after (Listed whole items) = items_status items
 status_after (Logged whole items) = items_status items
+status_after (Scripted end said) = script_status end
 
 -- it went on to the end
 abbrev pub IsShownWhole : Ran → Type 0
 IsShownWhole (Said outcome) = Unit {0}
 IsShownWhole (Listed whole items) = whole ≡ true
 IsShownWhole (Logged whole items) = whole ≡ true
+IsShownWhole (Scripted end said) = IsSaid end
 
 -- What was done, and what is printed of it unless the writer fails: all of it, and its status.
 pub record Prints {E : Type 0} (Does : Ran → Type 0) (out now : Option (List ℕ))
@@ -184,17 +109,10 @@ pub record Prints {E : Type 0} (Does : Ran → Type 0) (out now : Option (List �
   pub prints : IfOk status
       (λ s. IsShownWhole ran × (s ≡ status_after ran) × Appends out now (ran_text ran))
 
--- why a word gives no full name
-abbrev pub IsNoName : List ℕ → Refusal → Type 0
-IsNoName name (refusals.Name error) = full_error name ≡ Some error
-IsNoName name refusals.Memory = Unit {0}
-IsNoName name refusal = ⊥
-
--- why there is no edit
-abbrev pub NoEdit : Asked → Refusal → Type 0
-NoEdit asked (refusals.Name error) = BreaksRule asked error
-NoEdit asked refusals.Memory = Unit {0}
-NoEdit asked refusal = ⊥
+-- it is refused for such a reason, and no lock stays
+abbrev pub SaysOne : (For : Refusal → Type 0) → Ran → Type 0
+SaysOne For (Said (outcomes.Refused refusal locks)) = For refusal × (locks.items ≡ [])
+SaysOne For ran = ⊥
 
 -- why there is no store in a folder
 abbrev pub IsBadFolder : List ℕ → Refusal → Type 0
@@ -235,6 +153,10 @@ module _ {F : Type 0} where
     pub logs : store.write_reflog ≡ write_reflog_of line.committer
     pub plain : IsPlainStore store
 
+  -- a line can be begun over these files
+  abbrev pub HasStore : F → LineAsked → Type 0
+  HasStore files line = (store : Store F) × IsOpened files line store
+
   -- what the names of a listing begin with
   abbrev pub prefix_asked : Store F → Option (List ℕ) → List ℕ
   prefix_asked store None = prefix_of_all store.namespace
@@ -253,53 +175,12 @@ module _ {F : Type 0} where
       (name : List ℕ) → Ran → Type 0
   LogRan honest means old new name (Said outcome) = RefusesReflog old new name outcome
   LogRan honest means old new name (Listed whole items) = ⊥
+  LogRan honest means old new name (Scripted end said) = ⊥
   LogRan honest means old new name (Logged whole items) =
       (full_error name ≡ None) × (honest → AreLogItems (reflog_at means old name) whole items)
       × EndsAtError items
 
   module _ (honest : Type 0) (means : F → Meaning) (faults : F → ℕ) where
-    -- by a transaction that does with `packed-refs` as `uses` says
-    module _ (uses : PackedRefs Never) where
-      -- An edit: it is committed, but for locks that stay; or it was not made, and locks may stay; or there was no memory for it.
-      abbrev pub EditOutcome :
-          (read : Type 0) → (old new : Store F) → Option SignatureRef → RefEdit →
-          Outcome → Type 0
-      EditOutcome read old new committer edit (outcomes.Updated locks) =
-          UpdateMade honest means faults uses old new committer (edit ∷ []) (paths_of locks.items)
-      EditOutcome read old new committer edit (outcomes.Refused (refusals.Update error) locks) =
-          IsUpdateError honest means faults uses read old new committer (edit ∷ []) error
-          (paths_of locks.items)
-      EditOutcome read old new committer edit (outcomes.Refused refusals.Memory locks) = (new ≡ old)
-          × (locks.items ≡ [])
-      EditOutcome read old new committer edit outcome = ⊥
-
-      -- An update of either kind, or a deletion: the outcome of its edit; or a name is no full name; or there was no memory.
-      abbrev pub UpdateOutcome :
-          (read : Type 0) → (old new : Store F) → Option SignatureRef → Kind →
-          (message : Option (List ℕ)) → Asked → Outcome → Type 0
-      UpdateOutcome read old new committer kind message asked
-          (outcomes.Refused (refusals.Name error) locks) = BreaksRule asked error × (new ≡ old)
-          × (locks.items ≡ [])
-      UpdateOutcome read old new committer kind message asked
-          (outcomes.Refused refusals.Memory locks) = (new ≡ old) × (locks.items ≡ [])
-      UpdateOutcome read old new committer kind message asked outcome = (edit : RefEdit)
-          × IsAskedFor kind message asked edit × EditOutcome read old new committer edit outcome
-
-      -- and what is printed of it
-      abbrev pub UpdateRan : (read : Type 0) → (old new : Store F) → Option SignatureRef → Kind →
-          (message : Option (List ℕ)) → Asked → Ran → Type 0
-      UpdateRan read old new committer kind message asked (Said outcome) =
-          UpdateOutcome read old new committer kind message asked outcome
-      UpdateRan read old new committer kind message asked ran = ⊥
-
-      -- a stop in it leaves this tree: as before, or what a stop in its edit leaves
-      abbrev pub IsUpdateStop : Store F → Option SignatureRef → Kind → (message : Option (List ℕ)) →
-          Asked → Tree → Type 0
-      IsUpdateStop old committer kind message asked T =
-          (T ≡ tree_of means old)
-          ⊎ ((edit : RefEdit) × IsAskedFor kind message asked edit
-          × IsStopOf honest means faults uses old committer (edit ∷ []) T)
-
     -- A lookup: what it finds is shown; or there is nothing; or it fails; or its name breaks a rule.
     abbrev pub ShowOutcome : {R : Type 0} (G : Ghosts R) → (old new : Store F) → (name : List ℕ) →
         Outcome → Type 0
@@ -355,60 +236,154 @@ module _ {F : Type 0} where
         (faults (files_of new)) records prefix whole items)
     ListRan G old new prefix ran = ⊥
 
+    -- what is printed of commands that write
+    abbrev pub WriteRan : (read : Type 0) → (old new : Store F) → Terms → List Asked → Ran → Type 0
+    WriteRan read old new terms asked (Said outcome) =
+        WriteComes honest read means faults terms asked old new outcome
+    WriteRan read old new terms asked ran = ⊥
+
+    -- What becomes of a command that is no script. One that writes is a transaction of itself alone.
+    abbrev pub CommandRan : {R : Type 0} (G : Ghosts R) → (old new : Store F) → Terms → Asked →
+        Ran → Type 0
+    CommandRan G old new terms (Update deref name id before) ran = WriteRan
+        (HasReadFault G.faults) old new terms (Update deref name id before ∷ []) ran
+    CommandRan G old new terms (Symbolic name target) ran = WriteRan
+        (HasReadFault G.faults) old new terms (Symbolic name target ∷ []) ran
+    CommandRan G old new terms (Delete deref name before) ran = WriteRan
+        (HasReadFault G.faults) old new terms (Delete deref name before ∷ []) ran
+    CommandRan G old new terms (Show name) (Said outcome) = ShowOutcome G old new name outcome
+    CommandRan G old new terms (AskedListing prefix) ran =
+        ListRan G old new (prefix_asked old prefix) ran
+    CommandRan G old new terms (Log name) ran = LogRan honest means old new name ran
+    CommandRan G old new terms asked ran = ⊥
+
+    -- a stop in it leaves this tree: as before; or, where it writes, what a stop in its transaction leaves
+    abbrev pub IsStop : Store F → Terms → Asked → Tree → Type 0
+    IsStop old terms (Update deref name id before) T =
+        IsWriteStop honest means faults terms (Update deref name id before ∷ []) old T
+    IsStop old terms (Symbolic name target) T =
+        IsWriteStop honest means faults terms (Symbolic name target ∷ []) old T
+    IsStop old terms (Delete deref name before) T =
+        IsWriteStop honest means faults terms (Delete deref name before ∷ []) old T
+    IsStop old terms (Show name) T = T ≡ tree_of means old
+    IsStop old terms (AskedListing prefix) T = T ≡ tree_of means old
+    IsStop old terms (Log name) T = T ≡ tree_of means old
+    IsStop old terms (Script path) T = ⊥
+
     -- a line that is not begun
     abbrev pub NotBegun : LineAsked → Ran → Type 0
     NotBegun line (Said (outcomes.Refused refusal locks)) = IsUnopened line refusal
         × (locks.items ≡ [])
     NotBegun line ran = ⊥
 
-    -- the same of a command
+    -- why the file of a script gives no text: there is none, or a call of files failed, or there was no memory
+    abbrev pub IsUnread : (files start : F) → (path : List ℕ) → Refusal → Type 0
+    IsUnread files start path refusals.ReadFileContents =
+        (honest → is_file ((means files).tree path) ≡ false)
+        ⊎ HasRisen (faults files) (faults start)
+    IsUnread files start path refusals.Memory = Unit {0}
+    IsUnread files start path refusal = ⊥
+
+    -- the disk is the same, as after a read
+    abbrev pub HasSameDisk : (files start : F) → Type 0
+    HasSameDisk files start = honest → disk_of (means start) ≡ disk_of (means files)
+
+    -- the file of a script has this text
+    abbrev pub HasText : F → (path text : List ℕ) → Type 0
+    HasText files path text = honest → (means files).tree path ≡ Some (File text)
+
+    -- a script whose text was not read: there is no store, or there is one and this is why
+    abbrev pub NoText : (files start : F) → LineAsked → (path : List ℕ) → Ran → Type 0
+    NoText files start line path (Said (outcomes.Refused refusal locks)) =
+        (IsUnopened line refusal ⊎ (HasStore start line × IsUnread files start path refusal))
+        × (locks.items ≡ [])
+    NoText files start line path ran = ⊥
+
+    -- The store of a line over these files has well-formed records, and all is at rest.
+    abbrev pub IsReadyFor : F → LineAsked → Type 0
+    IsReadyFor files line = (start : F) (store : Store F) →
+        disk_of (means start) ≡ disk_of (means files) → IsOpened start line store →
+        HasGoodRecords means store × IsAtRest means store
+
+    -- in a run whose transactions do with `packed-refs` as `uses` says
     module _ (uses : PackedRefs Never) where
-      abbrev pub CommandRan : {R : Type 0} (G : Ghosts R) → (old new : Store F) →
-          Option SignatureRef → Kind → (message : Option (List ℕ)) → Asked → Ran → Type 0
-      CommandRan G old new committer kind message (Update deref name id before) ran = UpdateRan uses
-          (HasReadFault G.faults) old new committer kind message (Update deref name id before) ran
-      CommandRan G old new committer kind message (Symbolic name target) ran =
-          UpdateRan
-          uses (HasReadFault G.faults) old new committer kind message (Symbolic name target) ran
-      CommandRan G old new committer kind message (Delete deref name before) ran = UpdateRan uses
-          (HasReadFault G.faults) old new committer kind message (Delete deref name before) ran
-      CommandRan G old new committer kind message (Show name) (Said outcome) =
-          ShowOutcome G old new name outcome
-      CommandRan G old new committer kind message (AskedListing prefix) ran =
-          ListRan G old new (prefix_asked old prefix) ran
-      CommandRan G old new committer kind message (Log name) ran =
-          LogRan honest means old new name ran
-      CommandRan G old new committer kind message asked ran = ⊥
+      -- What becomes of the text of a script: its lines are run in the store, one transaction each; or there is no store.
+      abbrev pub TextRan : {R : Type 0} (G : Ghosts R) → (start after : F) → LineAsked →
+          (text : List ℕ) → Ran → Type 0
+      TextRan G start after line text (Scripted end said) =
+          (old : Store F) × (new : Store F) × (committer : Option SignatureRef)
+          × IsCommitterOf line committer × IsOpened start line old × (files_of new ≡ after)
+          × ScriptEnds honest (HasReadFault G.faults) means faults (terms_of line committer uses)
+          end (script_lines text) (record { store = old; said = [] })
+          (record { store = new; said = said })
+      TextRan G start after line text ran = (after ≡ start) × NotBegun line ran
 
-      -- a stop in a command leaves this tree: as before; or of an update what a stop in it leaves
-      abbrev pub IsStop :
-          Store F → Option SignatureRef → Kind → (message : Option (List ℕ)) → Asked →
-          Tree → Type 0
-      IsStop old committer kind message (Update deref name id before) T =
-          IsUpdateStop uses old committer kind message (Update deref name id before) T
-      IsStop old committer kind message (Symbolic name target) T =
-          IsUpdateStop uses old committer kind message (Symbolic name target) T
-      IsStop old committer kind message (Delete deref name before) T =
-          IsUpdateStop uses old committer kind message (Delete deref name before) T
-      IsStop old committer kind message (Show name) T = T ≡ tree_of means old
-      IsStop old committer kind message (AskedListing prefix) T = T ≡ tree_of means old
-      IsStop old committer kind message (Log name) T = T ≡ tree_of means old
+      -- What becomes of a script: its file is read, and then its text is run.
+      pub record ScriptRan {R : Type 0} (G : Ghosts R) (files after : F) (line : LineAsked)
+          (path : List ℕ) (ran : Ran) : Type 0 where
+        pub start : F
+        pub same : HasSameDisk files start
+        pub runs : ((text : List ℕ) × HasText files path text × TextRan G start after line text ran)
+            ⊎ ((after ≡ start) × NoText files start line path ran)
 
-      -- what becomes of a line: it is begun in its store, or it is not, and the files are as before
+      -- A stop in the text of a script leaves this tree: the one before, or what a stop in its lines leaves.
+      abbrev pub IsTextStop : (start : F) → LineAsked → (text : List ℕ) → Tree → Type 0
+      IsTextStop start line text T =
+          (T ≡ (means start).tree)
+          ⊎ ((old : Store F) × (committer : Option SignatureRef) × IsCommitterOf line committer
+          × IsOpened start line old × IsScriptStop honest means faults
+          (terms_of line committer uses) (script_lines text) old T)
+
+      -- and one in a script
+      abbrev pub IsStopInScript : F → LineAsked → (path : List ℕ) → Tree → Type 0
+      IsStopInScript files line path T =
+          (T ≡ (means files).tree)
+          ⊎ ((start : F) × (text : List ℕ) × HasSameDisk files start × HasText files path text
+          × IsTextStop start line text T)
+
+      -- A loss of power in the text of a script leaves this tree: each file that was settled is as before, or it is what a loss in its
+      -- lines leaves.
+      abbrev pub IsTextLoss : (start : F) → LineAsked → (text : List ℕ) → Tree → Type 0
+      IsTextLoss start line text T =
+          IsKept means start T
+          ⊎ ((old : Store F) × (committer : Option SignatureRef) × IsCommitterOf line committer
+          × IsOpened start line old × IsScriptLoss honest means faults
+          (terms_of line committer uses) (script_lines text) old T)
+
+      -- and one in a script
+      abbrev pub IsLossInScript : F → LineAsked → (path : List ℕ) → Tree → Type 0
+      IsLossInScript files line path T =
+          IsKept means files T
+          ⊎ ((start : F) × (text : List ℕ) × HasSameDisk files start × HasText files path text
+          × IsTextLoss start line text T)
+
+      -- what becomes of a line: it is begun in its store; or it is not, and the files are as before; or it is a script
       abbrev pub LineRan : {R : Type 0}
           (G : Ghosts R) → (files after : F) → LineAsked → Ran → Type 0
       LineRan G files after line ran =
           ((old : Store F) × (new : Store F) × (committer : Option SignatureRef)
           × IsCommitterOf line committer × IsOpened files line old × (files_of new ≡ after)
-          × CommandRan G old new committer line.kind line.message line.asked ran)
-          ⊎ ((after ≡ files) × NotBegun line ran)
+          × CommandRan G old new (terms_of line committer uses) line.asked ran)
+          ⊎ (((after ≡ files) × NotBegun line ran)
+          ⊎ ((path : List ℕ) × (line.asked ≡ Script path) × ScriptRan G files after line path ran))
 
       -- a stop in a line leaves this tree: as before, or what a stop in its command leaves
       abbrev pub IsStopIn : F → LineAsked → Tree → Type 0
       IsStopIn files line T =
           (T ≡ (means files).tree)
-          ⊎ ((old : Store F) × (committer : Option SignatureRef) × IsCommitterOf line committer
-          × IsOpened files line old × IsStop old committer line.kind line.message line.asked T)
+          ⊎ (((old : Store F) × (committer : Option SignatureRef) × IsCommitterOf line committer
+          × IsOpened files line old × IsStop old (terms_of line committer uses) line.asked T)
+          ⊎ ((path : List ℕ) × (line.asked ≡ Script path) × IsStopInScript files line path T))
+
+      -- A loss of power in a line that writes leaves this tree: each file that was settled is as before, or it is what a loss in its
+      -- transaction, or in its script, leaves.
+      abbrev pub IsLossIn : F → LineAsked → Tree → Type 0
+      IsLossIn files line T =
+          IsKept means files T
+          ⊎ (((old : Store F) × (committer : Option SignatureRef) × IsCommitterOf line committer
+          × IsOpened files line old
+          × IsWriteLoss honest means faults (terms_of line committer uses) (line.asked ∷ []) old T)
+          ⊎ ((path : List ℕ) × (line.asked ≡ Script path) × IsLossInScript files line path T))
 
       -- A run of a line: what becomes of it is printed, and gives the status; and each stop leaves what a stop in the line leaves.
       pub record RunsLine {R : Type 0} (G : Ghosts R) {E : Type 0} (files after : F)
@@ -417,6 +392,15 @@ module _ {F : Type 0} where
         pub is_line : AreWordsOf words line
         pub prints : Prints (LineRan G files after line) out now status
         pub leaves : honest → Leaves (means files) (means after) (IsStopIn files line)
+        -- and each loss of power in one that writes leaves what a loss in it leaves
+        pub loses : honest → MayWrite line.asked → IsReadyFor files line →
+            Loses (means files) (means after) (IsLossIn files line)
+
+-- A run for whose words there was no memory: nothing changes, and it says so.
+pub record RunsOut {F E : Type 0} (files after : F) (out now : Option (List ℕ))
+    (status : Result ℕ E) : Type 0 where
+  pub same : after ≡ files
+  pub printed : IfOk status (λ s. (s ≡ 1) × Appends out now (codes "refused: Memory\n"))
 
 -- A run of words that are no line: nothing changes, and it says so.
 pub record RunsWrong {F E : Type 0} (files after : F) (words : List (List ℕ))

@@ -2,6 +2,7 @@
 use Rattle.std.specs.Prelude.{◌≡◌, ◌≢◌, ℕ, List, [], ◌∷◌, ◌++◌, Bool, true, false, bytes_eq, codes, map, Option, Some, None, String}
 use Rattle.std.specs.String.{string_bytes}
 use Rattle.std.specs.declared.alloc.Global.{Global}
+use Rattle.std.specs.Borrow.{Bor}
 use Rattle.std.specs.Option.{option_map}
 use Rattle.gix_ref_hash.specs.Ids.{ReadsId}
 use Rattle.gix_ref_hash.specs.declared.hash.ObjectId.{ObjectId}
@@ -20,6 +21,7 @@ pub data Asked : Type 0 where
   Show : (name : List ℕ) → Asked
   Listing : (prefix : Option (List ℕ)) → Asked
   Log : (name : List ℕ) → Asked
+  Script : (path : List ℕ) → Asked
 
 -- What a line asks for, and where.
 pub record LineAsked : Type 0 where
@@ -31,8 +33,32 @@ pub record LineAsked : Type 0 where
   pub asked : Asked
 
 -- the bytes of words
-abbrev pub texts : List (String Global) → List (List ℕ)
-texts words = map string_bytes words
+abbrev pub texts : List (Bor (List ℕ)) → List (List ℕ)
+texts words = map (λ (word : Bor (List ℕ)). word.now) words
+
+-- those of words that are text
+abbrev pub string_texts : List (String Global) → List (List ℕ)
+string_texts words = map string_bytes words
+
+-- no script
+abbrev pub IsNoScript : Asked → Type 0
+IsNoScript (Script path) = ⊥
+IsNoScript asked = Unit {0}
+
+-- a command that writes: one transaction
+abbrev pub IsWrite : Asked → Type 0
+IsWrite (Update deref name id old) = Unit {0}
+IsWrite (Symbolic name target) = Unit {0}
+IsWrite (Delete deref name old) = Unit {0}
+IsWrite (Show name) = ⊥
+IsWrite (Listing prefix) = ⊥
+IsWrite (Log name) = ⊥
+IsWrite (Script path) = ⊥
+
+-- a command that writes, or a script of such
+abbrev pub MayWrite : Asked → Type 0
+MayWrite (Script path) = Unit {0}
+MayWrite asked = IsWrite asked
 
 -- the first of these words is this one
 abbrev pub first_is : List (List ℕ) → List ℕ → Bool
@@ -71,8 +97,8 @@ abbrev pub prefix_words : Option (List ℕ) → List (List ℕ)
 prefix_words None = []
 prefix_words (Some prefix) = prefix ∷ []
 
--- `update [--deref] NAME ID [OLD]`, `symbolic NAME TARGET`, `delete [--deref] NAME [OLD]`, `show NAME`, `list [PREFIX]`, or
--- `log NAME`
+-- `update [--deref] NAME ID [OLD]`, `symbolic NAME TARGET`, `delete [--deref] NAME [OLD]`, `show NAME`, `list [PREFIX]`,
+-- `log NAME`, or `script FILE`
 abbrev pub IsCommand : List (List ℕ) → Asked → Type 0
 IsCommand words (Update deref name id old) =
     (rest : List (List ℕ)) × (words ≡ codes "update" ∷ (deref_words deref ++ rest))
@@ -84,6 +110,7 @@ IsCommand words (Delete deref name old) =
 IsCommand words (Show name) = words ≡ codes "show" ∷ (name ∷ [])
 IsCommand words (Listing prefix) = words ≡ codes "list" ∷ prefix_words prefix
 IsCommand words (Log name) = words ≡ codes "log" ∷ (name ∷ [])
+IsCommand words (Script path) = words ≡ codes "script" ∷ (path ∷ [])
 
 -- `[--sha256]`
 abbrev pub kind_words : Kind → List (List ℕ)
@@ -127,6 +154,7 @@ command_asked (commands.Delete deref name old) = Delete deref name.now old
 command_asked (commands.Show name) = Show name.now
 command_asked (commands.List prefix) = Listing (option_map (λ text. text.now) prefix)
 command_asked (commands.Log name) = Log name.now
+command_asked (commands.Script path) = Script path.now
 
 abbrev pub line_asked : Parsed → LineAsked
 line_asked line = record {

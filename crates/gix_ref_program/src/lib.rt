@@ -2,10 +2,14 @@
 #![tactic(auto)]
 
 mod block;
+mod edit;
 pub mod list;
 pub mod log;
 pub mod outcome;
 pub mod refusal;
 pub mod run;
+mod script;
+mod script_lines;
+mod transact;
 pub mod update;
 pub mod words;

@@ -1,5 +1,5 @@
 //! The outcome of a line, and how it is printed.
-ghost use Rattle.std.specs.Prelude.{◌≡◌, ◌++◌, IfOk, OnOk};
+ghost use Rattle.std.specs.Prelude.{◌≡◌, ◌++◌, [], IfOk, OnOk};
 ghost use Rattle.std.specs.Io.KnownBytes.{Appends};
 ghost use Rattle.gix_ref_base.specs.Targets.{target_value};
 ghost use Rattle.gix_ref_program.specs.Outcomes.{lock_lines, shown_target, reference_line, printed, status_of};
@@ -27,6 +27,16 @@ pub enum Outcome {
         refusal: Refusal,
         locks_left: Vec<Vec<u8>>,
     },
+}
+
+/// A refusal that leaves no lock.
+pub(crate) fn refused(alloc: Global, refusal: Refusal) -> Outcome
+    ensures { (locks : _) × (result ≡ Outcome.Refused refusal locks) × (locks.items ≡ []) }
+{
+    Outcome::Refused {
+        refusal,
+        locks_left: Vec::new(alloc),
+    }
 }
 
 /// Adds a line for each lock that stays.

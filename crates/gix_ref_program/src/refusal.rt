@@ -31,6 +31,12 @@ pub enum Refusal {
     /// The log could not be read.
     #[error("{0}")]
     Log(log::Error),
+    /// The file of a script is none, or could not be read.
+    #[error("the script could not be read")]
+    ReadFileContents,
+    /// A line of a script is no list of commands that write.
+    #[error("the line is no list of commands")]
+    WrongLine,
     /// There is no such reference.
     #[error("there is no such reference")]
     NotFound,
@@ -181,6 +187,8 @@ impl Refusal {
             Refusal::Find(error) => find_variant(error),
             Refusal::List(error) => list_variant(error),
             Refusal::Log(error) => log_variant(error),
+            Refusal::ReadFileContents => "ReadFileContents",
+            Refusal::WrongLine => "WrongLine",
             Refusal::NotFound => "NotFound",
             Refusal::Memory => "Memory",
         }

@@ -1,36 +1,31 @@
 //! One run of the program, over any files.
-ghost use Rattle.std.specs.Prelude.{◌≡◌, ◌⊎◌, ℕ, List, [], ◌∷◌, false, Option, None, IfOk, MatchResult};
+ghost use Rattle.std.specs.Prelude.{◌≡◌, ◌⊎◌, List, [], ◌∷◌, false, Option, None, IfOk, MatchResult};
 ghost use Rattle.std.specs.Option.{option_map};
 ghost use Rattle.gix_ref_hash.specs.declared.hash.Kind.{Kind};
-ghost use Rattle.gix_ref_grammar.specs.NameGrammar.{full_error};
-ghost use Rattle.gix_ref_name.specs.Names.{full_bytes};
-ghost use Rattle.gix_ref_base.specs.Targets.{target_value};
-ghost use Rattle.gix_ref_base.specs.Targets.TargetValue.{object_id, symbolic_name};
 ghost use Rattle.gix_ref_lookup.specs.StoreLayout.{namespace_text};
 ghost use Rattle.gix_ref_log.specs.Signatures.{signature_ref_who};
 ghost use Rattle.gix_ref_store.specs.Store.{files_of};
 ghost use Rattle.gix_ref_store.specs.Listings.{AreHeldFor, walked_prefix};
 ghost use Rattle.gix_ref_store.specs.Lookup.{LooksUp};
-ghost use Rattle.gix_ref_store.specs.Prepared.{tree_of};
+ghost use Rattle.gix_ref_store.specs.Prepared.{HasGoodRecords, IsAtRest};
 ghost use Rattle.gix_ref_files.specs.Calls.{Unchanged};
-ghost use Rattle.gix_ref_files.specs.Files.{Leaves, AtEveryStop};
-ghost use Rattle.gix_ref_packed.specs.OpenFiles.{HasReadFault};
-ghost use Rattle.gix_ref_program.specs.Runs.{IsExpected, IsLogChange, IsEditOf, IsDeletionEdit, IsAskedFor, NoNamespace, IsNoName, NoEdit, UpdateRan, IsUpdateStop, IsBadFolder, IsAt, namespace_of, write_reflog_of, IsOpened, EditOutcome, ShowOutcome, Prints, CommandRan, LogRan, ListRan, ListRanAmong, prefix_asked, IsStop, IsUnopened, LineRan, IsStopIn, RunsWrong, RunsLine};
-ghost use Rattle.gix_ref_program.specs.Updates.{IsStopOf};
-ghost use Rattle.gix_ref_program.specs.Words.{Asked, Symbolic, texts, line_asked};
+ghost use Rattle.gix_ref_files.specs.DiskCalls.{Untouched};
+ghost use Rattle.gix_ref_files.specs.Files.{Leaves, Loses, AtEveryStop, OnEveryDisk};
+ghost use Rattle.gix_ref_program.specs.Runs.{CommandRan, HasStore, HasText, IsAt, IsBadFolder, IsLossIn, IsLossInScript, IsOpened, IsReadyFor, IsStop, IsStopIn, IsStopInScript, IsTextLoss, IsTextStop, IsUnopened, IsUnread, LineRan, ListRan, ListRanAmong, LogRan, NoNamespace, Prints, RunsLine, RunsOut, RunsWrong, SaysOne, ScriptRan, ShowOutcome, TextRan, namespace_of, prefix_asked, write_reflog_of};
+ghost use Rattle.gix_ref_program.specs.Writes.{IsWriteLoss, terms_in};
+ghost use Rattle.gix_ref_program.specs.Words.{IsNoScript, IsWrite, MayWrite, texts, string_texts, line_asked};
 
 use crate::list;
 use crate::log::print_items;
-use crate::outcome::{Outcome, print};
+use crate::outcome::{Outcome, print, refused};
 use crate::refusal::Refusal;
-use crate::update::{UpdateReport, update};
+use crate::script::run_lines;
+use crate::transact::transact;
 use crate::words::{Command, Line, parse};
-use gix_ref_base::target::Target;
-use gix_ref_edits::transaction::{Change, LogChange, PreviousValue, RefEdit, RefLog};
-use gix_ref_files::files::Files;
-use gix_ref_hash::hash::{Kind, ObjectId};
+use gix_ref_files::files::{FileError, Files, Node};
+use gix_ref_hash::hash::Kind;
 use gix_ref_log::actor::SignatureRef;
-use gix_ref_name::name::{FullName, FullNameRef, PartialNameRef};
+use gix_ref_name::name::{FullNameRef, PartialNameRef};
 use gix_ref_name::namespace::{Namespace, expand};
 use gix_ref_packed::packed::Buffer;
 use gix_ref_store::file::iter::{self, LooseNames, prefix_of_all};
@@ -121,185 +116,6 @@ fn store_in<F>(alloc: Global, files: F, line: &Line<'_>) -> Result<Store<F>, (F,
         }
         Err(refusal) => Err((store.into_files(), refusal)),
     }
-}
-
-/// What an update with this OLD expects: the null id that there is no reference, another id that the reference has it.
-fn expected(old: Option<ObjectId>, kind: Kind) -> PreviousValue
-    ensures { IsExpected kind old result }
-{
-    match old {
-        None => PreviousValue::Any,
-        Some(id) if id == kind.null() => PreviousValue::MustNotExist,
-        Some(id) => PreviousValue::MustExistAndMatch(Target::Object(id)),
-    }
-}
-
-/// The full name that a word is.
-fn full_name(alloc: Global, word: &[u8]) -> Result<FullName, Refusal>
-    ensures { MatchResult result (λ name. (full_error word.now ≡ None)
-        × (full_bytes name ≡ word.now)) (IsNoName word.now) }
-{
-    match FullNameRef::try_from(word) {
-        Ok(name) => match name.to_owned(alloc) {
-            Ok(name) => Ok(name),
-            Err(_) => Err(Refusal::Memory),
-        },
-        Err(error) => Err(Refusal::Name(error)),
-    }
-}
-
-/// The change of a log, with the message of its line: none without a TEXT.
-fn log_change(alloc: Global, text: Option<&[u8]>) -> Result<LogChange, Refusal>
-    ensures { MatchResult result (IsLogChange (option_map (λ text. text.now) text.entry))
-        (λ refusal. refusal ≡ Refusal.Memory) }
-{
-    let mut log = LogChange::new_in(alloc);
-    if let Some(text) = text {
-        let Ok(message) = text.to_vec(alloc) else {
-            return Err(Refusal::Memory);
-        };
-        log.message = message;
-    }
-    Ok(log)
-}
-
-/// The edit that gives a reference a new target.
-fn edit_to(
-    alloc: Global,
-    name: FullName,
-    deref: bool,
-    text: Option<&[u8]>,
-    new: Target,
-    expected: PreviousValue,
-) -> Result<RefEdit, Refusal>
-    requires { full_error (full_bytes name) ≡ None }
-    ensures { MatchResult result (IsEditOf (full_bytes name) deref (option_map (λ text. text.now)
-        text.entry) (target_value new) expected) (λ refusal. refusal ≡ Refusal.Memory) }
-{
-    Ok(RefEdit {
-        change: Change::Update {
-            log: log_change(alloc, text)?,
-            expected,
-            new,
-        },
-        name,
-        deref,
-    })
-}
-
-/// The edit of an update.
-fn update_edit(
-    alloc: Global,
-    name: &[u8],
-    deref: bool,
-    text: Option<&[u8]>,
-    id: ObjectId,
-    expected: PreviousValue,
-) -> Result<RefEdit, Refusal>
-    ensures { MatchResult result (IsEditOf name.now deref (option_map (λ text. text.now) text.entry)
-        (object_id id) expected) (IsNoName name.now) }
-{
-    match full_name(alloc, name) {
-        Ok(name) => edit_to(alloc, name, deref, text, Target::Object(id), expected),
-        Err(refusal) => Err(refusal),
-    }
-}
-
-/// The edit of a symbolic update.
-fn symbolic_edit(
-    alloc: Global,
-    name: &[u8],
-    text: Option<&[u8]>,
-    target: &[u8],
-) -> Result<RefEdit, Refusal>
-    ensures { MatchResult result (IsEditOf name.now false (option_map (λ text. text.now) text.entry)
-        (symbolic_name target.now) PreviousValue.Any) (NoEdit (Symbolic name.now target.now)) }
-{
-    let name = match full_name(alloc, name) {
-        Ok(name) => name,
-        Err(refusal) => return Err(refusal),
-    };
-    match full_name(alloc, target) {
-        Ok(target) => {
-            let new = Target::Symbolic(target);
-            edit_to(alloc, name, false, text, new, PreviousValue::Any)
-        }
-        Err(refusal) => Err(refusal),
-    }
-}
-
-/// The edit of a deletion.
-fn deletion_edit(
-    alloc: Global,
-    name: &[u8],
-    deref: bool,
-    expected: PreviousValue,
-) -> Result<RefEdit, Refusal>
-    ensures { MatchResult result (IsDeletionEdit name.now deref expected) (IsNoName name.now) }
-{
-    match full_name(alloc, name) {
-        Ok(name) => Ok(RefEdit {
-            change: Change::Delete {
-                expected,
-                log: RefLog::AndReference,
-            },
-            name,
-            deref,
-        }),
-        Err(refusal) => Err(refusal),
-    }
-}
-
-/// A refusal that leaves no lock.
-fn refused(alloc: Global, refusal: Refusal) -> Outcome
-    ensures { (locks : _) × (result ≡ Outcome.Refused refusal locks) × (locks.items ≡ []) }
-{
-    Outcome::Refused {
-        refusal,
-        locks_left: Vec::new(alloc),
-    }
-}
-
-/// The list of one edit.
-fn one_edit(alloc: Global, edit: RefEdit) -> Result<Vec<RefEdit>, AllocError>
-    ensures { IfOk result (λ edits. edits.items ≡ edit ∷ []) }
-{
-    let mut edits = Vec::with_capacity(alloc, 1)?;
-    edits.push(edit).map_err(AllocError::from)?;
-    Ok(edits)
-}
-
-/// Makes an update, or a deletion.
-fn make_update<F: Files>(
-    alloc: Global,
-    store: &mut Store<F>,
-    packed_refs: PackedRefs,
-    committer: Option<SignatureRef<'_>>,
-    edit: RefEdit,
-) -> (PackedRefs, Outcome)
-    ensures packed_refs { result.0 ≡ packed_refs }
-    ensures outcome { EditOutcome F.honest F.means F.faults packed_refs
-        (HasReadFault F.Reader.faults) store.old store.new committer.entry edit result.1 }
-    ensures leaves { F.honest → Leaves (F.means (files_of store.old)) (F.means (files_of store.new))
-        (λ T. (T ≡ tree_of F.means store.old)
-        ⊎ IsStopOf F.honest F.means F.faults packed_refs store.old committer.entry (edit ∷ []) T) }
-{
-    let Ok(edits) = one_edit(alloc, edit) else {
-        return (packed_refs, refused(alloc, Refusal::Memory));
-    };
-    let UpdateReport {
-        error,
-        packed_refs,
-        locks_left,
-    } = update(alloc, store, packed_refs, committer, edits);
-    let outcome = match error {
-        None => Outcome::Updated { locks_left },
-        Some(error) => Outcome::Refused {
-            refusal: Refusal::Update(error),
-            locks_left,
-        },
-    };
-    (packed_refs, outcome)
 }
 
 /// Shows a reference.
@@ -397,35 +213,7 @@ fn print_listing<F: Files, W: Write>(
     }
 }
 
-/// Makes an update of either kind, or a deletion, and prints its outcome; a refusal where there is no edit.
-fn print_update<F: Files, W: Write>(
-    alloc: Global,
-    store: &mut Store<F>,
-    packed_refs: PackedRefs,
-    committer: Option<SignatureRef<'_>>,
-    edit: Result<RefEdit, Refusal>,
-    out: &mut W,
-) -> (PackedRefs, io::Result<u8>)
-    ensures packed_refs { result.0 ≡ packed_refs }
-    ensures prints { (kind : Kind) (message : Option (List ℕ)) (asked : Asked) →
-        MatchResult edit (IsAskedFor kind message asked) (NoEdit asked) → Prints (UpdateRan
-        F.honest F.means F.faults packed_refs (HasReadFault F.Reader.faults) store.old store.new
-        committer.entry kind message asked) (W.contents out.old) (W.contents out.new) result.1 }
-    ensures leaves { F.honest → (kind : Kind) (message : Option (List ℕ))
-        (asked : Asked) → MatchResult edit (IsAskedFor kind message asked) (NoEdit asked) →
-        Leaves (F.means (files_of store.old)) (F.means (files_of store.new)) (IsUpdateStop
-        F.honest F.means F.faults packed_refs store.old committer.entry kind message asked) }
-{
-    match edit {
-        Ok(edit) => {
-            let (packed_refs, outcome) = make_update(alloc, store, packed_refs, committer, edit);
-            (packed_refs, print(alloc, outcome, out))
-        }
-        Err(refusal) => (packed_refs, print(alloc, refused(alloc, refusal), out)),
-    }
-}
-
-/// Does what a command asks for, and prints it.
+/// Does what a command asks for, which is no script, and prints it. One that writes is a transaction of itself alone.
 fn execute<F: Files, W: Write>(
     alloc: Global,
     store: &mut Store<F>,
@@ -433,54 +221,156 @@ fn execute<F: Files, W: Write>(
     line: &Line<'_>,
     out: &mut W,
 ) -> (PackedRefs, io::Result<u8>)
+    requires { IsNoScript (line_asked line.now).asked }
     ensures packed_refs { result.0 ≡ packed_refs }
-    ensures prints { Prints (CommandRan F.honest F.means F.faults packed_refs F.Reader.ReadAt
-        store.old store.new line.now.committer line.now.object_hash (line_asked line.now).message
-        (line_asked line.now).asked) (W.contents out.old) (W.contents out.new) result.1 }
+    ensures prints { Prints (CommandRan F.honest F.means F.faults F.Reader.ReadAt store.old
+        store.new (terms_in line.now packed_refs) (line_asked line.now).asked)
+        (W.contents out.old) (W.contents out.new) result.1 }
     ensures leaves { F.honest → Leaves (F.means (files_of store.old)) (F.means (files_of store.new))
-        (IsStop F.honest F.means F.faults packed_refs store.old line.now.committer
-        line.now.object_hash (line_asked line.now).message (line_asked line.now).asked) }
+        (IsStop F.honest F.means F.faults store.old (terms_in line.now packed_refs)
+        (line_asked line.now).asked) }
+    ensures loses { F.honest → IsWrite (line_asked line.now).asked → HasGoodRecords
+        F.means store.old → IsAtRest F.means store.old → Loses (F.means (files_of store.old))
+        (F.means (files_of store.new)) (IsWriteLoss F.honest F.means F.faults
+        (terms_in line.now packed_refs) ((line_asked line.now).asked ∷ []) store.old) }
 {
-    let kind = line.object_hash;
+    if line.command.writes() {
+        let (packed_refs, outcome) = transact(alloc, store, packed_refs, line, &[line.command]);
+        return (packed_refs, print(alloc, outcome, out));
+    }
     match &line.command {
         Command::Show { name } => (packed_refs, print(alloc, show(alloc, store, name), out)),
         Command::List { prefix } => (packed_refs, print_listing(alloc, store, *prefix, out)),
         Command::Log { name } => (packed_refs, print_log(alloc, store, name, out)),
-        Command::Update {
-            deref,
-            name,
-            id,
-            old,
-        } => {
-            let expected = expected(*old, kind);
-            let edit = update_edit(alloc, name, *deref, line.message, *id, expected);
-            print_update(alloc, store, packed_refs, line.committer, edit, out)
-        }
-        Command::Symbolic { name, target } => {
-            let edit = symbolic_edit(alloc, name, line.message, target);
-            print_update(alloc, store, packed_refs, line.committer, edit, out)
-        }
-        Command::Delete { deref, name, old } => {
-            let edit = deletion_edit(alloc, name, *deref, expected(*old, kind));
-            print_update(alloc, store, packed_refs, line.committer, edit, out)
-        }
+        Command::Update { .. }
+        | Command::Symbolic { .. }
+        | Command::Delete { .. }
+        | Command::Script { .. } => unreachable!(),
     }
 }
 
-/// Does what a line asks for, prints it, and hands the files back.
-fn run_line<F: Files, W: Write>(
+/// The bytes of the file of a script.
+fn read_script<F: Files>(alloc: Global, files: &mut F, path: &[u8]) -> Result<Vec<u8>, Refusal>
+    ensures read { MatchResult result (λ text. HasText F.honest F.means F.faults files.old path.now
+        text.items) (IsUnread F.honest F.means F.faults files.old files.new path.now) }
+    ensures leaves { F.honest → AtEveryStop F.means files.old files.new Unchanged }
+    ensures passes { F.honest → OnEveryDisk F.means files.old files.new Untouched }
+{
+    let mut text = Vec::new(alloc);
+    match files.read(alloc, path, &mut text) {
+        Ok(Node::File) => Ok(text),
+        Err(FileError::Memory) => Err(Refusal::Memory),
+        Ok(_) | Err(_) => Err(Refusal::ReadFileContents),
+    }
+}
+
+/// Runs the lines of a script in its store, if there is one, and hands the files back.
+fn run_text<F: Files, W: Write>(
+    alloc: Global,
+    files: F,
+    packed_refs: PackedRefs,
+    line: &Line<'_>,
+    text: &[u8],
+    out: &mut W,
+) -> RunResult<F>
+    ensures packed_refs { result.packed_refs ≡ packed_refs }
+    ensures prints { Prints (TextRan F.honest F.means F.faults packed_refs F.Reader.ReadAt files result.files
+        (line_asked line.now) text.now) (W.contents out.old) (W.contents out.new) result.status }
+    ensures leaves { F.honest → Leaves (F.means files) (F.means result.files)
+        (IsTextStop F.honest F.means F.faults packed_refs files (line_asked line.now) text.now) }
+    ensures loses { F.honest → IsReadyFor F.honest F.means F.faults files (line_asked line.now) →
+        Loses (F.means files) (F.means result.files)
+        (IsTextLoss F.honest F.means F.faults packed_refs files (line_asked line.now) text.now) }
+{
+    match store_in(alloc, files, line) {
+        Ok(mut store) => {
+            let (packed_refs, status) = run_lines(alloc, &mut store, packed_refs, line, text, out);
+            RunResult {
+                files: store.into_files(),
+                packed_refs,
+                status,
+            }
+        }
+        Err((files, refusal)) => RunResult {
+            files,
+            packed_refs,
+            status: print(alloc, refused(alloc, refusal), out),
+        },
+    }
+}
+
+/// Says why the text of a script was not read, where its store can be opened; and hands the files back.
+fn print_unread<F, W: Write>(
+    alloc: Global,
+    files: F,
+    packed_refs: PackedRefs,
+    line: &Line<'_>,
+    unread: Refusal,
+    out: &mut W,
+) -> RunResult<F>
+    ensures packed_refs { result.packed_refs ≡ packed_refs }
+    ensures files { result.files ≡ files }
+    ensures prints { Prints (SaysOne (λ refusal. IsUnopened (line_asked line.now) refusal
+        ⊎ (HasStore files (line_asked line.now) × (refusal ≡ unread))))
+        (W.contents out.old) (W.contents out.new) result.status }
+{
+    match store_in(alloc, files, line) {
+        Ok(store) => RunResult {
+            files: store.into_files(),
+            packed_refs,
+            status: print(alloc, refused(alloc, unread), out),
+        },
+        Err((files, refusal)) => RunResult {
+            files,
+            packed_refs,
+            status: print(alloc, refused(alloc, refusal), out),
+        },
+    }
+}
+
+/// Runs the script in a file, prints the outcomes of its lines, and hands the files back.
+fn run_script<F: Files, W: Write>(
+    alloc: Global,
+    files: F,
+    packed_refs: PackedRefs,
+    line: &Line<'_>,
+    path: &[u8],
+    out: &mut W,
+) -> RunResult<F>
+    ensures packed_refs { result.packed_refs ≡ packed_refs }
+    ensures prints { Prints (ScriptRan F.honest F.means F.faults packed_refs F.Reader.ReadAt files result.files
+        (line_asked line.now) path.now) (W.contents out.old) (W.contents out.new) result.status }
+    ensures leaves { F.honest → Leaves (F.means files) (F.means result.files)
+        (IsStopInScript F.honest F.means F.faults packed_refs files (line_asked line.now) path.now) }
+    ensures loses { F.honest → IsReadyFor F.honest F.means F.faults files (line_asked line.now) →
+        Loses (F.means files) (F.means result.files)
+        (IsLossInScript F.honest F.means F.faults packed_refs files (line_asked line.now) path.now) }
+{
+    let mut files = files;
+    match read_script(alloc, &mut files, path) {
+        Ok(text) => run_text(alloc, files, packed_refs, line, &text, out),
+        Err(unread) => print_unread(alloc, files, packed_refs, line, unread, out),
+    }
+}
+
+/// Does what a line asks for, which is no script, prints it, and hands the files back.
+fn run_command<F: Files, W: Write>(
     alloc: Global,
     files: F,
     packed_refs: PackedRefs,
     line: &Line<'_>,
     out: &mut W,
 ) -> RunResult<F>
+    requires { IsNoScript (line_asked line.now).asked }
     ensures packed_refs { result.packed_refs ≡ packed_refs }
-    ensures prints { Prints
-        (LineRan F.honest F.means F.faults packed_refs F.Reader.ReadAt files result.files
-        (line_asked line.now)) (W.contents out.old) (W.contents out.new) result.status }
+    ensures prints { Prints (LineRan F.honest F.means F.faults packed_refs F.Reader.ReadAt files
+        result.files (line_asked line.now)) (W.contents out.old) (W.contents out.new) result.status }
     ensures leaves { F.honest → Leaves (F.means files) (F.means result.files)
         (IsStopIn F.honest F.means F.faults packed_refs files (line_asked line.now)) }
+    ensures loses { F.honest → IsWrite (line_asked line.now).asked →
+        IsReadyFor F.honest F.means F.faults files (line_asked line.now) →
+        Loses (F.means files) (F.means result.files)
+        (IsLossIn F.honest F.means F.faults packed_refs files (line_asked line.now)) }
 {
     match store_in(alloc, files, line) {
         Ok(mut store) => {
@@ -499,16 +389,53 @@ fn run_line<F: Files, W: Write>(
     }
 }
 
+/// Does what a line asks for, prints it, and hands the files back.
+fn run_line<F: Files, W: Write>(
+    alloc: Global,
+    files: F,
+    packed_refs: PackedRefs,
+    line: &Line<'_>,
+    out: &mut W,
+) -> RunResult<F>
+    ensures packed_refs { result.packed_refs ≡ packed_refs }
+    ensures prints { Prints (LineRan F.honest F.means F.faults packed_refs F.Reader.ReadAt files result.files
+        (line_asked line.now)) (W.contents out.old) (W.contents out.new) result.status }
+    ensures leaves { F.honest → Leaves (F.means files) (F.means result.files)
+        (IsStopIn F.honest F.means F.faults packed_refs files (line_asked line.now)) }
+    ensures loses { F.honest → MayWrite (line_asked line.now).asked →
+        IsReadyFor F.honest F.means F.faults files (line_asked line.now) →
+        Loses (F.means files) (F.means result.files)
+        (IsLossIn F.honest F.means F.faults packed_refs files (line_asked line.now)) }
+{
+    match line.command {
+        Command::Script { path } => run_script(alloc, files, packed_refs, line, path, out),
+        _ => run_command(alloc, files, packed_refs, line, out),
+    }
+}
+
+/// The words, as bytes.
+fn lent_words(alloc: Global, words: &[String]) -> Result<Vec<&[u8]>, AllocError>
+    ensures { IfOk result (λ lent. texts lent.items ≡ string_texts words.now) }
+{
+    let mut lent = Vec::with_capacity(alloc, words.len())?;
+    for word in words {
+        lent.push(word.as_bytes())?;
+    }
+    Ok(lent)
+}
+
 /// Does what the words ask for, and prints it: nothing for an update or a deletion that was made; a target and a name for a reference
-/// that is shown; for a reflog, newest first, the ids and the message of each line, or `fault: ` and the variant of the
-/// error; else `refused: ` and the variant of the error, or `wrong words`; and a line for each lock that could not be
-/// removed. The status is 0, 1 for a refusal or a fault, 2 for wrong words; it is an error where the writer failed, or where
-/// there was no memory for the text. (`git update-ref`, `git symbolic-ref`, `git show-ref`, `git for-each-ref`, `git reflog show`)
+/// that is shown; for a reflog, newest first, the ids and the message of each line, or `fault: ` and the variant of the error; for a
+/// script what its lines come to, up to the first that is refused; else `refused: ` and the variant of the error, or `wrong words`; and a
+/// line for each lock that could not be removed. The status is 0, 1 for a refusal or a fault, 2 for wrong words; it is an error where
+/// the writer failed, or where there was no memory for the text. (`git update-ref`, `git update-ref --stdin`, `git symbolic-ref`,
+/// `git show-ref`, `git for-each-ref`, `git reflog show`)
 ///
 /// The words are those behind the name of the program. With a SIGNATURE updates write log lines, with the TEXT as their
 /// message; without one there are none. Costs what `update` does, one call of files for a reference that
 /// is shown. A listing of a prefix reads the folders and files that its names may be in, and of a sorted `packed-refs` the
-/// records of the prefix. A listing and a reflog are written in blocks.
+/// records of the prefix. A listing and a reflog are written in blocks. The file of a script is read once, before its first
+/// transaction, and each of its lines costs what `update` does: nothing grows with the lines before it.
 pub fn run<F: Files, W: Write>(
     alloc: Global,
     files: F,
@@ -517,12 +444,21 @@ pub fn run<F: Files, W: Write>(
     out: &mut W,
 ) -> RunResult<F>
     ensures packed_refs { result.packed_refs ≡ packed_refs }
-    ensures ran { RunsWrong
-        files result.files (texts words.now) (W.contents out.old) (W.contents out.new)
-        result.status ⊎ RunsLine F.honest F.means F.faults packed_refs F.Reader.ReadAt files
-        result.files (texts words.now) (W.contents out.old) (W.contents out.new) result.status }
+    ensures ran { RunsOut files result.files (W.contents out.old) (W.contents out.new) result.status
+        ⊎ (RunsWrong files result.files (string_texts words.now)
+        (W.contents out.old) (W.contents out.new) result.status
+        ⊎ RunsLine F.honest F.means F.faults packed_refs F.Reader.ReadAt files result.files
+        (string_texts words.now) (W.contents out.old) (W.contents out.new) result.status) }
 {
-    let Some(line) = parse(words) else {
+    let Ok(words) = lent_words(alloc, words) else {
+        let status = print(alloc, refused(alloc, Refusal::Memory), out);
+        return RunResult {
+            files,
+            packed_refs,
+            status,
+        };
+    };
+    let Some(line) = parse(&words) else {
         let status = print(alloc, Outcome::WrongWords, out);
         return RunResult {
             files,

@@ -65,6 +65,8 @@ pub fn update<F: Files>(
         (IsLossOf F.honest F.means F.faults packed_refs store.old committer.entry edits.items) }
     ensures settled { F.honest → result.error ≡ None → IsAtRest F.means store.old →
         IsAtRest F.means store.new }
+    ensures good { F.honest → result.error ≡ None → HasGoodRecords F.means store.old →
+        HasGoodRecords F.means store.new }
     ensures packed_refs { result.packed_refs ≡ packed_refs }
     ensures same { IsSameStore store.old store.new }
 {

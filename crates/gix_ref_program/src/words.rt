@@ -1,6 +1,6 @@
 //! The words of the program: `DIR [--sha256] [--namespace NAME] [--as SIGNATURE] [--message TEXT] COMMAND`, where a command
-//! is `update [--deref] NAME ID [OLD]`, `symbolic NAME TARGET`, `delete [--deref] NAME [OLD]`, `show NAME`, `list [PREFIX]`
-//! or `log NAME`.
+//! is `update [--deref] NAME ID [OLD]`, `symbolic NAME TARGET`, `delete [--deref] NAME [OLD]`, `show NAME`, `list [PREFIX]`,
+//! `log NAME` or `script FILE`.
 ghost use Rattle.std.specs.Prelude.{◌≡◌, ◌++◌, ℕ, List, MatchOption, MatchResult, Option, codes, ◌∷◌, [], false};
 ghost use Rattle.gix_ref_log.specs.Signatures.{Who, signature_ref_who};
 ghost use Rattle.std.specs.Option.{option_map};
@@ -43,6 +43,29 @@ pub enum Command<'w> {
     Log {
         name: &'w [u8],
     },
+    /// `script FILE`
+    Script {
+        path: &'w [u8],
+    },
+}
+
+impl<'w> Command<'w> {
+    ghost use Rattle.std.specs.Prelude.{MatchBool};
+    ghost use Rattle.gix_ref_program.specs.Words.{IsWrite, command_asked};
+
+    /// Whether it writes by itself, so that it may stand in a script.
+    pub(crate) fn writes(&self) -> bool
+        ensures { MatchBool result (IsWrite (command_asked self.now))
+            (IsWrite (command_asked self.now) → ⊥) }
+    {
+        match self {
+            Command::Update { .. } | Command::Symbolic { .. } | Command::Delete { .. } => true,
+            Command::Show { .. }
+            | Command::List { .. }
+            | Command::Log { .. }
+            | Command::Script { .. } => false,
+        }
+    }
 }
 
 /// The words of a line.
@@ -66,18 +89,18 @@ pub struct Line<'w> {
 struct WrongWords;
 
 /// The words behind the first, if that is this one.
-fn strip_word<'w>(words: &'w [String], word: &[u8]) -> Option<&'w [String]>
+fn strip_word<'a, 'w>(words: &'a [&'w [u8]], word: &[u8]) -> Option<&'a [&'w [u8]]>
     ensures { MatchOption result (first_is (texts words.now) word.now ≡ false)
         (λ rest. texts words.now ≡ word.now ∷ texts rest.now) }
 {
     match words.split_first() {
-        Some((first, rest)) if first.as_bytes() == word => Some(rest),
+        Some((first, rest)) if *first == word => Some(rest),
         _ => None,
     }
 }
 
 /// `[OLD]`, and an error for other words.
-fn old_of(words: &[String]) -> Result<Option<ObjectId>, WrongWords>
+fn old_of(words: &[&[u8]]) -> Result<Option<ObjectId>, WrongWords>
     ensures { MatchResult result (IsOldWord (texts words.now))
         (λ _. (old : Option ObjectId) → IsOldWord (texts words.now) old → ⊥) }
 {
@@ -87,14 +110,14 @@ fn old_of(words: &[String]) -> Result<Option<ObjectId>, WrongWords>
     if !rest.is_empty() {
         return Err(WrongWords);
     }
-    match ObjectId::from_hex(digits.as_bytes()) {
+    match ObjectId::from_hex(digits) {
         Some(id) => Ok(Some(id)),
         None => Err(WrongWords),
     }
 }
 
 /// `[--deref]`, and the words behind it.
-fn deref_of(words: &[String]) -> (bool, &[String])
+fn deref_of<'a, 'w>(words: &'a [&'w [u8]]) -> (bool, &'a [&'w [u8]])
     ensures words { texts words.now ≡ deref_words result.0 ++ texts result.1.now }
     ensures option { result.0 ≡ false → first_is (texts words.now) (codes "--deref") ≡ false }
 {
@@ -105,46 +128,44 @@ fn deref_of(words: &[String]) -> (bool, &[String])
 }
 
 /// `NAME ID [OLD]` behind `[--deref]`, where NAME is not that option.
-fn update_of(deref: bool, words: &[String]) -> Option<Command<'_>>
+fn update_of<'w>(deref: bool, words: &[&'w [u8]]) -> Option<Command<'w>>
     ensures { MatchOption result ((name : List ℕ) (id : ObjectId) (old : Option ObjectId) →
         IsUpdate (texts words.now) name id old → ⊥) (λ command. IsCommand
         (codes "update" ∷ (deref_words deref ++ texts words.now)) (command_asked command)) }
 {
     let (name, rest) = words.split_first()?;
-    if name.as_bytes() == b"--deref".as_slice() {
+    let name = *name;
+    if name == b"--deref".as_slice() {
         return None;
     }
     let (digits, rest) = rest.split_first()?;
-    let id = ObjectId::from_hex(digits.as_bytes())?;
+    let id = ObjectId::from_hex(digits)?;
     let old = old_of(rest).ok()?;
     Some(Command::Update {
         deref,
-        name: name.as_bytes(),
+        name,
         id,
         old,
     })
 }
 
 /// `NAME [OLD]` behind `[--deref]`, where NAME is not that option.
-fn deletion_of(deref: bool, words: &[String]) -> Option<Command<'_>>
+fn deletion_of<'w>(deref: bool, words: &[&'w [u8]]) -> Option<Command<'w>>
     ensures { MatchOption result ((name : List ℕ) (old : Option ObjectId) →
         IsDeletion (texts words.now) name old → ⊥) (λ command. IsCommand
         (codes "delete" ∷ (deref_words deref ++ texts words.now)) (command_asked command)) }
 {
     let (name, rest) = words.split_first()?;
-    if name.as_bytes() == b"--deref".as_slice() {
+    let name = *name;
+    if name == b"--deref".as_slice() {
         return None;
     }
     let old = old_of(rest).ok()?;
-    Some(Command::Delete {
-        deref,
-        name: name.as_bytes(),
-        old,
-    })
+    Some(Command::Delete { deref, name, old })
 }
 
 /// `NAME`.
-fn name_of(words: &[String]) -> Option<&[u8]>
+fn name_of<'w>(words: &[&'w [u8]]) -> Option<&'w [u8]>
     ensures { MatchOption result ((name : List ℕ) → texts words.now ≡ name ∷ [] → ⊥)
         (λ name. texts words.now ≡ name.now ∷ []) }
 {
@@ -152,21 +173,21 @@ fn name_of(words: &[String]) -> Option<&[u8]>
     if !rest.is_empty() {
         return None;
     }
-    Some(name.as_bytes())
+    Some(*name)
 }
 
 /// `NAME TARGET`.
-fn names_of(words: &[String]) -> Option<(&[u8], &[u8])>
+fn names_of<'w>(words: &[&'w [u8]]) -> Option<(&'w [u8], &'w [u8])>
     ensures { MatchOption result ((name target : List ℕ) → texts words.now ≡ name ∷ (target ∷ []) →
         ⊥) (λ names. texts words.now ≡ names.0.now ∷ (names.1.now ∷ [])) }
 {
     let (name, rest) = words.split_first()?;
     let target = name_of(rest)?;
-    Some((name.as_bytes(), target))
+    Some((*name, target))
 }
 
 /// `[PREFIX]`, and an error for other words.
-fn prefix_of(words: &[String]) -> Result<Option<&[u8]>, WrongWords>
+fn prefix_of<'w>(words: &[&'w [u8]]) -> Result<Option<&'w [u8]>, WrongWords>
     ensures { MatchResult result (λ prefix. texts words.now
         ≡ prefix_words (option_map (λ text. text.now) prefix))
         (λ _. (prefix : Option (List ℕ)) → texts words.now ≡ prefix_words prefix → ⊥) }
@@ -177,11 +198,11 @@ fn prefix_of(words: &[String]) -> Result<Option<&[u8]>, WrongWords>
     if !rest.is_empty() {
         return Err(WrongWords);
     }
-    Ok(Some(prefix.as_bytes()))
+    Ok(Some(*prefix))
 }
 
 /// The command of these words.
-fn command_of(words: &[String]) -> Option<Command<'_>>
+pub fn command_of<'w>(words: &[&'w [u8]]) -> Option<Command<'w>>
     ensures { MatchOption result ((asked : Asked) → IsCommand (texts words.now) asked → ⊥)
         (λ command. IsCommand (texts words.now) (command_asked command)) }
 {
@@ -207,6 +228,11 @@ fn command_of(words: &[String]) -> Option<Command<'_>>
             prefix: prefix_of(rest).ok()?,
         });
     }
+    if let Some(rest) = strip_word(words, b"script") {
+        return Some(Command::Script {
+            path: name_of(rest)?,
+        });
+    }
     let rest = strip_word(words, b"show")?;
     Some(Command::Show {
         name: name_of(rest)?,
@@ -214,7 +240,10 @@ fn command_of(words: &[String]) -> Option<Command<'_>>
 }
 
 /// `[OPTION VALUE]`: the value, if the option comes first, and the words behind it; `None` for an option alone.
-fn value_of<'w>(words: &'w [String], option: &[u8]) -> Option<(Option<&'w [u8]>, &'w [String])>
+fn value_of<'a, 'w>(
+    words: &'a [&'w [u8]],
+    option: &[u8],
+) -> Option<(Option<&'w [u8]>, &'a [&'w [u8]])>
     ensures { MatchOption result (texts words.now ≡ option.now ∷ []) (λ r. IsOption option.now
         (texts words.now) (option_map (λ value. value.now) r.0) (texts r.1.now)) }
 {
@@ -222,7 +251,7 @@ fn value_of<'w>(words: &'w [String], option: &[u8]) -> Option<(Option<&'w [u8]>,
         return Some((None, words));
     };
     let (value, rest) = rest.split_first()?;
-    Some((Some(value.as_bytes()), rest))
+    Some((Some(*value), rest))
 }
 
 /// The committer whose signature this text is, and an error for a text that is no signature.
@@ -241,7 +270,7 @@ fn committer_of(signature: Option<&[u8]>) -> Result<Option<SignatureRef<'_>>, Wr
 }
 
 /// The kind of ids, and the words behind the option for it.
-fn kind_of(words: &[String]) -> (Kind, &[String])
+fn kind_of<'a, 'w>(words: &'a [&'w [u8]]) -> (Kind, &'a [&'w [u8]])
     ensures words { texts words.now ≡ kind_words result.0 ++ texts result.1.now }
     ensures option { result.0 ≡ Kind.Sha1 → first_is (texts words.now) (codes "--sha256") ≡ false }
 {
@@ -253,7 +282,7 @@ fn kind_of(words: &[String]) -> (Kind, &[String])
 
 /// The line of these words; `None` where they are wrong. An ID and an OLD have 40 or 64 hex digits, and a SIGNATURE is
 /// one; the names are not looked at. Takes no memory, and looks at each word a few times.
-pub fn parse(words: &[String]) -> Option<Line<'_>>
+pub fn parse<'w>(words: &[&'w [u8]]) -> Option<Line<'w>>
     ensures { MatchOption result ((line : AskedLine) → AreWordsOf (texts words.now) line → ⊥)
         (λ line. AreWordsOf (texts words.now) (line_asked line)) }
 {
@@ -267,7 +296,7 @@ pub fn parse(words: &[String]) -> Option<Line<'_>>
     };
     let command = command_of(rest)?;
     Some(Line {
-        dir: dir.as_bytes(),
+        dir,
         object_hash,
         namespace,
         committer,

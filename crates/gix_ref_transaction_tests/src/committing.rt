@@ -5,7 +5,7 @@ use crate::made::{Edit, Expect, To, Who, digits};
 use crate::names::{has_usual_log, key, log, place};
 use crate::preparing::{digit_put, has_bad_record, release};
 use crate::reading::{loose, record};
-use crate::stores::{HEADER, Kept, Puts, Record, records_text};
+use crate::stores::{HEADER, Kept, Packed, Puts, Record, records_text};
 use gix_ref_store::store::WriteReflog;
 use std::alloc::Global;
 use std::process::Abort;
@@ -355,6 +355,20 @@ fn write_all(
     Ok(())
 }
 
+/// The records after edits, where they change.
+fn records_after(
+    rt: &impl Abort,
+    alloc: Global,
+    kept: &Kept,
+    edits: &[Edit],
+) -> Option<Vec<Record>> {
+    if changes_records(kept, edits) {
+        Some(merged(rt, alloc, kept, edits))
+    } else {
+        None
+    }
+}
+
 /// Commits prepared edits: why that fails, with the files as they are then.
 pub fn commit(
     rt: &impl Abort,
@@ -363,7 +377,16 @@ pub fn commit(
     edits: &[Edit],
     who: Who,
 ) -> Result<(), Failure> {
+    let records = records_after(rt, alloc, kept, edits);
     let done = write_all(rt, alloc, kept, edits, who);
     release(rt, alloc, kept, edits);
+    if let Some(records) = records {
+        kept.packed = if records.is_empty() {
+            Packed::Nothing
+        } else {
+            Packed::Sorted
+        };
+        kept.records = records;
+    }
     done
 }

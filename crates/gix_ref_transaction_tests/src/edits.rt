@@ -8,7 +8,7 @@ use std::alloc::Global;
 use std::process::Abort;
 
 /// The name of the edit at a place of a list: mostly another one than those before it.
-fn random_name(dice: &mut Dice, start: usize, at: usize) -> &'static str {
+pub fn random_name(dice: &mut Dice, start: usize, at: usize) -> &'static str {
     match dice.roll() {
         0..=9 => return dice.pick(&OTHERS),
         10..=12 => return dice.pick(&NAMES),
@@ -23,7 +23,7 @@ fn random_name(dice: &mut Dice, start: usize, at: usize) -> &'static str {
 }
 
 /// The name that an edit of this one is of: that at the end of the symbolic references, or one of a circle.
-fn last_name(
+pub fn last_name(
     rt: &impl Abort,
     alloc: Global,
     kept: &Kept,

@@ -25,4 +25,6 @@ mod random;
 #[cfg(test)]
 mod reading;
 #[cfg(test)]
+mod scripts;
+#[cfg(test)]
 mod stores;

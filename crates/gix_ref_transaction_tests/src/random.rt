@@ -26,7 +26,7 @@ enum Answer {
 
 /// What is to become of it.
 #[derive(Debug, Drop)]
-enum Want {
+pub enum Want {
     Refused(Cause),
     Failed(Failure),
     Done,
@@ -80,7 +80,7 @@ fn answered(
 }
 
 /// The same by plain loops, with the files afterwards.
-fn wanted(
+pub fn wanted(
     rt: &impl Abort,
     alloc: Global,
     kept: &mut Kept,
@@ -165,7 +165,7 @@ pub fn count(rt: &impl Abort, alloc: Global, memory: &mut Memory) -> usize {
 }
 
 /// The first of these files that memory does not hold.
-fn lost<'f>(memory: &Memory, files: &'f [Held]) -> Option<&'f Held> {
+pub fn lost<'f>(memory: &Memory, files: &'f [Held]) -> Option<&'f Held> {
     for held in files {
         if memory.get(held.path.as_bytes()) != Some(held.text.as_bytes()) {
             return Some(held);
@@ -175,7 +175,7 @@ fn lost<'f>(memory: &Memory, files: &'f [Held]) -> Option<&'f Held> {
 }
 
 /// Whether memory holds these files and no others.
-fn holds(rt: &impl Abort, alloc: Global, memory: &mut Memory, files: &[Held]) -> bool {
+pub fn holds(rt: &impl Abort, alloc: Global, memory: &mut Memory, files: &[Held]) -> bool {
     lost(memory, files).is_none() && (files.is_empty() || count(rt, alloc, memory) == files.len())
 }
 

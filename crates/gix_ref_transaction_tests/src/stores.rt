@@ -384,9 +384,20 @@ fn random_setting(dice: &mut Dice) -> Setting {
 
 /// A store, and the same files in memory.
 pub fn random_store(rt: &impl Abort, alloc: Global, dice: &mut Dice) -> (Kept, Memory) {
+    let setting = random_setting(dice);
+    random_store_of(rt, alloc, dice, setting)
+}
+
+/// One with these folders and options.
+pub fn random_store_of(
+    rt: &impl Abort,
+    alloc: Global,
+    dice: &mut Dice,
+    setting: Setting,
+) -> (Kept, Memory) {
     let mut kept = Kept {
         puts: Puts::Nothing,
-        setting: random_setting(dice),
+        setting,
         files: Vec::new(alloc),
         packed: Packed::Nothing,
         records: Vec::new(alloc),

@@ -1,6 +1,6 @@
 //! `refs DIR [--sha256] [--namespace NAME] [--as SIGNATURE] [--message TEXT] COMMAND`: updates, deletes, shows and lists
 //! references of a folder of the disk. A command is `update [--deref] NAME ID [OLD]`, `symbolic NAME TARGET`,
-//! `delete [--deref] NAME [OLD]`, `show NAME`, `list [PREFIX]` or `log NAME`. With a SIGNATURE, `name <email> seconds +hhmm`,
+//! `delete [--deref] NAME [OLD]`, `show NAME`, `list [PREFIX]`, `log NAME` or `script FILE`. With a SIGNATURE, `name <email> seconds +hhmm`,
 //! updates write log lines, whose message is TEXT. All is printed on standard output; the status is 0, 1 for a refusal or a
 //! fault, 2 for wrong words.
 #![tactic(auto)]

@@ -9,7 +9,7 @@ use Rattle.gix_ref_store.specs.Prepared.{PreparesGiven, HasGoodRecords, RefusesG
 use Rattle.gix_ref_store.specs.Store.{files_of}
 use Rattle.gix_ref_program.specs.Updates.{UpdateMade, IsStopOf, IsLossOf, IsUpdateError}
 use Rattle.gix_ref_store.proofs.SameStores.{at_same}
-use Rattle.gix_ref_program.proofs.Updating.{refused_stops, refused_loses, done, told, stops, loses, settles}
+use Rattle.gix_ref_program.proofs.Updating.{refused_stops, refused_loses, done, told, stops, loses, settles, goods}
 use Rattle.gix_ref_program.proofs.update.update.Goals as goal
 
 pub returns-in-Ok-clause-done : goal.returns-in-Ok-clause-done
@@ -81,6 +81,19 @@ returns-in-Ok-clause-settled g c =
     let from : PreparesGiven F.honest F.means F.faults (OfFinder claims-value.it c.args.packed_refs) (ends_of meaning-value.it c.args.packed_refs) (mode_in c.args.packed_refs) old mid edits packed held = rw (c.packed_refs.ensures.packed_refs, c.packed_refs.ensures.value, c.transaction.ensures.value) at c.in-Ok.ensures.prepared in
     at_same (λ now. F.honest → c.report_of_commit.result.error ≡ None → IsAtRest F.means old → IsAtRest F.means now) {x = c.store-in-Ok-1.given.0} {y = new} (search rules)
     (settles F.honest F.means F.faults old mid new c.args.committer edits packed held c.args.packed_refs from c.commit.result c.report_of_commit.result.error c.report_of_commit.ensures.error c.commit.ensures.committed)
+
+pub returns-in-Ok-clause-good : goal.returns-in-Ok-clause-good
+returns-in-Ok-clause-good g c =
+    let F = g.F.Files in
+    let old = c.args.store.now in
+    let mid = c.in-Ok.prepared.store.now in
+    let new = c.commit.new.self.0 in
+    let edits = c.args.edits.items in
+    let packed = c.in-Ok.prepared.plan.packed in
+    let held = c.in-Ok.prepared.plan.edits.items in
+    let from : PreparesGiven F.honest F.means F.faults (OfFinder claims-value.it c.args.packed_refs) (ends_of meaning-value.it c.args.packed_refs) (mode_in c.args.packed_refs) old mid edits packed held = rw (c.packed_refs.ensures.packed_refs, c.packed_refs.ensures.value, c.transaction.ensures.value) at c.in-Ok.ensures.prepared in
+    at_same (λ now. F.honest → c.report_of_commit.result.error ≡ None → HasGoodRecords F.means old → HasGoodRecords F.means now) {x = c.store-in-Ok-1.given.0} {y = new} (search rules)
+    (goods F.honest F.means F.faults old mid new c.args.committer edits packed held c.args.packed_refs from c.commit.result c.report_of_commit.result.error c.report_of_commit.ensures.error c.commit.ensures.committed)
 
 pub returns-in-Err-clause-leaves : goal.returns-in-Err-clause-leaves
 returns-in-Err-clause-leaves g c =

@@ -1,6 +1,5 @@
-use Rattle.std.proofs.Common.{◌∷◌, List, ℕ, sym, ◌∙◌, ap}
+use Rattle.std.proofs.Common.{ap}
 use Rattle.std.specs.Option.{option_map}
-use Rattle.std.specs.String.{string_bytes}
 use Rattle.gix_ref_log.specs.Signatures.{signature_ref_who}
 use Rattle.gix_ref_program.specs.Words.{texts, command_asked}
 use Rattle.gix_ref_program.proofs.WordLemmas.{no_signature, no_text, no_committer, no_command, is_line}
@@ -8,14 +7,14 @@ use Rattle.gix_ref_program.proofs.words.parse.Goals as goal
 
 pub returns-in_err-signature : goal.returns-in_err-signature
 returns-in_err-signature c =
-    rw c.from_residual-in_err-signature.ensures (no_signature (texts c.args.words.now) (string_bytes c.in_ok-dir.dir.now) (texts c.in_ok-dir.rest.now) (texts c.kind_of-object_hash.result.1.now) c.kind_of-object_hash.result.0
+    rw c.from_residual-in_err-signature.ensures (no_signature (texts c.args.words.now) (c.in_ok-dir.dir.now.now) (texts c.in_ok-dir.rest.now) (texts c.kind_of-object_hash.result.1.now) c.kind_of-object_hash.result.0
     (ap texts c.in_ok-dir.ensures.cases.0) c.kind_of-object_hash.ensures.words c.kind_of-object_hash.ensures.option
     (option_map (λ value. value.now) c.in_ok-namespace.namespace) (texts c.in_ok-namespace.rest.now) c.in_ok-namespace.ensures
     c.in_err-signature.ensures)
 
 pub returns-in_err-message : goal.returns-in_err-message
 returns-in_err-message c =
-    rw c.from_residual-in_err-message.ensures (no_text (texts c.args.words.now) (string_bytes c.in_ok-dir.dir.now) (texts c.in_ok-dir.rest.now) (texts c.kind_of-object_hash.result.1.now) c.kind_of-object_hash.result.0
+    rw c.from_residual-in_err-message.ensures (no_text (texts c.args.words.now) (c.in_ok-dir.dir.now.now) (texts c.in_ok-dir.rest.now) (texts c.kind_of-object_hash.result.1.now) c.kind_of-object_hash.result.0
     (ap texts c.in_ok-dir.ensures.cases.0) c.kind_of-object_hash.ensures.words c.kind_of-object_hash.ensures.option
     (option_map (λ value. value.now) c.in_ok-namespace.namespace) (texts c.in_ok-namespace.rest.now) c.in_ok-namespace.ensures
     (option_map (λ value. value.now) c.in_ok-signature.signature) (texts c.in_ok-signature.rest.now) c.in_ok-signature.ensures
@@ -23,7 +22,7 @@ returns-in_err-message c =
 
 pub returns-in_default : goal.returns-in_default
 returns-in_default c =
-    no_committer (texts c.args.words.now) (string_bytes c.in_ok-dir.dir.now) (texts c.in_ok-dir.rest.now) (texts c.kind_of-object_hash.result.1.now) c.kind_of-object_hash.result.0
+    no_committer (texts c.args.words.now) (c.in_ok-dir.dir.now.now) (texts c.in_ok-dir.rest.now) (texts c.kind_of-object_hash.result.1.now) c.kind_of-object_hash.result.0
     (ap texts c.in_ok-dir.ensures.cases.0) c.kind_of-object_hash.ensures.words c.kind_of-object_hash.ensures.option
     (option_map (λ value. value.now) c.in_ok-namespace.namespace) (texts c.in_ok-namespace.rest.now) c.in_ok-namespace.ensures
     (option_map (λ value. value.now) c.in_ok-signature.signature) (texts c.in_ok-signature.rest.now) c.in_ok-signature.ensures
@@ -31,7 +30,7 @@ returns-in_default c =
 
 pub returns-in_err-command : goal.returns-in_err-command
 returns-in_err-command c =
-    rw c.from_residual-in_err-command.ensures (no_command (texts c.args.words.now) (string_bytes c.in_ok-dir.dir.now) (texts c.in_ok-dir.rest.now) (texts c.kind_of-object_hash.result.1.now) c.kind_of-object_hash.result.0
+    rw c.from_residual-in_err-command.ensures (no_command (texts c.args.words.now) (c.in_ok-dir.dir.now.now) (texts c.in_ok-dir.rest.now) (texts c.kind_of-object_hash.result.1.now) c.kind_of-object_hash.result.0
     (ap texts c.in_ok-dir.ensures.cases.0) c.kind_of-object_hash.ensures.words c.kind_of-object_hash.ensures.option
     (option_map (λ value. value.now) c.in_ok-namespace.namespace) (texts c.in_ok-namespace.rest.now) c.in_ok-namespace.ensures
     (option_map (λ value. value.now) c.in_ok-signature.signature) (texts c.in_ok-signature.rest.now) c.in_ok-signature.ensures
@@ -40,8 +39,8 @@ returns-in_err-command c =
 
 pub returns : goal.returns
 returns c =
-    is_line (texts c.args.words.now) c.as_bytes.result.now (texts c.in_ok-dir.rest.now) (texts c.kind_of-object_hash.result.1.now) c.kind_of-object_hash.result.0
-    (ap texts c.in_ok-dir.ensures.cases.0 ∙ ap (λ (word : List ℕ). word ∷ texts c.in_ok-dir.rest.now) (sym c.as_bytes.ensures.value)) c.kind_of-object_hash.ensures.words c.kind_of-object_hash.ensures.option
+    is_line (texts c.args.words.now) c.in_ok-dir.dir.now.now (texts c.in_ok-dir.rest.now) (texts c.kind_of-object_hash.result.1.now) c.kind_of-object_hash.result.0
+    (ap texts c.in_ok-dir.ensures.cases.0) c.kind_of-object_hash.ensures.words c.kind_of-object_hash.ensures.option
     (option_map (λ value. value.now) c.in_ok-namespace.namespace) (texts c.in_ok-namespace.rest.now) c.in_ok-namespace.ensures
     (option_map (λ value. value.now) c.in_ok-signature.signature) (texts c.in_ok-signature.rest.now) c.in_ok-signature.ensures
     (option_map (λ value. value.now) c.in_ok-message.message) (texts c.in_ok-message.rest.now) c.in_ok-message.ensures
