@@ -38,7 +38,7 @@ run_one() {
         cp -a "$work/timed/kept" "$work/timed/.git"
     fi
     start=$(now)
-    "$1" >/dev/null 2>"$work/errors" || { cat "$work/errors"; failed=1; }
+    "$1" >/dev/null 2>"$work/errors" || { cat "$work/errors" >&2; failed=1; }
     echo $(($(now) - start))
 }
 
@@ -95,6 +95,7 @@ time_update() {
     repository 0
     id=$(git -C "$work/timed" rev-parse HEAD)
     time_task "one update with its log line"
+    repository 0
     many_updates >"$work/lines"
     paste -s -d ';' "$work/lines" | sed 's/;/ ; /g' >"$work/one-line"
     git_task() { git -C "$work/timed" update-ref --stdin <"$work/lines"; }
