@@ -1,5 +1,7 @@
 # The scripts that compare-writes-with-git compares: random lines of updates and deletions, each line one transaction.
 
+# A command substitution would begin with numbers of its own, so each is given one, and the scripts are the same in each run.
+
 # random_old NAME NEW: an old value, seldom a wrong one; none where it prints nothing. One of zeros only where NAME is not at NEW, since `refs`
 # accepts that (docs/DIFFERENCES.md).
 random_old() {
@@ -14,22 +16,24 @@ random_old() {
 
 # random_command NAME: a command for it, in the words of both, once with a semicolon behind it and once with a line end.
 random_command() {
-    local ids=("$one" "$two") new
+    local ids=("$one" "$two") new seed
     new=${ids[RANDOM % 2]}
+    seed=$RANDOM
     if [ $((RANDOM % 4)) -eq 0 ]; then
-        echo "delete $1$(random_old "$1" "$null" | grep -v " $null")"
+        echo "delete $1$({ RANDOM=$seed; random_old "$1" "$null"; } | grep -v " $null")"
     else
-        echo "update $1 $new$(random_old "$1" "$new")"
+        echo "update $1 $new$(RANDOM=$seed; random_old "$1" "$new")"
     fi
 }
 
 # random_line: up to four commands for different names, seldom for the same, joined by semicolons.
 random_line() {
     local names=(heads/a-b heads/new heads/deep/er/name heads/z/y/x/w/v tags/light tags/v1 remotes/origin/topic notes/other)
-    local at=$((RANDOM % 8)) step=$((1 + RANDOM % 3)) count=$((1 + RANDOM % 4)) words=
+    local at=$((RANDOM % 8)) step=$((1 + RANDOM % 3)) count=$((1 + RANDOM % 4)) words= seed
     if [ $((RANDOM % 20)) -eq 0 ]; then step=8; fi
     while [ "$count" -gt 0 ]; do
-        words+="${words:+ ; }$(random_command "refs/${names[at % 8]}")"
+        seed=$RANDOM
+        words+="${words:+ ; }$(RANDOM=$seed; random_command "refs/${names[at % 8]}")"
         at=$((at + step))
         count=$((count - 1))
     done
@@ -38,11 +42,12 @@ random_line() {
 
 # random_script: makes a script of up to six lines; git makes the transaction of each as it comes, up to the first that it refuses.
 random_script() {
-    local count=$((1 + RANDOM % 6)) words
+    local count=$((1 + RANDOM % 6)) words seed
     git_status=0
     : >"$work/script"
     while [ "$count" -gt 0 ]; do
-        words=$(random_line)
+        seed=$RANDOM
+        words=$(RANDOM=$seed; random_line)
         echo "$words" >>"$work/script"
         if [ "$git_status" -eq 0 ]; then
             sed 's/ ; /\n/g' <<<"$words" | git -C "$work/git" update-ref --no-deref -m "$message" --stdin >"$work/git.out" 2>&1
