@@ -9,7 +9,7 @@ use std::process::Abort;
 
 /// What comes of a line.
 #[derive(Clone, Copy, Debug, PartialEq, Eq)]
-enum Seen {
+pub enum Seen {
     /// The line, whose message is `m`.
     Line,
     /// A decode fault with this number.
@@ -25,7 +25,7 @@ enum Seen {
 use Seen::{Fault, Io, Line, Other, TooSmall};
 
 /// The line X of the worked rows: 113 bytes with its LF.
-fn line_x(rt: &impl Abort, alloc: Global) -> Vec<u8> {
+pub fn line_x(rt: &impl Abort, alloc: Global) -> Vec<u8> {
     let who = b" C <c@example.com> 1234 +0800\tm\n".as_slice();
     joined(rt, alloc, &[ZEROS, b" ", ONES, who])
 }
@@ -46,7 +46,7 @@ fn seen_backward(item: Result<gix_ref_log::log::Line, ReverseError>) -> Seen {
 }
 
 /// The items from the end of a log, of a reader whose nth read fails, and then the end, twice.
-fn read(rt: &impl Abort, alloc: Global, log: &[u8], room: usize, tally: &Tally) -> Vec<Seen> {
+pub fn read(rt: &impl Abort, alloc: Global, log: &[u8], room: usize, tally: &Tally) -> Vec<Seen> {
     let mut buf = vec![in alloc; 0u8; room].expect(rt, "memory");
     let mut items = Vec::new(alloc);
     let reader = Counted {
@@ -246,7 +246,7 @@ fn seen_forward(item: Result<gix_ref_log::log::LineRef<'_>, decode::Error>) -> S
 }
 
 /// Compares the items from the start of a log.
-fn check_forward(rt: &impl Abort, log: &[u8], want: &[Seen]) {
+pub fn check_forward(rt: &impl Abort, log: &[u8], want: &[Seen]) {
     let mut lines = forward(log);
     for seen in want {
         let item = lines.next().map(|item| seen_forward(item));

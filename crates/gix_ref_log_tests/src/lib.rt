@@ -2,6 +2,8 @@
 #![tactic(auto)]
 
 #[cfg(test)]
+mod fronts;
+#[cfg(test)]
 mod items;
 #[cfg(test)]
 mod lines;
