@@ -139,7 +139,7 @@ pub fn kind_of(word: &str) -> LineKind {
         "let" | "repeat" => LineKind::Name,
         ">" | "then" | "gone" | "has-folder" | "no-folder" | "calls" | "lose" => LineKind::After,
         "each" => LineKind::Each,
-        "readings" | "|" | "logs-of" | "between" | "may" => LineKind::Disturbed,
+        "readings" | "|" | "logs-of" | "between" | "may" | "later" => LineKind::Disturbed,
         _ => LineKind::Before,
     }
 }
@@ -232,7 +232,7 @@ impl Course {
             "calls" if self.calls != number(rest)? => bail!("{} calls", self.calls),
             "calls" => Ok(()),
             "lose" => {
-                let lost = self.world.files.lose_power(number(rest)?);
+                let lost = self.world.files.memory.lose_power(number(rest)?);
                 lost.ok().context("memory")
             }
             _ => {
@@ -263,10 +263,10 @@ impl Course {
 
     /// Plays a verb.
     fn verb(&mut self, texts: &Texts, family: Family, line: &str) -> Result<()> {
-        let before = self.world.files.calls();
+        let before = self.world.files.memory.calls();
         self.said = play(&mut self.world, texts, family, line)?;
         self.heard = 0;
-        self.calls = self.world.files.calls().saturating_sub(before);
+        self.calls = self.world.files.memory.calls().saturating_sub(before);
         Ok(())
     }
 }

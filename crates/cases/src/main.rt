@@ -9,6 +9,7 @@ mod causes;
 mod edits;
 mod formats;
 mod judge;
+mod later;
 mod names;
 mod objects;
 mod read_back;
@@ -17,6 +18,7 @@ mod sweep;
 mod texts;
 mod transactions;
 mod tree;
+mod twice;
 mod world;
 
 use crate::judge::{Verdict, judge_refused, verdict_on};

@@ -8,12 +8,12 @@ use crate::causes::{of_commit, of_prepare};
 use crate::reads::{found_lines, item_line};
 use crate::texts::{Texts, split};
 use crate::transactions::{Said, line, outcome};
+use crate::twice::Twice;
 use crate::world::World;
 use anyhow::{Context, Result};
 use bstr::ByteSlice;
 use gix_ref_edits::transaction::RefEdit;
 use gix_ref_files::lock::{Acquire, Lock};
-use gix_ref_memory::memory::Memory;
 use gix_ref_name::name::PartialNameRef;
 use gix_ref_packed::packed::Buffer;
 use gix_ref_packed_transaction::Transaction;
@@ -80,12 +80,7 @@ fn with_found(
 }
 
 /// Commits and lists.
-fn then_list(
-    world: &World,
-    store: &mut Store<Memory>,
-    given: Given,
-    prefix: &[u8],
-) -> Result<Said> {
+fn then_list(world: &World, store: &mut Store<Twice>, given: Given, prefix: &[u8]) -> Result<Said> {
     let alloc = world.alloc;
     let mode = world.mode_without_objects();
     match commit_then_list(alloc, store, mode, given, world.signature(), prefix) {
@@ -98,7 +93,7 @@ fn then_list(
 }
 
 /// Commits and looks up.
-fn then_find(world: &World, store: &mut Store<Memory>, given: Given, name: &[u8]) -> Result<Said> {
+fn then_find(world: &World, store: &mut Store<Twice>, given: Given, name: &[u8]) -> Result<Said> {
     let alloc = world.alloc;
     let name = PartialNameRef::try_from(name).context("a partial name")?;
     let mode = world.mode_without_objects();
@@ -114,7 +109,7 @@ fn then_find(world: &World, store: &mut Store<Memory>, given: Given, name: &[u8]
 /// Commits, looks up and lists.
 fn then_read(
     world: &World,
-    store: &mut Store<Memory>,
+    store: &mut Store<Twice>,
     given: Given,
     name: &[u8],
     prefix: &[u8],

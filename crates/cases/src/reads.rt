@@ -10,6 +10,7 @@ use crate::causes::{of_find, of_following, of_item, of_log};
 use crate::edits::target_word;
 use crate::texts::{Texts, number, split};
 use crate::transactions::{Said, line};
+use crate::twice::Twice;
 use crate::world::World;
 use anyhow::{Context, Result, bail};
 use bstr::ByteSlice;
@@ -17,7 +18,6 @@ use gix_ref_follow::ReferenceExt;
 use gix_ref_follow::peel::to_id;
 use gix_ref_log::actor::SignatureRef;
 use gix_ref_log::log::{Line, LineRef};
-use gix_ref_memory::memory::Memory;
 use gix_ref_name::name::{FullNameRef, PartialNameRef};
 use gix_ref_store::file::Store;
 use gix_ref_store::file::find::existing;
@@ -55,7 +55,7 @@ fn not_found(alloc: Global, name: &[u8]) -> Result<Said> {
 /// What a lookup finds.
 fn found(
     alloc: Global,
-    store: &mut Store<Memory>,
+    store: &mut Store<Twice>,
     word: &str,
     name: PartialNameRef<'_>,
 ) -> Result<Said> {
@@ -85,7 +85,7 @@ pub fn found_lines(alloc: Global, found: Result<Reference, existing::Error>) -> 
 }
 
 /// What a lookup of loose files alone finds.
-fn found_loose(alloc: Global, store: &mut Store<Memory>, name: PartialNameRef<'_>) -> Result<Said> {
+fn found_loose(alloc: Global, store: &mut Store<Twice>, name: PartialNameRef<'_>) -> Result<Said> {
     match store.try_find_loose(alloc, name) {
         Ok(Some(found)) => {
             let mut text = target_word(alloc, &found.target)?.as_bytes().to_vec(alloc)?;
@@ -117,7 +117,7 @@ pub fn item_line(
 }
 
 /// The items of a listing.
-fn items(alloc: Global, listing: LooseThenPacked<'_, Memory>) -> Result<Said> {
+fn items(alloc: Global, listing: LooseThenPacked<'_, Twice>) -> Result<Said> {
     let mut said = Vec::new(alloc);
     for item in listing {
         said.push(item_line(alloc, item)?)?;
@@ -133,7 +133,7 @@ fn refused(alloc: Global, cause: &str) -> Result<Said> {
 /// What a listing gives, or why there is none.
 fn items_of(
     alloc: Global,
-    listing: Result<LooseThenPacked<'_, Memory>, iter::Error>,
+    listing: Result<LooseThenPacked<'_, Twice>, iter::Error>,
 ) -> Result<Said> {
     match listing {
         Ok(listing) => items(alloc, listing),
@@ -142,7 +142,7 @@ fn items_of(
 }
 
 /// A listing of loose files and records.
-fn listed(alloc: Global, store: &mut Store<Memory>, prefix: Option<&[u8]>) -> Result<Said> {
+fn listed(alloc: Global, store: &mut Store<Twice>, prefix: Option<&[u8]>) -> Result<Said> {
     let mut platform = match store.iter(alloc) {
         Ok(platform) => platform,
         Err(error) => return refused(alloc, format!(in alloc; "{error}")?.as_str()),
@@ -154,7 +154,7 @@ fn listed(alloc: Global, store: &mut Store<Memory>, prefix: Option<&[u8]>) -> Re
 }
 
 /// A listing of loose files alone.
-fn listed_loose(alloc: Global, store: &mut Store<Memory>, prefix: Option<&[u8]>) -> Result<Said> {
+fn listed_loose(alloc: Global, store: &mut Store<Twice>, prefix: Option<&[u8]>) -> Result<Said> {
     match prefix {
         Some(prefix) => items_of(alloc, store.loose_iter_prefixed(alloc, prefix)),
         None => items_of(alloc, store.loose_iter(alloc)),
@@ -198,7 +198,7 @@ fn lent_line(alloc: Global, line: &LineRef<'_>) -> Result<Vec<u8>> {
 /// A log from its end.
 fn log_back(
     alloc: Global,
-    store: &mut Store<Memory>,
+    store: &mut Store<Twice>,
     name: FullNameRef<'_>,
     bytes: usize,
 ) -> Result<Said> {
@@ -223,7 +223,7 @@ fn log_back(
 }
 
 /// A log from its beginning.
-fn log_forward(alloc: Global, store: &mut Store<Memory>, name: FullNameRef<'_>) -> Result<Said> {
+fn log_forward(alloc: Global, store: &mut Store<Twice>, name: FullNameRef<'_>) -> Result<Said> {
     let mut buf = Vec::new(alloc);
     let lines = match store.reflog_iter(alloc, name, &mut buf) {
         Ok(Some(lines)) => lines,
@@ -244,7 +244,7 @@ fn log_forward(alloc: Global, store: &mut Store<Memory>, name: FullNameRef<'_>) 
 }
 
 /// Whether there is a log.
-fn log_exists(alloc: Global, store: &mut Store<Memory>, name: FullNameRef<'_>) -> Result<Said> {
+fn log_exists(alloc: Global, store: &mut Store<Twice>, name: FullNameRef<'_>) -> Result<Said> {
     match store.reflog_exists(alloc, name) {
         Ok(true) => line(alloc, "yes"),
         Ok(false) => line(alloc, "no"),
@@ -253,7 +253,7 @@ fn log_exists(alloc: Global, store: &mut Store<Memory>, name: FullNameRef<'_>) -
 }
 
 /// Whether the store is new.
-fn is_new(alloc: Global, store: &mut Store<Memory>, name: FullNameRef<'_>) -> Result<Said> {
+fn is_new(alloc: Global, store: &mut Store<Twice>, name: FullNameRef<'_>) -> Result<Said> {
     match store.is_pristine(alloc, name)? {
         Some(true) => line(alloc, "yes"),
         Some(false) => line(alloc, "no"),
@@ -262,7 +262,7 @@ fn is_new(alloc: Global, store: &mut Store<Memory>, name: FullNameRef<'_>) -> Re
 }
 
 /// Follows a reference to an object: the answer, and then where the reference is.
-fn followed(world: &World, store: &mut Store<Memory>, word: &str, name: &[u8]) -> Result<Said> {
+fn followed(world: &World, store: &mut Store<Twice>, word: &str, name: &[u8]) -> Result<Said> {
     let alloc = world.alloc;
     let partial = PartialNameRef::try_from(name).context("a partial name")?;
     let mut reference = store.find(alloc, partial).ok().context("a reference")?;
@@ -293,7 +293,7 @@ fn followed(world: &World, store: &mut Store<Memory>, word: &str, name: &[u8]) -
 /// A verb with a partial name or a prefix.
 fn read_by_partial(
     world: &World,
-    store: &mut Store<Memory>,
+    store: &mut Store<Twice>,
     word: &str,
     text: &[u8],
     has_text: bool,
@@ -322,7 +322,7 @@ fn read_by_partial(
 /// A verb with a full name.
 fn read_by_full(
     alloc: Global,
-    store: &mut Store<Memory>,
+    store: &mut Store<Twice>,
     word: &str,
     text: &[u8],
     rest: &str,
@@ -368,7 +368,7 @@ pub fn read(world: &mut World, texts: &Texts, word: &str, rest: &str) -> Result<
 /// The target of a reference in one word: `absent` where it does not exist, `fault` where it cannot be read.
 pub fn reading(
     alloc: Global,
-    store: &mut Store<Memory>,
+    store: &mut Store<Twice>,
     texts: &Texts,
     name: &str,
 ) -> Result<String> {

@@ -3,19 +3,22 @@
 //! - `each stop PARTS ..`: the process stops in each call of files in turn, after each of these numbers of parts (`0-160`: each number
 //!   from 0 to 160), which are the bytes of an append; then power is lost too
 //! - `each fault`: each call of files fails in turn; then power is lost too
-//! - `each read`: each call of files of a verb that reads fails in turn: it prints a fault or a refusal then, and nothing that it does not
-//!   print else
+//! - `each pair`: each two calls of files fail in one run
+//! - `each read`: each call of files and each read of an open file of a verb that reads fails in turn: it prints a fault or a refusal then,
+//!   and nothing that it does not print else
 //! - `each loss [BITS]`: power is lost after it is done. In losses the kept changes are none, all, and each of the first BITS (7) alone;
 //!   after stops within an append the first 7
 //! - `each allocation`: `bin/refuse-allocations` refuses each allocation of memory in turn
 //! - `readings NAME ..`, and rows `| TARGET ..`: what these references read then, `absent` where they do not exist: the first row before
 //!   the verb, and the others after each step of it, in their order
+//! - `later NAME ..`: these references of the git folder are deleted after each stop and each fault, as `later` says
 //! - `between PATH TEXT`: what a file may hold between two transactions of a script
 //! - `logs-of PATH ..`: the log of each step, or several joined by `+`, or `-`: it is whole where the step is done
 //! - `may OUTCOME`: the beginning of what is printed after a fault. Each comes, and no others, unless all is done
 //!
 //! In each of these each file is as before or as after the verb, but for its own locks, and for a beginning of a log line.
 use crate::judge::{Family, LineKind, change, kind_of, play};
+use crate::later::hold_later;
 use crate::reads::reading;
 use crate::texts::{Texts, number, split};
 use crate::transactions::Said;
@@ -256,7 +259,24 @@ impl<'l> Sweep<'l> {
         self.hold_files(&tree, lost)?;
         let row = self.row(world)?;
         self.hold_logs(&tree, row)?;
+        if !lost {
+            self.hold_later(world, &tree)?;
+        }
         Ok(row)
+    }
+
+    /// Deletes the references of a line `later`, beside the locks that were left.
+    fn hold_later(&self, world: &mut World, tree: &Tree) -> Result<()> {
+        let Some(names) = rest_of(self.lines, "later") else {
+            return Ok(());
+        };
+        let mut locks = Vec::new(self.alloc);
+        for file in tree.files() {
+            if self.is_new_lock(file.path.as_slice()) {
+                locks.push(file.path.clone()?)?;
+            }
+        }
+        hold_later(world, self.texts, names, locks.as_slice())
     }
 
     /// Losses of power after this plan, with so many single changes kept; of one that was done, only the last row shows.
@@ -266,6 +286,7 @@ impl<'l> Sweep<'l> {
             let mut came = self.disturbed(plan)?;
             came.world
                 .files
+                .memory
                 .lose_power(pick_at(at))
                 .ok()
                 .context("memory")?;
@@ -420,12 +441,12 @@ impl<'l> Sweep<'l> {
         Ok(())
     }
 
-    /// One fault, and the losses after it; which of the outcomes came.
-    fn fault(&self, call: u64) -> Result<Option<u64>> {
-        let mut came = self.disturbed(Plan::Fails(call))?;
-        let row = self.hold(&mut came.world, false)?;
+    /// One fault, or two; which of the outcomes came, and whether all is done.
+    fn fault(&self, plan: Plan) -> Result<(Option<u64>, bool)> {
+        let mut came = self.disturbed(plan)?;
         let tree = came.world.tree()?;
         self.hold_locks(&tree, &came.said)?;
+        let row = self.hold(&mut came.world, false)?;
         let done = is_done(&came.said);
         if done && row != self.last_row() {
             bail!("done, and not all is there")
@@ -436,15 +457,29 @@ impl<'l> Sweep<'l> {
         if is_refused && !is_run && row != 0 {
             bail!("refused, and something is edited")
         }
-        self.losses(Plan::Fails(call), self.bits, done)?;
-        self.outcome(&came.said)
+        Ok((self.outcome(&came.said)?, done))
+    }
+
+    /// Each two faults in one run: the second is any call that comes after the first.
+    fn pairs(&self, start: u64, calls: u64) -> Result<()> {
+        for first in 1..calls.saturating_add(1) {
+            let came = self.disturbed(Plan::Fails(first))?;
+            let all = came.world.files.memory.calls().saturating_sub(start);
+            for second in first.saturating_add(1)..all.saturating_add(1) {
+                self.fault(Plan::FailsTwice(first, second))
+                    .with_context(|| "two faults")?;
+            }
+        }
+        Ok(())
     }
 
     /// Each fault; each outcome of the case comes.
     fn faults(&self, calls: u64) -> Result<()> {
         let mut seen = 0u64;
         for call in 1..calls.saturating_add(1) {
-            let outcome = self.fault(call).with_context(|| "a fault")?;
+            let plan = Plan::Fails(call);
+            let (outcome, done) = self.fault(plan).with_context(|| "a fault")?;
+            self.losses(plan, self.bits, done)?;
             if let Some(at) = outcome {
                 seen |= bit_of(at as usize);
             }
@@ -483,10 +518,13 @@ fn other_line<'s>(said: &'s Said, whole: &Said) -> Option<&'s [u8]> {
 }
 
 impl Sweep<'_> {
-    /// Each call of a verb that reads fails.
+    /// Each call of a verb that reads fails, and each read of an open file, of which the last have greater numbers.
     fn reads(&self, calls: u64, whole: &Said) -> Result<()> {
-        for call in 1..calls.saturating_add(1) {
+        for call in 1..u64::MAX {
             let came = self.disturbed(Plan::Fails(call))?;
+            if call > calls && came.said == *whole {
+                return Ok(());
+            }
             if let Some(line) = other_line(&came.said, whole) {
                 bail!("call {call} fails, and there is {}", line.as_bstr())
             }
@@ -516,7 +554,10 @@ fn last_verb(lines: &[String]) -> Option<LastVerb> {
 
 /// Whether this is a way in which a verb is disturbed.
 fn is_way(word: &str) -> bool {
-    matches!(word, "stop" | "fault" | "read" | "loss" | "allocation")
+    matches!(
+        word,
+        "stop" | "fault" | "pair" | "read" | "loss" | "allocation"
+    )
 }
 
 /// Holds the lines of what may come of a disturbed verb to a line that begins with `each`, and these to the ways that there are.
@@ -543,9 +584,10 @@ pub fn hold_lines(lines: &[String]) -> Result<()> {
 pub fn sweep_case(alloc: Global, texts: &Texts, lines: &[String], after: &Tree) -> Result<()> {
     let stops = rest_of(lines, "each stop");
     let faults = rest_of(lines, "each fault");
+    let pairs = rest_of(lines, "each pair");
     let loss = rest_of(lines, "each loss");
     let reads = rest_of(lines, "each read");
-    if stops.is_none() && faults.is_none() && loss.is_none() && reads.is_none() {
+    if stops.is_none() && faults.is_none() && pairs.is_none() && loss.is_none() && reads.is_none() {
         return Ok(());
     }
     let mut sweep = Sweep {
@@ -561,9 +603,9 @@ pub fn sweep_case(alloc: Global, texts: &Texts, lines: &[String], after: &Tree) 
         },
     };
     sweep.before = sweep.world_before()?.tree()?;
-    let start = sweep.world_before()?.files.calls();
+    let start = sweep.world_before()?.files.memory.calls();
     let whole = sweep.disturbed(Plan::Runs)?;
-    let calls = whole.world.files.calls().saturating_sub(start);
+    let calls = whole.world.files.memory.calls().saturating_sub(start);
     if reads.is_some() {
         return sweep.reads(calls, &whole.said);
     }
@@ -575,6 +617,9 @@ pub fn sweep_case(alloc: Global, texts: &Texts, lines: &[String], after: &Tree) 
     }
     if faults.is_some() {
         sweep.faults(calls)?;
+    }
+    if pairs.is_some() {
+        sweep.pairs(start, calls)?;
     }
     Ok(())
 }

@@ -8,12 +8,12 @@ use crate::causes::{of_commit, of_prepare};
 use crate::edits::edit_line;
 use crate::objects::Objects;
 use crate::texts::Texts;
+use crate::twice::Twice;
 use crate::world::World;
 use anyhow::{Context, Result};
 use bstr::ByteSlice;
 use gix_ref_edits::transaction::RefEdit;
 use gix_ref_files::files::Files;
-use gix_ref_memory::memory::Memory;
 use gix_ref_program::run::run;
 use gix_ref_store::file::Store;
 use gix_ref_store::file::transaction::{
@@ -67,12 +67,7 @@ fn refusal(world: &mut World, refused: Refused<Objects>) -> Result<Said> {
 }
 
 /// Prepares the edits and gives them up.
-fn given_up(
-    world: &mut World,
-    store: &mut Store<Memory>,
-    text: &str,
-    option: &str,
-) -> Result<Said> {
+fn given_up(world: &mut World, store: &mut Store<Twice>, text: &str, option: &str) -> Result<Said> {
     let (alloc, edits, mode) = (world.alloc, world.take_edits(), world.take_mode());
     match store.transaction().packed_refs(mode).prepare(alloc, edits) {
         Err(refused) => refusal(world, refused),
@@ -92,7 +87,7 @@ fn given_up(
 /// Commits a prepared transaction.
 fn finished(
     world: &mut World,
-    prepared: Prepared<'_, Memory, Plan<Objects>>,
+    prepared: Prepared<'_, Twice, Plan<Objects>>,
     option: &str,
 ) -> Result<Said> {
     let alloc = world.alloc;
@@ -122,7 +117,7 @@ fn finished(
 }
 
 /// Prepares the edits and commits them.
-fn committed(world: &mut World, store: &mut Store<Memory>, option: &str) -> Result<Said> {
+fn committed(world: &mut World, store: &mut Store<Twice>, option: &str) -> Result<Said> {
     let (alloc, edits, mode) = (world.alloc, world.take_edits(), world.take_mode());
     match store.transaction().packed_refs(mode).prepare(alloc, edits) {
         Err(refused) => refusal(world, refused),
@@ -156,7 +151,7 @@ pub fn run_words(world: &mut World, texts: &Texts, rest: &str) -> Result<Said> {
     let alloc = world.alloc;
     let words = texts.words(rest)?;
     let mut output = Vec::new(alloc);
-    let files = mem::replace(&mut world.files, Memory::new(alloc));
+    let files = mem::replace(&mut world.files, Twice::new(alloc));
     let ran = run(alloc, files, PackedRefs::default(), &words, &mut output);
     world.files = ran.files;
     let mut said = Vec::new(alloc);

@@ -1,9 +1,9 @@
 //! All files of a world, to compare.
 use crate::texts::shown;
+use crate::twice::Twice;
 use anyhow::{Context, Result, bail};
 use bstr::ByteSlice;
 use gix_ref_files::files::Files;
-use gix_ref_memory::memory::Memory;
 use std::alloc::Global;
 
 /// A file: its path and its text.
@@ -30,8 +30,8 @@ fn below(alloc: Global, folder: &[u8], name: &[u8]) -> Result<Vec<u8>> {
 
 impl Tree {
     /// The files as they are. Calls of files that fail or stop by plan go before: the plan is dropped.
-    pub fn of(alloc: Global, memory: &mut Memory) -> Result<Tree> {
-        memory.restart();
+    pub fn of(alloc: Global, files: &mut Twice) -> Result<Tree> {
+        files.restart();
         let mut tree = Tree {
             alloc,
             files: Vec::new(alloc),
@@ -43,25 +43,20 @@ impl Tree {
             let Some(path) = folders.pop() else {
                 return Ok(tree);
             };
-            tree.add(memory, path, &mut folders)?;
+            tree.add(files, path, &mut folders)?;
         }
         bail!("too many files")
     }
 
     /// Adds the file at a path, or what is in the folder there.
-    fn add(
-        &mut self,
-        memory: &mut Memory,
-        path: Vec<u8>,
-        folders: &mut Vec<Vec<u8>>,
-    ) -> Result<()> {
+    fn add(&mut self, files: &mut Twice, path: Vec<u8>, folders: &mut Vec<Vec<u8>>) -> Result<()> {
         let alloc = self.alloc;
-        if let Some(text) = memory.get(path.as_slice()) {
+        if let Some(text) = files.memory.get(path.as_slice()) {
             let text = text.to_vec(alloc)?;
             self.files.push(FileText { path, text })?;
             return Ok(());
         }
-        let listed = memory.list(alloc, path.as_slice()).ok().context("memory")?;
+        let listed = files.list(alloc, path.as_slice()).ok().context("memory")?;
         if let Some(entries) = listed {
             for entry in entries.as_slice() {
                 folders.push(below(alloc, path.as_slice(), entry.name.as_slice())?)?;

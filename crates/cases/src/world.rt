@@ -14,12 +14,12 @@ use crate::edits;
 use crate::objects::Objects;
 use crate::texts::{Texts, number, split};
 use crate::tree::Tree;
+use crate::twice::Twice;
 use anyhow::{Context, Result, bail};
 use gix_ref_edits::transaction::RefEdit;
 use gix_ref_files::files::Files;
 use gix_ref_hash::hash::Kind;
 use gix_ref_log::actor::{SignatureRef, Time};
-use gix_ref_memory::memory::Memory;
 use gix_ref_name::name::PartialNameRef;
 use gix_ref_name::namespace::{Namespace, expand};
 use gix_ref_object::object::Never;
@@ -54,6 +54,8 @@ pub enum Plan {
     Runs,
     /// The call of files of this number fails.
     Fails(u64),
+    /// The calls of both numbers fail, of which the first is the lesser.
+    FailsTwice(u64, u64),
     /// The process stops in the call of this number, after so many parts.
     Stops(u64, usize),
 }
@@ -62,7 +64,7 @@ pub enum Plan {
 #[derive(Drop)]
 pub struct World {
     pub alloc: Global,
-    pub files: Memory,
+    pub files: Twice,
     pub plan: Plan,
     settings: Settings,
     committer: Option<Committer>,
@@ -104,7 +106,7 @@ impl World {
     pub fn new(alloc: Global, texts: &Texts) -> Result<World> {
         Ok(World {
             alloc,
-            files: Memory::new(alloc),
+            files: Twice::new(alloc),
             plan: Plan::Runs,
             settings: Settings {
                 worktree: Vec::new(alloc),
@@ -130,9 +132,9 @@ impl World {
     }
 
     /// The store over the files, which are handed back by `close`.
-    pub fn open(&mut self) -> Result<Store<Memory>> {
+    pub fn open(&mut self) -> Result<Store<Twice>> {
         let alloc = self.alloc;
-        let files = mem::replace(&mut self.files, Memory::new(alloc));
+        let files = mem::replace(&mut self.files, Twice::new(alloc));
         let common = b"/r".to_vec(alloc)?;
         let namespace = self.namespace()?;
         let Settings {
@@ -266,6 +268,7 @@ impl World {
         let path = path_of(self.alloc, texts, path)?;
         let is_put = if word == "file" {
             self.files
+                .memory
                 .put(path.as_slice(), texts.text(text)?.as_slice())
         } else {
             self.files.make_folders(path.as_slice())
@@ -295,10 +298,15 @@ impl World {
 
     /// Has the files do as planned, for one verb.
     pub fn begin(&mut self) {
+        self.files.restart();
         match self.plan {
-            Plan::Runs => self.files.restart(),
-            Plan::Fails(call) => self.files.fail_at(call),
-            Plan::Stops(call, parts) => self.files.stop_at(call, parts),
+            Plan::Runs => {}
+            Plan::Fails(call) => self.files.memory.fail_at(call),
+            Plan::FailsTwice(call, second) => {
+                self.files.second = self.files.memory.calls().saturating_add(second);
+                self.files.memory.fail_at(call);
+            }
+            Plan::Stops(call, parts) => self.files.memory.stop_at(call, parts),
         }
         self.plan = Plan::Runs;
     }
