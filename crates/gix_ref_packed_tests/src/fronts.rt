@@ -1,11 +1,13 @@
 //! The search in memory and the search in a file give the same result on every front of a text, and with every byte
-//! of it replaced.
-use crate::made::{CRLF, NAMES, TEXT, buffer, full, sorted, stored};
+//! of it replaced; and so do listings.
+use crate::made::{CRLF, NAMES, TEXT, buffer, copied, full, sorted, stored};
 use gix_ref_files::files::Files;
 use gix_ref_hash::hash::{Kind, ObjectId};
 use gix_ref_memory::memory::Memory;
 use gix_ref_name::name::FullNameRef;
+use gix_ref_packed::packed::file::PackedFile;
 use gix_ref_packed::packed::find::ParseError;
+use gix_ref_packed::packed::iter::Error as ItemError;
 use gix_ref_packed::packed::sorted_file::{FindError, SortedFile};
 use gix_ref_packed::packed::{Buffer, Found, Reference};
 use std::alloc::Global;
@@ -66,6 +68,106 @@ fn every_front(rt: HostRuntime) {
         for len in 0..=text.len() {
             let whole = sorted(&rt, alloc, &text[..len]);
             compare(&rt, alloc, whole.as_slice());
+        }
+    }
+}
+
+/// What a line of a listing is: the number of a record among those of the text, or the number of a bad line.
+type Item = Result<usize, u64>;
+
+/// The items of a front of the text behind a header of one line, by its lines one after the other. A record ends with its LF, and
+/// goes with a peeled line that does; without that its line is bad too.
+fn slow_items(rt: &impl Abort, alloc: Global, front: &[u8]) -> Vec<Item> {
+    let mut items: Vec<Item> = Vec::new(alloc);
+    let (mut number, mut records) = (1u64, 0usize);
+    for line in front.split_inclusive(|byte| *byte == b'\n') {
+        number = number.saturating_add(1);
+        let (is_whole, is_peeled) = (line.ends_with(b"\n"), line.starts_with(b"^"));
+        if is_whole && is_peeled {
+            continue;
+        }
+        if is_peeled {
+            records = records.saturating_sub(1);
+            items.pop();
+            items
+                .push(Err(number.saturating_sub(1)))
+                .expect(rt, "memory");
+        }
+        if is_whole {
+            items.push(Ok(records)).expect(rt, "memory");
+            records = records.saturating_add(1);
+        } else {
+            items.push(Err(number)).expect(rt, "memory");
+        }
+    }
+    items
+}
+
+/// The items of a listing.
+fn items_of(rt: &impl Abort, alloc: Global, packed: &Buffer, prefix: &[u8]) -> Vec<Item> {
+    let mut items = Vec::new(alloc);
+    for item in packed.iter_prefixed(copied(rt, alloc, prefix)) {
+        let item = match item {
+            Ok(record) => Ok(
+                NAMES
+                    .iter()
+                    .position(|name| record.eq_bytes(name.as_bytes()))
+                    .expect(rt, "a name of the text"),
+            ),
+            Err(ItemError::Reference { line_number, .. }) => Err(line_number),
+            Err(_) => Err(0),
+        };
+        items.push(item).expect(rt, "memory");
+    }
+    items
+}
+
+/// Whether these are all records of the prefix, in order, and else bad lines of the text.
+fn are_of(items: &[Item], slow: &[Item], prefix: &[u8]) -> bool {
+    let mut rest = items.iter();
+    for item in slow {
+        let is_listed = match item {
+            Ok(at) => NAMES
+                .get(*at)
+                .is_some_and(|name| name.as_bytes().starts_with(prefix)),
+            Err(_) => rest.as_slice().first() == Some(item),
+        };
+        if is_listed && rest.next() != Some(item) {
+            return false;
+        }
+    }
+    rest.next().is_none()
+}
+
+/// Lists all that begins with each front of each name, in memory and of the file.
+fn compare_listings(rt: &impl Abort, alloc: Global, front: &[u8]) {
+    let whole = sorted(rt, alloc, front);
+    let packed = buffer(rt, alloc, &whole);
+    let slow = slow_items(rt, alloc, front);
+    for name in NAMES {
+        for len in 0..=name.len() {
+            let prefix = &name.as_bytes()[..len];
+            let items = items_of(rt, alloc, &packed, prefix);
+            assert!(rt;
+                are_of(&items, &slow, prefix),
+                "{front:?} {prefix:?}: {items:?}"
+            );
+            let mut memory = stored(rt, alloc, &whole);
+            let opened = PackedFile::open(alloc, &mut memory, b"r/packed-refs", Kind::Sha1);
+            let file = opened.expect(rt, "it is opened").expect(rt, "a file");
+            let part = file.into_prefixed(alloc, prefix).expect(rt, "it is read");
+            let in_file = items_of(rt, alloc, &part, prefix);
+            assert!(rt; in_file == items, "{front:?} {prefix:?}: {in_file:?}");
+        }
+    }
+}
+
+#[test]
+fn every_front_is_listed(rt: HostRuntime) {
+    let alloc = rt.alloc();
+    for text in [TEXT, CRLF] {
+        for len in 0..=text.len() {
+            compare_listings(&rt, alloc, &text[..len]);
         }
     }
 }
