@@ -77,3 +77,30 @@ fn names_in_a_set(rt: HostRuntime) -> Result<(), Fail> {
     assert_eq!(rt; names.len(), 2, "equal names have one hash");
     Ok(())
 }
+
+/// The rule that `refs/heads/a` breaks with this byte in this place, by `git check-ref-format`; which of two is told first is ours.
+fn broken(place: usize, byte: u8) -> Option<Error> {
+    match (byte, place) {
+        (b'*', _) => Some(Error::Asterisk),
+        (0..=0x20 | 0x7f | b'~' | b'^' | b':' | b'?' | b'[' | b'\\', _) => {
+            Some(Error::InvalidByte { byte })
+        }
+        (b'/', 0) => Some(Error::StartsWithSlash),
+        (b'/', 11) => Some(Error::EndsWithSlash),
+        (b'/', 3 | 5 | 9) => Some(Error::RepeatedSlash),
+        (b'.', 0 | 5 | 11) => Some(Error::StartsWithDot),
+        _ => None,
+    }
+}
+
+#[test]
+fn any_byte_anywhere(rt: HostRuntime) {
+    for place in 0..12usize {
+        for byte in 0..=255u8 {
+            let mut text = *b"refs/heads/a";
+            text[place] = byte;
+            let error = FullNameRef::try_from(text.as_slice()).err();
+            assert_eq!(rt; error, broken(place, byte), "{byte} at {place}");
+        }
+    }
+}
