@@ -380,7 +380,7 @@ pub fn commit(
     let records = records_after(rt, alloc, kept, edits);
     let done = write_all(rt, alloc, kept, edits, who);
     release(rt, alloc, kept, edits);
-    if let Some(records) = records {
+    if let (Ok(()), Some(records)) = (&done, records) {
         kept.packed = if records.is_empty() {
             Packed::Nothing
         } else {

@@ -9,6 +9,8 @@ mod committing;
 #[cfg(test)]
 mod dice;
 #[cfg(test)]
+mod disk;
+#[cfg(test)]
 mod edits;
 #[cfg(test)]
 mod files;

@@ -18,7 +18,7 @@ use std::process::Abort;
 
 /// What became of a transaction.
 #[derive(Debug, Drop)]
-enum Answer {
+pub enum Answer {
     Refused(prepares::Error),
     Failed(commits::Error),
     Done(Vec<RefEdit>),
@@ -41,7 +41,7 @@ struct Tally {
 }
 
 /// The use of `packed-refs` that puts these.
-fn uses(puts: Puts) -> PackedRefs<Objects> {
+pub fn uses(puts: Puts) -> PackedRefs<Objects> {
     match puts {
         Puts::Nothing => PackedRefs::DeletionsOnly,
         Puts::Updates => PackedRefs::DeletionsAndNonSymbolicUpdates(Objects),
@@ -51,30 +51,21 @@ fn uses(puts: Puts) -> PackedRefs<Objects> {
     }
 }
 
-/// Prepares edits and commits them.
-fn answered(
+/// Prepares edits and commits them: what became of them, and the locks that are left.
+pub fn answered(
     rt: &impl Abort,
     alloc: Global,
     store: &mut Store<Memory>,
     puts: Puts,
     edits: Vec<RefEdit>,
     who: Who,
-) -> Answer {
+) -> (Answer, Vec<Vec<u8>>) {
     let transaction = store.transaction().packed_refs(uses(puts));
     match transaction.prepare(alloc, edits) {
-        Err(refused) => {
-            assert!(rt; refused.locks_left.is_empty(), "no lock is left");
-            Answer::Refused(refused.error)
-        }
+        Err(refused) => (Answer::Refused(refused.error), refused.locks_left),
         Ok(prepared) => match prepared.commit(alloc, signature(who)) {
-            Err(failed) => {
-                assert!(rt; failed.locks_left.is_empty(), "no lock is left");
-                Answer::Failed(failed.error)
-            }
-            Ok(done) => {
-                assert!(rt; done.locks_left.is_empty(), "no lock is left");
-                Answer::Done(done.edits)
-            }
+            Err(failed) => (Answer::Failed(failed.error), failed.locks_left),
+            Ok(done) => (Answer::Done(done.edits), done.locks_left),
         },
     }
 }
@@ -115,7 +106,7 @@ fn are_edits(prepared: &[RefEdit], edits: &[Edit]) -> bool {
 }
 
 /// Whether an answer is the one that is wanted.
-fn is_same(answer: &Answer, want: &Want, edits: &[Edit]) -> bool {
+pub fn is_same(answer: &Answer, want: &Want, edits: &[Edit]) -> bool {
     match (answer, want) {
         (Answer::Refused(error), Want::Refused(cause)) => is_cause(error, *cause),
         (Answer::Failed(error), Want::Failed(failure)) => is_failure(error, failure),
@@ -180,7 +171,7 @@ pub fn holds(rt: &impl Abort, alloc: Global, memory: &mut Memory, files: &[Held]
 }
 
 /// Who commits.
-fn random_who(dice: &mut Dice) -> Who {
+pub fn random_who(dice: &mut Dice) -> Who {
     match dice.roll() {
         0..=9 => Who::Nobody,
         10..=17 => Who::Bracket,
@@ -207,7 +198,8 @@ fn compare(rt: &impl Abort, alloc: Global, dice: &mut Dice, puts: Puts, tally: &
     let who = random_who(dice);
     let given = given(rt, alloc, &edits);
     let mut store = store(rt, alloc, memory, kept.setting);
-    let answer = answered(rt, alloc, &mut store, puts, given, who);
+    let (answer, locks) = answered(rt, alloc, &mut store, puts, given, who);
+    assert!(rt; locks.is_empty(), "no lock is left");
     let mut memory = store.into_files();
     let before = copied(rt, alloc, &kept.files);
     let want = wanted(rt, alloc, &mut kept, &mut edits, who);
