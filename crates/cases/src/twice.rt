@@ -27,12 +27,13 @@ impl Twice {
         self.memory.restart();
     }
 
-    /// The memory for the next call, which fails if it is the second.
-    fn turn(&mut self) -> &mut Memory {
+    /// Has the next call fail, if it is the second.
+    fn arm(&mut self)
+        ensures { faults_of self.new.memory ≡ faults_of self.old.memory }
+    {
         if self.memory.calls().saturating_add(1) == self.second {
             self.memory.fail_at(1);
         }
-        &mut self.memory
     }
 }
 
@@ -58,50 +59,62 @@ impl Files for Twice {
     ghost shaped = { λ files honest. absurd honest };
 
     fn kind(&mut self, path: &[u8]) -> Result<Node, FileError> {
-        self.turn().kind(path)
+        self.arm();
+        self.memory.kind(path)
     }
 
     fn read(&mut self, alloc: Global, path: &[u8], buf: &mut Vec<u8>) -> Result<Node, FileError> {
-        self.turn().read(alloc, path, buf)
+        self.arm();
+        self.memory.read(alloc, path, buf)
     }
 
     fn open(&mut self, alloc: Global, path: &[u8]) -> Result<Option<MemoryReader>, FileError> {
-        self.turn().open(alloc, path)
+        self.arm();
+        self.memory.open(alloc, path)
     }
 
     fn list(&mut self, alloc: Global, path: &[u8]) -> Result<Option<Vec<Entry>>, FileError> {
-        self.turn().list(alloc, path)
+        self.arm();
+        self.memory.list(alloc, path)
     }
 
     fn create_new(&mut self, path: &[u8]) -> Result<Create, FileError> {
-        self.turn().create_new(path)
+        self.arm();
+        self.memory.create_new(path)
     }
 
     fn make_folders(&mut self, path: &[u8]) -> Result<bool, FileError> {
-        self.turn().make_folders(path)
+        self.arm();
+        self.memory.make_folders(path)
     }
 
     fn append(&mut self, path: &[u8], bytes: &[u8]) -> Result<bool, FileError> {
-        self.turn().append(path, bytes)
+        self.arm();
+        self.memory.append(path, bytes)
     }
 
     fn rename(&mut self, from: &[u8], to: &[u8]) -> Result<Rename, FileError> {
-        self.turn().rename(from, to)
+        self.arm();
+        self.memory.rename(from, to)
     }
 
     fn remove_file(&mut self, path: &[u8]) -> Result<bool, FileError> {
-        self.turn().remove_file(path)
+        self.arm();
+        self.memory.remove_file(path)
     }
 
     fn remove_folder(&mut self, path: &[u8]) -> Result<bool, FileError> {
-        self.turn().remove_folder(path)
+        self.arm();
+        self.memory.remove_folder(path)
     }
 
     fn sync_file(&mut self, path: &[u8]) -> Result<bool, FileError> {
-        self.turn().sync_file(path)
+        self.arm();
+        self.memory.sync_file(path)
     }
 
     fn sync_folder(&mut self, path: &[u8]) -> Result<bool, FileError> {
-        self.turn().sync_folder(path)
+        self.arm();
+        self.memory.sync_folder(path)
     }
 }
