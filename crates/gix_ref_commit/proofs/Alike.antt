@@ -17,9 +17,9 @@ use Rattle.gix_ref_edits.specs.RefEdits.{name_of, mode_of, is_of_reference}
 use Rattle.gix_ref_edits.specs.declared.transaction.RefEdit.{RefEdit}
 use Rattle.gix_ref_edits.specs.declared.transaction.RefLog.{RefLog}
 use Rattle.gix_ref_transaction.specs.CarriedEdits.{IsCarried, AreCarried, change_of, edit_of}
-use Rattle.gix_ref_transaction.specs.Causes.{packed_id}
+use Rattle.gix_ref_transaction.specs.Causes.{deletes_reference, packed_id}
 use Rattle.gix_ref_transaction.specs.CommittedEdits.{planned}
-use Rattle.gix_ref_transaction.specs.PackedCauses.{deletes_reference, ids_among}
+use Rattle.gix_ref_transaction.specs.PackedCauses.{ids_among}
 use Rattle.gix_ref_transaction.specs.Packing.{HaveTheirPuts, edit_peeled, peeled_in, plan_edits, put_by}
 use Rattle.gix_ref_transaction.specs.PrepareSteps.{effect_value, effects_of, ids_in, lock_paths, place_paths, updates}
 use Rattle.gix_ref_files.specs.Lock.{lock_of}

@@ -5,6 +5,7 @@ pub mod Laying
 pub mod Looking
 pub mod Looks
 pub mod LooseLemmas
+pub mod Missing
 pub mod NamedRecords
 pub mod Opening
 pub mod Stripping

@@ -118,6 +118,7 @@ still_asked {R} {G} kind file file' first mid last same before after =
       asked = λ records are. later.asked records (before.asked records are);
       readers = λ honest. later.readers (before.readers honest);
       searched = λ k text is. before.searched k text (later.searched k text is);
+      none = λ none. before.none (later.none none);
     }
 
 -- the result of one candidate alone

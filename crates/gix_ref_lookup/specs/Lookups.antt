@@ -1,5 +1,6 @@
 -- What the calls of this crate return: candidates, the records that they ask, and lookups (`gitrevisions`).
 use Rattle.std.specs.Prelude.{◌≡◌, ◌≢◌, ◌⊎◌, ℕ, List, [], ◌∷◌, ◌++◌, Bool, true, Option, Some, None, Result, Ok, Err, if◌then◌else◌, nat_eq, option_to_list}
+use Rattle.std.specs.List.{AllByRecursion}
 use Rattle.std.specs.Option.{option_map}
 use Rattle.std.specs.Cmp.Lexicographic.{pointwise}
 use Rattle.gix_ref_hash.specs.declared.hash.Kind.{Kind}
@@ -36,7 +37,7 @@ use Rattle.gix_ref_records.specs.OpenedText.{IsWellFormed, OpensTo}
 use Rattle.gix_ref_packed.specs.OpenFiles.{HasReadFault, packed_file_text, packed_file_kind}
 use Rattle.gix_ref_packed.specs.Buffers.{buffer_text, buffer_kind, HoldsRecords, IsRefusedFile}
 use Rattle.gix_ref_records.specs.Windows.{HitsRecord}
-use Rattle.gix_ref_records.specs.Positions.{CannotRead}
+use Rattle.gix_ref_records.specs.Positions.{CannotRead, IsNotMalformed}
 use Rattle.gix_ref_lookup.specs.StoreLayout.{folders_of, git_options, namespace_text}
 use Rattle.gix_ref_lookup.specs.LooseFiles.{IsUndecodable}
 use Rattle.gix_ref_lookup.specs.declared.settings.Settings.{Settings}
@@ -82,6 +83,11 @@ abbrev pub IsOpenedText : Kind → Option (List ℕ) → Kind → List ℕ → T
 IsOpenedText kind file of_kind text = (of_kind ≡ kind) × (bytes : List ℕ) × (line : ℕ)
     × (file ≡ Some bytes) × OpensTo kind bytes text line
 
+-- `packed-refs` can be opened: there is no such file, or some text of records is kept of it
+abbrev pub IsOpenable : Kind → Option (List ℕ) → Type 0
+IsOpenable kind None = Unit {0}
+IsOpenable kind (Some bytes) = (text : List ℕ) × (line : ℕ) × OpensTo kind bytes text line
+
 -- the text that is searched for a record, and the kind of its ids
 abbrev pub IsSearched : {R : Type 0} {G : Ghosts R} → Kind → Option (List ℕ) → Records R G → Kind →
     List ℕ → Type 0
@@ -91,6 +97,13 @@ IsSearched kind file (sources.Held buffer) of_kind text = (of_kind ≡ buffer_ki
 IsSearched kind file sources.Unopened of_kind text = IsOpenedText kind file of_kind text
 IsSearched kind file (sources.Open packed) of_kind text = (of_kind ≡ packed_file_kind packed)
     × (text ≡ packed_file_text packed)
+
+-- no text is searched: no records are asked, or those of `packed-refs`, which is not open yet and is no file
+abbrev pub SearchesNone : {R : Type 0} {G : Ghosts R} → Option (List ℕ) → Records R G → Type 0
+SearchesNone file sources.None = Unit {0}
+SearchesNone file (sources.Held buffer) = ⊥
+SearchesNone file sources.Unopened = file ≡ None
+SearchesNone file (sources.Open packed) = ⊥
 
 -- an open `packed-refs` is read by an honest reader
 abbrev pub AreHonest : {R : Type 0} {G : Ghosts R} → Records R G → Type 0
@@ -105,6 +118,7 @@ pub record AreStillAsked {R : Type 0} {G : Ghosts R} (kind : Kind) (file : Optio
   pub readers : AreHonest old → AreHonest new
   pub searched : (of_kind : Kind) (text : List ℕ) → IsSearched kind file new of_kind text →
       IsSearched kind file old of_kind text
+  pub none : SearchesNone file new → SearchesNone file old
 
 -- some text that is searched has this
 pub record OfSearched {R : Type 0} {G : Ghosts R} (kind : Kind) (file : Option (List ℕ))
@@ -113,6 +127,10 @@ pub record OfSearched {R : Type 0} {G : Ghosts R} (kind : Kind) (file : Option (
   pub text : List ℕ
   pub searched : IsSearched kind file records of_kind text
   pub has : P of_kind text
+
+-- On any text of `packed-refs`: no record is found, since no text is searched, or one that does not consist of malformed lines alone.
+abbrev pub FindsNone : {R : Type 0} {G : Ghosts R} → Kind → Option (List ℕ) → Records R G → Type 0
+FindsNone kind file records = SearchesNone file records ⊎ OfSearched kind file records IsNotMalformed
 
 -- the error of a lookup where opening has this one
 abbrev pub of_opening : OpenError → Error
@@ -224,6 +242,20 @@ IsCandidate s view records name (Some r) =
     (full_bytes r.name ≡ hit_name s name (s.key name) (view (s.place name)))
     × (reading_among s view records name ≡ Is (target_value r.target))
     × (r.peeled ≡ hit_peeled (s.key name) (view (s.place name)) records)
+
+-- On any text of `packed-refs`: a candidate is nothing. It has no loose file; and it has no key, or no record is found.
+pub record IsMissing {R : Type 0} {G : Ghosts R} (settings : Settings) (view : View)
+    (records : Records R G) (name : List ℕ) : Type 0 where
+  pub loose : view ((meaning_in settings).place name) ≡ None
+  pub packed : HasNoKey (meaning_in settings) name
+      ⊎ FindsNone settings.kind (view (meaning_in settings).packed_path) records
+
+-- and so is each candidate of a partial name; and the head of a remote has no loose file
+pub record AreMissing {R : Type 0} {G : Ghosts R} (settings : Settings) (view : View)
+    (records : Records R G) (p : List ℕ) : Type 0 where
+  pub candidates : AllByRecursion (IsMissing settings view records) (candidates p)
+  pub head : AllByRecursion (λ n. view ((meaning_in settings).place n) ≡ None)
+      (option_to_list (remote_head p))
 
 -- what a lookup finds, as a result
 abbrev pub ReturnsHit : Option Hit → Option Reference → Type 0

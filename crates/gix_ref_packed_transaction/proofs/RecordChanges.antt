@@ -15,7 +15,7 @@ use Rattle.gix_ref_rewrite.specs.Laws.{IsIdOf}
 use Rattle.gix_ref_rewrite.specs.Rewrites.{IsReadableIfAny}
 use Rattle.gix_ref_rewrite.proofs.OutcomeLemmas.{new_readable}
 use Rattle.gix_ref_repack.specs.Changes.{AreReadable, ChangeValue, record_left}
-use Rattle.gix_ref_transaction.specs.PackedCauses.{deletes_reference}
+use Rattle.gix_ref_transaction.specs.Causes.{deletes_reference}
 use Rattle.gix_ref_transaction.specs.Peels.{CanPeel, HasEnd, IfObject, IsPeeledOfKind}
 use Rattle.gix_ref_transaction.proofs.Firsts.{seen_of}
 use Rattle.gix_ref_packed_transaction.specs.RecordChanges.{AreChangesOf, CanBeTaken, IsChangeOf, change_of_name, object_put}

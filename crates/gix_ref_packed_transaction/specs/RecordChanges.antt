@@ -15,8 +15,8 @@ use Rattle.gix_ref_edits.specs.declared.transaction.Change.TheVariants.{Update, 
 use Rattle.gix_ref_edits.specs.declared.transaction.RefEdit.{RefEdit}
 use Rattle.gix_ref_rewrite.specs.Laws.{IsIdOf}
 use Rattle.gix_ref_repack.specs.Changes.{ChangeValue, keys_in}
+use Rattle.gix_ref_transaction.specs.Causes.{deletes_reference}
 use Rattle.gix_ref_transaction.specs.First.{FirstFault}
-use Rattle.gix_ref_transaction.specs.PackedCauses.{deletes_reference}
 use Rattle.gix_ref_transaction.specs.Packing.{new_object}
 use Rattle.gix_ref_transaction.specs.Peels.{CanPeel, HasEnd, IfObject, IsObjectAnd, IsPeeledOfKind, IsUnpeeled}
 use Rattle.gix_ref_transaction.specs.declared.prepare.packed.Error.{Error}

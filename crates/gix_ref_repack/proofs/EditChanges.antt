@@ -27,9 +27,9 @@ use Rattle.gix_ref_edits.specs.declared.transaction.Change.TheVariants.{Update, 
 use Rattle.gix_ref_edits.specs.declared.transaction.RefLog.TheVariants.{AndReference, Only}
 use Rattle.gix_ref_edits.specs.declared.transaction.RefLog.{RefLog}
 use Rattle.gix_ref_transaction.specs.CarriedEdits.{change_of}
-use Rattle.gix_ref_transaction.specs.Causes.{packed_id}
+use Rattle.gix_ref_transaction.specs.Causes.{deletes_reference, packed_id}
 use Rattle.gix_ref_transaction.specs.OwnLocks.{is_in}
-use Rattle.gix_ref_transaction.specs.PackedCauses.{deletes_reference, ids_among}
+use Rattle.gix_ref_transaction.specs.PackedCauses.{ids_among}
 use Rattle.gix_ref_transaction.specs.Packing.{HaveTheirPuts, edit_peeled, packed_object, peeled_in, plan_edits, put_by}
 use Rattle.gix_ref_transaction.specs.PrepareSteps.{ids_in, updates}
 use Rattle.gix_ref_transaction.specs.declared.edit.Edit.{Edit}

@@ -15,7 +15,7 @@ use Rattle.gix_ref_theory.specs.Between.{MergesRecords}
 use Rattle.gix_ref_theory.specs.Edits as plan
 use Rattle.gix_ref_theory.specs.Edits.{Mode, alters_packed, file_of_records}
 use Rattle.gix_ref_theory.specs.Readings.{Store, records_of_file}
-use Rattle.gix_ref_transaction.specs.PackedCauses.{deletes_reference}
+use Rattle.gix_ref_transaction.specs.Causes.{deletes_reference}
 use Rattle.gix_ref_transaction.specs.declared.edit.Edit.{Edit}
 use Rattle.gix_ref_transaction.specs.declared.edit.PackedObject.{PackedObject}
 

@@ -6,6 +6,7 @@ pub mod FirstItems
 pub mod FolderRuns
 pub mod LentRecords
 pub mod LooseAnswers
+pub mod MissingNames
 pub mod PreparedLosses
 pub mod Platforms
 pub mod Preparing

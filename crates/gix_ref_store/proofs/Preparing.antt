@@ -10,6 +10,7 @@ use Rattle.gix_ref_theory.specs.Edits.{Mode}
 use Rattle.gix_ref_theory.specs.OnRealTrees.{view_of}
 use Rattle.gix_ref_lookup.specs.StoreLayout.{git_options}
 use Rattle.gix_ref_lookup.proofs.Laying.{folders_laid}
+use Rattle.gix_ref_transaction.specs.Causes.{AreRecordIds}
 use Rattle.gix_ref_transaction.specs.Peels.{ArePut}
 use Rattle.gix_ref_transaction.proofs.Apart.{references}
 use Rattle.gix_ref_commit.proofs.Alike.{AreSame, are_same}
@@ -48,6 +49,7 @@ prepares honest means faults claims meaning mode old new given len packed held s
     effects = λ h good. same_effects ∙ (ap effects_of are ∙ holds.effects h good);
     files = λ h good. same_files ∙ (ap seen_files are ∙ holds.files h good);
     ids = λ h good. same_ids ∙ (ap ids_in are ∙ holds.ids h good);
+    read = λ h. subst (AreRecordIds (meaning_of old) (kind_of old) (view_of (tree_of means old)) (updates held)) (sym (same_ids ∙ ap ids_in are)) (holds.read h);
     puts = have_their_puts old.dirs old.namespace (kind_of old) old.prohibit_windows_device_names mode claims meaning after (carried_puts (meaning_of old) mode (kind_of old) claims meaning held after same puts (holds.put));
     can_be_put = carried_can (meaning_of old) mode (kind_of old) held after same puts
         (all_can_be_put old.dirs old.namespace (kind_of old) old.prohibit_windows_device_names mode claims meaning [] held
@@ -80,9 +82,10 @@ module _ {F : Type 0} (honest : Type 0) (means : F → Meaning) (faults : F → 
       (honest → HasGoodRecords means old → IfOk r (λ held. effects_of held.edits.items ≡ effects_on (meaning_of old) mode (view_of (tree_of means old)) (updates held.edits.items))) →
       (honest → HasGoodRecords means old → IfOk r (λ held. seen_files held.edits.items ≡ files_at (meaning_of old) (tree_of means old) (updates held.edits.items))) →
       (honest → HasGoodRecords means old → IfOk r (λ held. ids_in held.edits.items ≡ packed_ids (meaning_of old) (tree_of means old) (updates held.edits.items))) →
+      (honest → IfOk r (λ held. AreRecordIds (meaning_of old) (kind_of old) (view_of (tree_of means old)) (updates held.edits.items) (ids_in held.edits.items))) →
       IfOk r (λ held. ArePut claims meaning (meaning_of old) mode (kind_of old) held.edits.items) →
       IfOk r (λ held. HoldsGiven honest means faults claims meaning mode old new given held.packed held.edits.items)
-  holds_given (Ok held) splits parents holds lost whole packed places effects files ids put = record {
+  holds_given (Ok held) splits parents holds lost whole packed places effects files ids read put = record {
     splits = record { asked = asked; composed = composed; from = splits };
     parents = parents;
     held = holds;
@@ -93,9 +96,10 @@ module _ {F : Type 0} (honest : Type 0) (means : F → Meaning) (faults : F → 
     effects = effects;
     files = files;
     ids = ids;
+    read = read;
     put = put;
   }
-  holds_given (Err failure) splits parents holds lost whole packed places effects files ids put = tt
+  holds_given (Err failure) splits parents holds lost whole packed places effects files ids read put = tt
 
   -- and a refusal of the one is one of the other
   pub refuses_given : (read : Type 0) (r : Result HeldLocks LockFailure) →

@@ -12,7 +12,8 @@ use Rattle.gix_ref_transaction.specs.Peels.{IsLockCause}
 use Rattle.gix_ref_transaction.specs.HeldLocks.{HoldAllLocks, AreRemovedAgain, HoldsPackedLock, IsHeldBack, OnlyTakes}
 use Rattle.gix_ref_transaction.specs.LeftLocks.{HasRoom}
 use Rattle.gix_ref_transaction.specs.OwnLocks.{AddsLocks, paths_of}
-use Rattle.gix_ref_transaction.specs.Causes.{AllValid, NoCause}
+use Rattle.gix_ref_transaction.specs.Causes.{AllValid, AreRecordIds, NoCause}
+use Rattle.gix_ref_lookup.specs.Lookups.{IsOpenable}
 use Rattle.gix_ref_transaction.specs.Parents.{parents_in}
 use Rattle.gix_ref_transaction.specs.PrepareSteps.{AreLockable, AreWholeLocks, ids_in, packed_ids, possible_locks, effects_of, effects_on, files_at, seen_files, HoldTexts, old_targets, place_paths, targets_of, updates}
 use Rattle.gix_ref_transaction.specs.declared.edit.Edit.{Edit}
@@ -80,14 +81,19 @@ module _ {F : Type 0} (honest : Type 0) (means : F → Meaning) (faults : F → 
   held_ids (Ok h) held honestly good = ((held.taken honestly).settled good).ids ∙ ap (packed_ids (meaning_of old) (tree_of means old)) asked
   held_ids (Err failure) held honestly good = tt
 
+  pub held_read : (r : Result HeldLocks LockFailure) → IfOk r (λ h. AreRecordIds (meaning_of old) (kind_of old) (view_of (tree_of means old)) (updates begun.items) (ids_in h.edits.items)) →
+      IfOk r (λ h. AreRecordIds (meaning_of old) (kind_of old) (view_of (tree_of means old)) split (ids_in h.edits.items))
+  held_read (Ok h) read = subst (λ (u : List RefEdit). AreRecordIds (meaning_of old) (kind_of old) (view_of (tree_of means old)) u (ids_in h.edits.items)) asked read
+  held_read (Err failure) read = tt
+
   pub held_whole : (r : Result HeldLocks LockFailure) → IfOk r Held → honest → IfOk r (λ h. AreWholeLocks (disk_in means new) (locks_in means mode old split))
   held_whole (Ok h) held honestly = subst (λ (u : List RefEdit). AreWholeLocks (disk_in means new) (locks_in means mode old u)) asked (held.taken honestly).whole
   held_whole (Err failure) held honestly = tt
 
-  pub held_split : (r : Result HeldLocks LockFailure) → IfOk r Held → IfOk r HeldPacked → IsSameStore old new → AllValid (meaning_of old) (kind_of old) [] split → NoneDoubled (names_of split) →
+  pub held_split : (r : Result HeldLocks LockFailure) → IfOk r Held → IfOk r HeldPacked → (honest → IfOk r (λ h. IsOpenable (kind_of old) (view_of (tree_of means old) (meaning_of old).packed_path))) → IsSameStore old new → AllValid (meaning_of old) (kind_of old) [] split → NoneDoubled (names_of split) →
       OnlyTakes honest means faults (locks_in means mode old (updates begun.items)) (files_of old) (files_of new) → IfOk r (λ h. HoldsFrom honest means faults mode old new split (targets_of h.edits.items))
-  held_split (Err failure) held packed same valid single takes = tt
-  held_split (Ok h) held packed same valid single takes = record {
+  held_split (Err failure) held packed opened same valid single takes = tt
+  held_split (Ok h) held packed opened same valid single takes = record {
     accepted = λ honestly good. record {
       sound = valid;
       single = single;
@@ -96,6 +102,7 @@ module _ {F : Type 0} (honest : Type 0) (means : F → Meaning) (faults : F → 
     };
     found = λ honestly good. ((held.taken honestly).settled good).was ∙ ap (old_targets (meaning_of old) (tree_of means old)) asked;
     texts = λ honestly good. subst (λ (u : List RefEdit). HoldTexts (meaning_of old) mode (tree_of means old) (tree_of means new) u) asked ((held.taken honestly).settled good).texts;
+    opened = opened;
     valid = valid;
     lockable = λ honestly. subst (λ (u : List RefEdit). AreLockable (meaning_of old) (kind_of old) (tree_of means old) [] u) asked (held.taken honestly).lockable;
     adds = λ honestly. subst (λ (u : List RefEdit). AddsLocks (locks_in means mode old u) (locks_in means mode old u) (tree_of means old) (tree_of means new)) asked (held.adds honestly);

@@ -15,7 +15,8 @@ use Rattle.gix_ref_theory.specs.OnRealTrees.{view_of}
 use Rattle.gix_ref_theory.proofs.LockDisks.{as_before}
 use Rattle.gix_ref_edits.specs.DoubledNames.{NoneDoubled}
 use Rattle.gix_ref_edits.specs.declared.transaction.RefEdit.{RefEdit}
-use Rattle.gix_ref_transaction.specs.Causes.{AllValid, IsAccepted, IsCounted, IsDoubling, IsFindCause, IsPackedRefusal, IsPackedWell, names_of, packed_taken}
+use Rattle.gix_ref_transaction.specs.Causes.{AllValid, AreRecordIds, IsAccepted, IsCounted, IsDoubling, IsFindCause, IsPackedRefusal, IsPackedWell, names_of, packed_taken}
+use Rattle.gix_ref_lookup.specs.Lookups.{IsOpenable}
 use Rattle.gix_ref_transaction.specs.Peels.{IsLockCause}
 use Rattle.gix_ref_transaction.specs.OwnLocks.{AddsLocks, is_in, times}
 use Rattle.gix_ref_transaction.specs.PrepareSteps.{packed_ids, AreLockable, effects_on, files_at, HoldTexts, old_targets, own_locks, own_places}
@@ -88,6 +89,9 @@ module _ {F : Type 0} (honest : Type 0) (means : F → Meaning) (faults : F → 
   pub ids_same : (h : honest) (edits : List RefEdit) → packed_ids (meaning_of old) (tree_of means mid) edits ≡ packed_ids (meaning_of old) (tree_of means old) edits
   ids_same h edits = ap (λ (T : Tree). packed_ids (meaning_of old) T edits) (same_tree h)
 
+  pub read_on : (h : honest) (edits : List RefEdit) (ids : List (Option ObjectId)) → AreRecordIds (meaning_of old) (kind_of old) (view_of (tree_of means mid)) edits ids → AreRecordIds (meaning_of old) (kind_of old) (view_of (tree_of means old)) edits ids
+  read_on h edits ids are = subst (λ (T : Tree). AreRecordIds (meaning_of old) (kind_of old) (view_of T) edits ids) (same_tree h) are
+
   pub good_on : honest → HasGoodRecords means old → HasGoodRecords means mid
   good_on = good_mid
 
@@ -96,6 +100,7 @@ module _ {F : Type 0} (honest : Type 0) (means : F → Meaning) (faults : F → 
     accepted = λ h good. subst (λ (T : Tree). IsAccepted (meaning_of old) mode (kind_of old) T split) (same_tree h) (held.accepted h (good_mid h good));
     found = λ h good. subst (λ (T : Tree). was ≡ old_targets (meaning_of old) T split) (same_tree h) (held.found h (good_mid h good));
     texts = λ h good. subst (λ (T : Tree). HoldTexts (meaning_of old) mode T (tree_of means new) split) (same_tree h) (held.texts h (good_mid h good));
+    opened = λ h. subst (λ (T : Tree). IsOpenable (kind_of old) (view_of T (meaning_of old).packed_path)) (same_tree h) (held.opened h);
     valid = held.valid;
     lockable = λ h. subst (λ (T : Tree). AreLockable (meaning_of old) (kind_of old) T [] split) (same_tree h) (held.lockable h);
     adds = λ h. subst (λ (T : Tree). AddsLocks (own_locks (meaning_of old) mode T split) (own_locks (meaning_of old) mode T split) T (tree_of means new)) (same_tree h) (held.adds h);
@@ -130,7 +135,7 @@ module _ {F : Type 0} (honest : Type 0) (means : F → Meaning) (faults : F → 
         ))
         (refused.cause h (good_mid h good));
     opened = λ h. subst (λ (T : Tree). IsPackedRefusal (kind_of old) (T (meaning_of old).packed_path) error) (same_tree h) (refused.opened h);
-    unread = λ h. subst (λ (T : Tree). IsFindCause (meaning_of old) (kind_of old) (view_of T (meaning_of old).packed_path) split error) (same_tree h) (refused.unread h);
+    unread = λ h. subst (λ (T : Tree). IsFindCause (meaning_of old) (kind_of old) (view_of T) split error) (same_tree h) (refused.unread h);
     counted = counted_on honest read _ _ _ error reads.no_fewer refused.counted;
     as_before = λ h. subst (λ (T : Tree). AddsLocks left (own_locks (meaning_of old) mode T split) T (tree_of means new)) (same_tree h) (refused.as_before h);
     ours = refused.ours;

@@ -17,7 +17,7 @@ use Rattle.gix_ref_packed.specs.declared.packed.buffer.open.Error.{Error as Open
 use Rattle.gix_ref_records.specs.declared.raw.Reference.{Reference}
 use Rattle.gix_ref_theory.specs.Views.{View}
 use Rattle.gix_ref_theory.specs.OnRealTrees.{view_of}
-use Rattle.gix_ref_lookup.specs.Lookups.{ReturnsHit, ArePackedRecords, AreAsked, IsSound, IsHitOf, FailsAmong, lookup_of, asked_names, name_asked, AreStillAsked}
+use Rattle.gix_ref_lookup.specs.Lookups.{ReturnsHit, ArePackedRecords, AreAsked, IsSound, IsHitOf, FailsAmong, lookup_of, asked_names, name_asked, AreMissing, AreStillAsked}
 use Rattle.gix_ref_lookup.specs.declared.loose.Reference.{Reference as Loose}
 use Rattle.gix_ref_lookup.specs.declared.settings.Settings.{Settings}
 use Rattle.gix_ref_lookup.specs.declared.find.records.Records.{Records}
@@ -48,6 +48,11 @@ composes_in asks_records store = store.precompose_unicode && asks_records
 abbrev pub IsNotFound : List ℕ → Missing → Type 0
 IsNotFound p (NotFound name) = partial_bytes name ≡ p
 IsNotFound p (Find error) = error ≡ Memory
+
+-- this holds where no reference of the name was found
+abbrev pub IfNotFound : Missing → Type 0 → Type 0
+IfNotFound (NotFound name) P = P
+IfNotFound (Find error) P = Unit {0}
 
 -- the records that a buffer of the caller gives a lookup
 abbrev pub held : {R : Type 0} {G : Ghosts R} → Option (Bor Buffer) → Records R G
@@ -131,6 +136,10 @@ module _ {F : Type 0} (means : F → Meaning) where
   OpensBuffer store (Some buffer) = (is_file (packed_refs_at store) ≡ true)
       × Opened (stores.kind_of store) (bytes_of (packed_refs_at store)) buffer
 
+  -- and it can be opened: there is no such file, or one with some buffer
+  abbrev pub CanBeOpened : StoreValue F → Type 0
+  CanBeOpened store = (found : Option Buffer) × OpensBuffer store found
+
   -- why it is not opened
   abbrev pub RefusesBuffer : StoreValue F → OpenError → Type 0
   RefusesBuffer store error = IsRefusedFile (stores.kind_of store) (packed_refs_at store) error
@@ -152,6 +161,12 @@ module _ {F R : Type 0} {G : Ghosts R} (means : F → Meaning) where
       Option Reference → Type 0
   HitsIn asks_records store asked p found = IfSome found
       (IsHitOf (composes_in asks_records store) (settings_of store) (view_in means store) asked p)
+
+  -- on any text of `packed-refs`: nothing is found, since each name that is asked for has no loose file, and no record was found
+  abbrev pub FindsNothing : (asks_records : Bool) → StoreValue F → Records R G → List ℕ → Type 0
+  FindsNothing asks_records store asked p =
+      AreMissing (settings_of store) (view_in means store) asked
+      (name_asked (composes_in asks_records store) p)
 
 module _ {F : Type 0} (honest : Type 0) (means : F → Meaning) where
   -- What a lookup changes: nothing but the count of faults and the clock.

@@ -13,8 +13,9 @@ use Rattle.gix_ref_theory.specs.OnDisks.{IsSpokenOf, IsAsBefore}
 use Rattle.gix_ref_theory.specs.OnRealTrees.{view_of}
 use Rattle.gix_ref_theory.specs.Roots.{roots}
 use Rattle.gix_ref_theory.specs.Views.{IsOwnLock}
+use Rattle.gix_ref_lookup.specs.Lookups.{IsOpenable}
 use Rattle.gix_ref_transaction.specs.OwnLocks.{is_in, times, AddsLocks, RemovesLocks, OnlyRemoves}
-use Rattle.gix_ref_transaction.specs.Causes.{AllValid, IsAccepted, IsCountedWith, IsDoubling, IsFindCause, IsIoOrMemory, IsPackedRefusal, IsPackedWell, names_of, packed_taken}
+use Rattle.gix_ref_transaction.specs.Causes.{AllValid, AreRecordIds, IsAccepted, IsCountedWith, IsDoubling, IsFindCause, IsIoOrMemory, IsPackedRefusal, IsPackedWell, names_of, packed_taken}
 use Rattle.gix_ref_store.specs.Store.{files_of, kind_of, folders, meaning_of, IsSameStore}
 use Rattle.gix_ref_transaction.specs.PrepareSteps.{AreEmpty, AreLockable, AreWholeLocks, effects_of, effects_on, HoldTexts, ids_in, packed_ids, IsPackedPlace, old_targets, own_locks, own_places, packed_places, place_paths, places_of, possible_locks, targets_of, updates, files_at, seen_files}
 use Rattle.gix_ref_transaction.specs.CarriedEdits.{AreCarried}
@@ -83,7 +84,7 @@ module _ {F : Type 0} (means : F → Meaning) where
 module _ {F : Type 0} (honest read : Type 0) (means : F → Meaning) (faults : F → ℕ)
     (claims : Type 0) (meaning : ObjectId → Stored) (mode : Mode) where
   -- A refusal. Where `packed-refs` is well formed, its error is the first cause that applies; `Packed` is returned for a `packed-refs` that is
-  -- refused, and `PackedFind` where the record of an edit cannot be read; a fault of files came with a rise of their count, or a read by a reader failed; all is as before but for the locks that are
+  -- refused, and `PackedFind` where the record of an edit is asked for and cannot be read; a fault of files came with a rise of their count, or a read by a reader failed; all is as before but for the locks that are
   -- named, and folders that lead to locks; those that are named are locks of the edits, and one is named only where a fault came.
   pub record RefusesFrom (old new : Store F) (given : List RefEdit) (error : Error)
       (left : List Path) : Type 0 where
@@ -97,7 +98,7 @@ module _ {F : Type 0} (honest read : Type 0) (means : F → Meaning) (faults : F
     pub opened : honest → IsPackedRefusal (kind_of old)
         (tree_of means old (meaning_of old).packed_path) error
     pub unread : honest → IsFindCause (meaning_of old) (kind_of old)
-        (view_of (tree_of means old) (meaning_of old).packed_path) tried error
+        (view_of (tree_of means old)) tried error
     pub counted : IsCountedWith honest read (faults (files_of old)) (faults (files_of new)) error
     pub as_before : honest → AddsLocks left (locks_in means mode old tried) (tree_of means old)
         (tree_of means new)
@@ -130,7 +131,7 @@ module _ {F : Type 0} (honest read : Type 0) (means : F → Meaning) (faults : F
     pub opened : honest → IsPackedRefusal (kind_of old)
         (tree_of means old (meaning_of old).packed_path) error
     pub unread : honest → IsFindCause (meaning_of old) (kind_of old)
-        (view_of (tree_of means old) (meaning_of old).packed_path) split error
+        (view_of (tree_of means old)) split error
     pub counted : IsCountedWith honest read (faults (files_of old)) (faults (files_of new)) error
     pub as_before : honest → AddsLocks left (locks_in means mode old split) (tree_of means old)
         (tree_of means new)
@@ -154,6 +155,9 @@ module _ {F : Type 0} (honest : Type 0) (means : F → Meaning) (faults : F → 
         was ≡ old_targets (meaning_of old) (tree_of means old) edits
     pub texts : honest → HasGoodRecords means old →
         HoldTexts (meaning_of old) mode (tree_of means old) (tree_of means new) edits
+    -- `packed-refs` could be opened, whatever it holds
+    pub opened : honest → IsOpenable (kind_of old)
+        (view_of (tree_of means old) (meaning_of old).packed_path)
     pub valid : AllValid (meaning_of old) (kind_of old) [] edits
     pub lockable : honest → AreLockable (meaning_of old) (kind_of old) (tree_of means old) [] edits
     pub adds : honest → AddsLocks (locks_in means mode old edits) (locks_in means mode old edits)
@@ -194,6 +198,9 @@ module _ {F : Type 0} (honest : Type 0) (means : F → Meaning) (faults : F → 
     -- and the ids of their records are those of the files before
     pub ids : honest → HasGoodRecords means old →
         ids_in after ≡ packed_ids (meaning_of old) (tree_of means old) edits
+    -- and on any `packed-refs` each record that is asked for was found, or not, by a search
+    pub read : honest → AreRecordIds (meaning_of old) (kind_of old) (view_of (tree_of means old))
+        edits (ids_in after)
     -- what each puts into `packed-refs` is by the mode, and can be read as a record
     pub puts : HaveTheirPuts (meaning_of old) mode after
     pub can_be_put : AllCanBePut (meaning_of old) (kind_of old) after
@@ -238,6 +245,8 @@ module _ {F : Type 0} (honest : Type 0) (means : F → Meaning) (faults : F → 
         seen_files edits ≡ files_at (meaning_of old) (tree_of means old) (updates edits)
     pub ids : honest → HasGoodRecords means old →
         ids_in edits ≡ packed_ids (meaning_of old) (tree_of means old) (updates edits)
+    pub read : honest → AreRecordIds (meaning_of old) (kind_of old) (view_of (tree_of means old))
+        (updates edits) (ids_in edits)
     pub put : ArePut claims meaning (meaning_of old) mode (kind_of old) edits
 
   -- A transaction that is prepared from given edits: their split list is.

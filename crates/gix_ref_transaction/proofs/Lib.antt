@@ -16,6 +16,7 @@ pub mod PackedLemmas
 pub mod PackedLocks
 pub mod PackedRelease
 pub mod PackedRuns
+pub mod RecordIds
 pub mod Removing
 pub mod Puts
 pub mod Renames

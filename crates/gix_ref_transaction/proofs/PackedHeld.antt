@@ -3,6 +3,8 @@ use Rattle.std.proofs.Common.{◌≡◌, ◌≢◌, ◌⊎◌, inl, inr, ⊎_eli
 use Rattle.std.specs.Prelude.{IsSome, ◌||◌, false}
 use Rattle.gix_ref_base.specs.Targets.{TargetValue}
 use Rattle.gix_ref_hash.specs.declared.hash.Kind.{Kind}
+use Rattle.gix_ref_hash.specs.declared.hash.ObjectId.{ObjectId}
+use Rattle.gix_ref_lookup.specs.Lookups.{HasNoKey, OfKey}
 use Rattle.gix_ref_files.specs.Lock.{lock_of}
 use Rattle.gix_ref_files.specs.Tree.{Tree, Path, Content, fronts, is_blocked, is_file}
 use Rattle.gix_ref_files.specs.Tree.Content.{File, Folder}
@@ -11,7 +13,7 @@ use Rattle.gix_ref_theory.specs.OnRealTrees.{file_of, view_of}
 use Rattle.gix_ref_theory.specs.Readings.{Store, records_of_file}
 use Rattle.gix_ref_edits.specs.RefEdits.{name_of, expected_of, new_of, Expects}
 use Rattle.gix_ref_edits.specs.declared.transaction.RefEdit.{RefEdit}
-use Rattle.gix_ref_transaction.specs.Causes.{decoded, found, found_by, packed_id, packed_of, IsApartFromPacked, IsEditFault, IsFirstCause, IsLockable, IsMismatch, IsUnlockable, NoCause, IsEditAccepted}
+use Rattle.gix_ref_transaction.specs.Causes.{decoded, found, found_by, packed_id, packed_of, AreRecordIds, IsApartFromPacked, IsFindCause, IsHidden, IsIdOfKey, IsRecordId, IsUnreadableRecord, OfSomeKey, IsEditFault, IsFirstCause, IsLockable, IsMismatch, IsUnlockable, NoCause, IsEditAccepted}
 use Rattle.gix_ref_transaction.specs.OwnLocks.{is_in, IsOurs}
 use Rattle.gix_ref_transaction.specs.PrepareSteps.{packed_ids, effect_on, effects_on, files_at, has_file_at, lock_text, old_targets, updates, AreLockable, AreSettled, HoldTexts, IsPackedPlace, TakesPacked}
 use Rattle.gix_ref_transaction.specs.declared.edit.Edit.{Edit}
@@ -19,6 +21,7 @@ use Rattle.gix_ref_transaction.specs.declared.prepare.error.Error.{Error}
 use Rattle.gix_ref_transaction.specs.declared.prepare.error.Error.TheVariants.{UnsafeName, DeviceName, DeleteMustNotExist, TargetNotFull, OtherHashKind, PreprocessingFailed, PackedTransactionAcquire, Packed, PackedFind, PackedTransactionPrepare, PathCollision, LockAcquire, DeleteReferenceMustExist, MustExist, MustNotExist, ReferenceOutOfDate, ReferenceDecode, Io, Memory}
 use Rattle.gix_ref_transaction.proofs.Adds.{any_same, clash, in_one}
 use Rattle.gix_ref_transaction.proofs.LookupLemmas.{effect_alike}
+use Rattle.gix_ref_transaction.proofs.UnreadRecords.{find_wider}
 
 -- At a path there is what was there before, or a new folder that leads to the lock.
 abbrev pub IsSameButWay : Path → (plain held : Tree) → Path → Type 0
@@ -63,6 +66,16 @@ module _ (s : Store) (kind : Kind) (plain held : Tree) (off : (q : Path) → q �
     same_effect : (mode : Mode) → effect_on s mode (view_of held) edit ≡ effect_on s mode (view_of plain) edit
     same_effect mode = effect_alike mode s (view_of held) (view_of plain) edit same_place same_packed
 
+    hidden_on : IsHidden s (view_of held) edit → IsHidden s (view_of plain) edit
+    hidden_on hidden = (hidden.0, subst (λ (file : Option (List ℕ)). IsSome (decoded s file)) same_place hidden.1)
+
+    hidden_back : IsHidden s (view_of plain) edit → IsHidden s (view_of held) edit
+    hidden_back hidden = (hidden.0, subst (λ (file : Option (List ℕ)). IsSome (decoded s file)) (sym same_place) hidden.1)
+
+    record_id_on : (id : Option ObjectId) → IsRecordId s kind (view_of held) edit id → IsRecordId s kind (view_of plain) edit id
+    record_id_on id (inl hidden) = inl (hidden_on hidden)
+    record_id_on id (inr asked) = inr (subst (λ (packed : Option (List ℕ)). (HasNoKey s (name_of edit) × (id ≡ None)) ⊎ OfKey s (name_of edit) (λ key. IsIdOfKey kind packed key id)) same_packed asked)
+
     lockable_on : (seen : List RefEdit) → IsLockable s kind held seen edit → IsLockable s kind plain seen edit
     lockable_on seen can = record { way = sym same_way ∙ can.way; free = sym at_lock ∙ can.free; ours = can.ours }
 
@@ -104,6 +117,30 @@ module _ (s : Store) (kind : Kind) (plain held : Tree) (off : (q : Path) → q �
 
   others : (e : RefEdit) (some : List RefEdit) → AreApart (e ∷ some) → AreApart some
   others e some apart k d lt = apart (suc k) d (omega (arith, lt))
+
+  -- the ids of their records are as they are judged
+  pub record_ids_on : (some : List RefEdit) (ids : List (Option ObjectId)) → AreApart some → AreRecordIds s kind (view_of held) some ids → AreRecordIds s kind (view_of plain) some ids
+  record_ids_on [] [] apart are = tt
+  record_ids_on (e ∷ some) (id ∷ ids) apart are = (record_id_on e (first e some apart) id are.0, record_ids_on some ids (others e some apart) are.1)
+  record_ids_on [] (id ∷ ids) apart are = absurd are
+  record_ids_on (e ∷ some) [] apart are = absurd are
+
+  -- and a record that cannot be read is one before
+  pub find_cause_on : (some : List RefEdit) (error : Error) → AreApart some → IsFindCause s kind (view_of held) some error → IsFindCause s kind (view_of plain) some error
+  find_cause_on some error apart cause =
+      find_wider (OfSomeKey (λ edit. IsHidden s (view_of held) edit → ⊥) (IsUnreadableRecord kind (view_of held s.packed_path)) s some)
+      (OfSomeKey (λ edit. IsHidden s (view_of plain) edit → ⊥) (IsUnreadableRecord kind (view_of plain s.packed_path)) s some) error
+      (λ one. (
+        one.0,
+        one.1,
+        one.2,
+        one.3,
+        (
+          λ hidden. one.4.0 (hidden_back one.1 (subst (IsApartFromPacked s) one.3 (apart one.0 one.1 one.2)) hidden),
+          (one.4.1.0, one.4.1.1, subst (λ (packed : Option (List ℕ)). IsUnreadableRecord kind packed one.4.1.0) same_packed one.4.1.2),
+        ),
+      ))
+      cause
 
   pub no_cause_on : (seen some : List RefEdit) → AreApart some → NoCause s kind held seen some → NoCause s kind plain seen some
   no_cause_on seen [] apart none = tt

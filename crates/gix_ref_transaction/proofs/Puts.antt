@@ -19,7 +19,7 @@ use Rattle.gix_ref_edits.specs.declared.transaction.Change.TheVariants.{Update, 
 use Rattle.gix_ref_edits.specs.declared.transaction.RefEdit.{RefEdit}
 use Rattle.gix_ref_transaction.specs.Causes.{is_new_object, packs_edit, updates_object}
 use Rattle.gix_ref_transaction.specs.Packing.{HaveTheirPuts, OfFinder, ends_of, finder_in, mode_in, new_object, packed_object, peeled_in, put_by, stored_by}
-use Rattle.gix_ref_transaction.specs.Peels.{ArePut, CanPeel, CanPeelAll, CanPeelEdit, EndsAt, HasEnd, IfObject, IsFirstUnpeeled, IsObjectAnd, IsPeelCause, IsPeelError, IsPeeledOfKind, IsPut, IsToldUnpeeled, IsUnpeeledEdit}
+use Rattle.gix_ref_transaction.specs.Peels.{ArePut, CanPeel, CanPeelAll, CanPeelEdit, EndsAt, HasEnd, IfObject, IsFirstUnpeeled, IsObjectAnd, IsPeelCause, IsPeelError, IsPeeledOfKind, IsPut, IsReportedUnpeeled, IsUnpeeledEdit}
 use Rattle.gix_ref_transaction.specs.PrepareSteps.{Given, all_asked, all_given, updates}
 use Rattle.gix_ref_transaction.specs.declared.edit.Edit.{Edit}
 use Rattle.gix_ref_transaction.specs.declared.edit.PackedObject.{PackedObject}
@@ -109,11 +109,11 @@ update_at old edits same i e lt is =
 -- why an object cannot be peeled, by what its finder has
 pub unpeeled_edit : {T : Type 0} (meaning : T → ObjectId → Stored) (claims : T → Type 0) (p : PackedRefs T) (s : Store) (kind : Kind) (edit : RefEdit) (finder : T) (target : ObjectId) (error : Error) →
     finder_in p ≡ Some finder → packs_edit s (mode_in p) edit ≡ true → new_object (new_of edit.change) ≡ Some target →
-    (claims finder → IsToldUnpeeled kind target (peel (meaning finder) 1000 target) error) → OfFinder claims p → IsUnpeeledEdit s (mode_in p) kind (ends_of meaning p) edit error
+    (claims finder → IsReportedUnpeeled kind target (peel (meaning finder) 1000 target) error) → OfFinder claims p → IsUnpeeledEdit s (mode_in p) kind (ends_of meaning p) edit error
 unpeeled_edit meaning claims p s kind edit finder target error found packed object why of = (
   packed,
-  subst (λ (o : Option ObjectId). IsObjectAnd o (λ id. IsToldUnpeeled kind id (peel (ends_of meaning p) 1000 id) error)) (sym object)
-      (subst (λ o. IsToldUnpeeled kind target (peel (stored_by meaning o) 1000 target) error) (sym found) (why (subst (λ o. IfSome o claims) found of))),
+  subst (λ (o : Option ObjectId). IsObjectAnd o (λ id. IsReportedUnpeeled kind id (peel (ends_of meaning p) 1000 id) error)) (sym object)
+      (subst (λ o. IsReportedUnpeeled kind target (peel (stored_by meaning o) 1000 target) error) (sym found) (why (subst (λ o. IfSome o claims) found of))),
 )
 
 -- an edit whose object is put can be peeled

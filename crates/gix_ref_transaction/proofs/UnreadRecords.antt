@@ -18,7 +18,7 @@ use Rattle.gix_ref_transaction.specs.PrepareSteps.{all_asked, updates}
 use Rattle.gix_ref_transaction.specs.declared.edit.Edit.{Edit}
 use Rattle.gix_ref_transaction.specs.declared.prepare.error.Error.{Error}
 use Rattle.gix_ref_transaction.specs.declared.prepare.error.Error.TheVariants.{UnsafeName, DeviceName, DeleteMustNotExist, PackedTransactionAcquire, DeleteReferenceMustExist, TargetNotFull, OtherHashKind, PreprocessingFailed, Packed, PackedFind, PackedTransactionPrepare, PathCollision, LockAcquire, MustExist, MustNotExist, ReferenceOutOfDate, ReferenceDecode, Io, Memory as NoMemory}
-use Rattle.gix_ref_transaction.specs.internal.StuckRecords.{IsStuckKey}
+use Rattle.gix_ref_transaction.specs.internal.StuckRecords.{IsFindError, IsStuckKey}
 use Rattle.gix_ref_transaction.proofs.PackedLemmas.{updates_alike}
 
 -- why no record was found, as it is reported
@@ -55,7 +55,9 @@ no_find P before now (ReferenceOutOfDate name expected actual) counted = tt
 no_find P before now (ReferenceDecode error) counted = tt
 
 pub find_wider : (P Q : Type 0) (error : Error) → (P → Q) → OfFind P error → OfFind Q error
-find_wider P Q (PackedFind error) wider holds = wider holds
+find_wider P Q (PackedFind finding.Parse) wider holds = wider holds
+find_wider P Q (PackedFind finding.Memory) wider holds = holds
+find_wider P Q (PackedFind (finding.RefnameValidation error)) wider holds = holds
 find_wider P Q (Packed error) wider holds = tt
 find_wider P Q (Io error) wider holds = tt
 find_wider P Q NoMemory wider holds = tt
@@ -75,6 +77,30 @@ find_wider P Q (MustNotExist name actual new) wider holds = tt
 find_wider P Q (ReferenceOutOfDate name expected actual) wider holds = tt
 find_wider P Q (ReferenceDecode error) wider holds = tt
 
+-- and of an edit whose record is asked for
+pub find_asked : (A P : Type 0) (error : Error) → (IsFindError error → A) → OfFind P error → OfFind (A × P) error
+find_asked A P (PackedFind finding.Parse) asked holds = (asked tt, holds)
+find_asked A P (PackedFind finding.Memory) asked holds = holds
+find_asked A P (PackedFind (finding.RefnameValidation error)) asked holds = holds
+find_asked A P (Packed error) asked holds = tt
+find_asked A P (Io error) asked holds = tt
+find_asked A P NoMemory asked holds = tt
+find_asked A P UnsafeName asked holds = tt
+find_asked A P DeviceName asked holds = tt
+find_asked A P DeleteMustNotExist asked holds = tt
+find_asked A P TargetNotFull asked holds = tt
+find_asked A P OtherHashKind asked holds = tt
+find_asked A P (PreprocessingFailed source) asked holds = tt
+find_asked A P PackedTransactionAcquire asked holds = tt
+find_asked A P (PackedTransactionPrepare error) asked holds = tt
+find_asked A P (PathCollision name) asked holds = tt
+find_asked A P (LockAcquire name) asked holds = tt
+find_asked A P (DeleteReferenceMustExist name) asked holds = tt
+find_asked A P (MustExist name expected) asked holds = tt
+find_asked A P (MustNotExist name actual new) asked holds = tt
+find_asked A P (ReferenceOutOfDate name expected actual) asked holds = tt
+find_asked A P (ReferenceDecode error) asked holds = tt
+
 -- among records that search the same texts
 pub stuck_back : {R : Type 0} {G : Ghosts R} (kind : Kind) (old new : Records R G) → ((of_kind : Kind) (text : List ℕ) → IsSearched kind None new of_kind text → IsSearched kind None old of_kind text) →
     (key : List ℕ) → IsStuckKey kind new key → IsStuckKey kind old key
@@ -85,9 +111,9 @@ stuck_back kind old new back key stuck = record {
   has = stuck.has;
 }
 
--- a key of one edit of a list
-pub some_key : (Bad : List ℕ → Type 0) (s : Store) (old now : List Edit) → all_asked now ≡ all_asked old → (i : ℕ) (e : Edit) → i < length now → e ≡ get_or now i e → OfKey s (name_of e.update) Bad → OfSomeKey Bad s (updates old)
-some_key Bad s old now same i e lt is key = (i, e.update, omega (arith, lt, length-map now (λ (a : Edit). a.update), ap length all_same), at, key)
+-- a key of one edit of a list, whose record is asked for
+pub some_key : (Asked : RefEdit → Type 0) (Bad : List ℕ → Type 0) (s : Store) (old now : List Edit) → all_asked now ≡ all_asked old → (i : ℕ) (e : Edit) → i < length now → e ≡ get_or now i e → Asked e.update × OfKey s (name_of e.update) Bad → OfSomeKey Asked Bad s (updates old)
+some_key Asked Bad s old now same i e lt is key = (i, e.update, omega (arith, lt, length-map now (λ (a : Edit). a.update), ap length all_same), at, key)
   where
     all_same : updates now ≡ updates old
     all_same = updates_alike old now same
@@ -95,5 +121,6 @@ some_key Bad s old now same i e lt is key = (i, e.update, omega (arith, lt, leng
     at : get_or (updates old) i e.update ≡ e.update
     at = ap (λ l. get_or l i e.update) (sym all_same) ∙ (get_or-map (λ (a : Edit). a.update) now i e e.update lt ∙ ap (λ (a : Edit). a.update) (sym is))
 
-pub keys_wider : (Bad Worse : List ℕ → Type 0) (s : Store) (edits : List RefEdit) → ((key : List ℕ) → Bad key → Worse key) → OfSomeKey Bad s edits → OfSomeKey Worse s edits
-keys_wider Bad Worse s edits wider some = (some.0, some.1, some.2, some.3, (some.4.0, some.4.1, wider some.4.0 some.4.2))
+pub keys_wider : (Asked Still : RefEdit → Type 0) (Bad Worse : List ℕ → Type 0) (s : Store) (edits : List RefEdit) → ((edit : RefEdit) → Asked edit → Still edit) → ((key : List ℕ) → Bad key → Worse key) →
+    OfSomeKey Asked Bad s edits → OfSomeKey Still Worse s edits
+keys_wider Asked Still Bad Worse s edits still wider some = (some.0, some.1, some.2, some.3, (still some.1 some.4.0, (some.4.1.0, some.4.1.1, wider some.4.1.0 some.4.1.2)))

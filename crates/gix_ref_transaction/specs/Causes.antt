@@ -19,8 +19,11 @@ use Rattle.gix_ref_base.specs.PackedRecords.{Record, record_named, id_read}
 use Rattle.gix_ref_hash.specs.declared.hash.ObjectId.{ObjectId}
 use Rattle.gix_ref_packed.specs.Buffers.{IsRefusedFile}
 use Rattle.gix_ref_packed.specs.declared.packed.buffer.open.Error.TheVariants.{Io as unread}
-use Rattle.gix_ref_lookup.specs.Lookups.{ArePackedRecords, IsOpenedText, OfKey}
-use Rattle.gix_ref_records.specs.Positions.{CannotRead}
+use Rattle.gix_ref_lookup.specs.Lookups.{ArePackedRecords, HasNoKey, IsOpenedText, OfKey}
+use Rattle.gix_ref_packed.specs.declared.packed.find.Error.TheVariants.{Parse}
+use Rattle.gix_ref_records.specs.Positions.{CannotRead, IsNotMalformed}
+use Rattle.gix_ref_records.specs.Windows.{HitsRecord}
+use Rattle.gix_ref_records.specs.declared.packed.window.Found.{Found}
 use Rattle.gix_ref_theory.specs.Edits.{Mode, is_object, packs_updates, removes_packed}
 use Rattle.gix_ref_theory.specs.Readings.{Store, as_read, records_of_file}
 use Rattle.gix_ref_base.specs.Locations.{is_safe}
@@ -77,28 +80,6 @@ IsNotIo other = Unit {0}
 abbrev pub IsPackedRefusal : Kind → Option Content → Error → Type 0
 IsPackedRefusal kind packed (Packed error) = IsRefusedFile kind packed error
 IsPackedRefusal kind packed other = Unit {0}
-
--- In the text of `packed-refs`, once it is open, the record of this key cannot be read: it is damaged, or it was not found and a line that
--- is no record was met.
-pub record IsUnreadableRecord (kind : Kind) (packed : Option (List ℕ)) (key : List ℕ) : Type 0 where
-  pub of_kind : Kind
-  pub text : List ℕ
-  pub opened : IsOpenedText kind packed of_kind text
-  pub cannot : CannotRead of_kind text key
-
--- `PackedFind` is returned only where this holds
-abbrev pub OfFind : Type 0 → Error → Type 0
-OfFind P (PackedFind error) = P
-OfFind P other = Unit {0}
-
--- and so only where this holds of the key of an edit
-abbrev pub OfSomeKey : (Bad : List ℕ → Type 0) → Store → List RefEdit → Type 0
-OfSomeKey Bad s edits = Any (λ (edit : RefEdit). OfKey s (name_of edit) Bad) edits
-
--- `PackedFind` is returned only where the record of an edit cannot be read
-abbrev pub IsFindCause : Store → Kind → Option (List ℕ) → List RefEdit → Error → Type 0
-IsFindCause s kind packed edits error = OfFind
-    (OfSomeKey (IsUnreadableRecord kind packed) s edits) error
 
 -- `packed-refs` is well formed, or there is none
 abbrev pub IsPackedWell : Kind → Option (List ℕ) → Type 0
@@ -267,6 +248,74 @@ packed_of s view name = packed_id (s.key name) (records_of_file s (view s.packed
 
 abbrev pub found : Store → View → List ℕ → Option TargetValue
 found s view name = found_by s (decoded s (view (s.place name))) (packed_of s view name)
+
+-- The records of edits, on any text of `packed-refs`.
+
+-- the change deletes its reference, and not its log alone
+abbrev pub deletes_reference : Change → Bool
+deletes_reference (Update log expected new) = false
+deletes_reference (Delete expected log) = is_of_reference log
+
+-- The record of an edit is not asked for: the edit does not delete its reference, and a loose file holds the target.
+abbrev pub IsHidden : Store → View → RefEdit → Type 0
+IsHidden s view edit = (deletes_reference edit.change ≡ false)
+    × IsSome (decoded s (view (s.place (name_of edit))))
+
+-- the text of records of an open `packed-refs` has this
+pub record OfOpened (kind : Kind) (packed : Option (List ℕ))
+    (P : Kind → List ℕ → Type 0) : Type 0 where
+  pub of_kind : Kind
+  pub text : List ℕ
+  pub opened : IsOpenedText kind packed of_kind text
+  pub has : P of_kind text
+
+-- the record of this key cannot be read: it is damaged, or it was not found and a line that is no record was met
+abbrev pub IsUnreadableRecord : Kind → Option (List ℕ) → List ℕ → Type 0
+IsUnreadableRecord kind packed key = OfOpened kind packed (λ k text. CannotRead k text key)
+
+-- `PackedFind` is returned only as `Parse`, and only where this holds
+abbrev pub OfFind : Type 0 → Error → Type 0
+OfFind P (PackedFind Parse) = P
+OfFind P (PackedFind other) = ⊥
+OfFind P other = Unit {0}
+
+-- and so only where this holds of the key of an edit whose record is asked for
+abbrev pub OfSomeKey : (Asked : RefEdit → Type 0) → (Bad : List ℕ → Type 0) → Store →
+    List RefEdit → Type 0
+OfSomeKey Asked Bad s edits = Any (λ (edit : RefEdit). Asked edit × OfKey s (name_of edit) Bad)
+    edits
+
+-- `PackedFind` is returned only where the record of an edit is asked for and cannot be read
+abbrev pub IsFindCause : Store → Kind → View → List RefEdit → Error → Type 0
+IsFindCause s kind view edits error =
+    OfFind (OfSomeKey (λ edit. IsHidden s view edit → ⊥)
+    (IsUnreadableRecord kind (view s.packed_path)) s edits) error
+
+-- what a search for a key finds: the id of a record that begins a line; none where there is no file, or a text that does not consist of
+-- malformed lines alone
+abbrev pub IsIdOfKey : Kind → Option (List ℕ) → (key : List ℕ) → Option ObjectId → Type 0
+IsIdOfKey kind packed key None = (packed ≡ None) ⊎ OfOpened kind packed IsNotMalformed
+IsIdOfKey kind packed key (Some id) =
+    OfOpened kind packed (λ k text. (found : Found) × HitsRecord k text key found
+    × (found.target ≡ id))
+
+-- The id that an edit has of its record, which is asked for by the key. Nothing is said where it is not asked for.
+abbrev pub IsRecordId : Store → Kind → View → RefEdit → Option ObjectId → Type 0
+IsRecordId s kind view edit id =
+    IsHidden s view edit
+    ⊎ ((HasNoKey s (name_of edit) × (id ≡ None))
+    ⊎ OfKey s (name_of edit) (λ key. IsIdOfKey kind (view s.packed_path) key id))
+
+-- this holds of each edit and its id
+abbrev pub AllWithIds : (RefEdit → Option ObjectId → Type 0) → List RefEdit →
+    List (Option ObjectId) → Type 0
+AllWithIds P [] [] = Unit {0}
+AllWithIds P (edit ∷ edits) (id ∷ ids) = P edit id × AllWithIds P edits ids
+AllWithIds P edits ids = ⊥
+
+-- and so of edits: these are the ids of their records
+abbrev pub AreRecordIds : Store → Kind → View → List RefEdit → List (Option ObjectId) → Type 0
+AreRecordIds s kind view edits ids = AllWithIds (IsRecordId s kind view) edits ids
 
 -- What an edit expects against what is found.
 

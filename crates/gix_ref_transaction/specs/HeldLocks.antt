@@ -84,12 +84,12 @@ module _ {F : Type 0} (honest : Type 0) (means : F → Meaning) (faults : F → 
     pub named : AreNamedOnce possible left (faults before) (faults now)
 
   -- Why no lock is held. Where `packed-refs` is well formed, it is this cause, or a fault of files or of memory; `Packed` is returned for a
-  -- `packed-refs` that is refused, and `PackedFind` where the record of an edit cannot be read; a fault of files came with a rise of their
-  -- count, or a read by a reader failed.
+  -- `packed-refs` that is refused, and `PackedFind` where the record of an edit is asked for and cannot be read; a fault of files came with a
+  -- rise of their count, or a read by a reader failed.
   pub record IsHeldBack (read : Type 0) (s : Store) (kind : Kind) (edits : List RefEdit)
       (Cause : Error → Type 0) (before now : F) (error : Error) : Type 0 where
     pub cause : honest → IsPackedWell kind (view_of (means before).tree s.packed_path) →
         IsIoOrMemory error ⊎ Cause error
     pub opened : honest → IsPackedRefusal kind ((means before).tree s.packed_path) error
-    pub unread : honest → IsFindCause s kind (view_of (means before).tree s.packed_path) edits error
+    pub unread : honest → IsFindCause s kind (view_of (means before).tree) edits error
     pub counted : IsCountedWith honest read (faults before) (faults now) error

@@ -1,11 +1,9 @@
 -- What `prepare` finds in `packed-refs`, and how its faults are reported.
-use Rattle.std.specs.Prelude.{List, Bool, false, Option, map}
+use Rattle.std.specs.Prelude.{List, Option, map}
 use Rattle.gix_ref_hash.specs.declared.hash.ObjectId.{ObjectId}
 use Rattle.gix_ref_base.specs.PackedRecords.{Record}
 use Rattle.gix_ref_theory.specs.Readings.{Store}
-use Rattle.gix_ref_edits.specs.RefEdits.{is_of_reference, name_of}
-use Rattle.gix_ref_edits.specs.declared.transaction.Change.{Change}
-use Rattle.gix_ref_edits.specs.declared.transaction.Change.TheVariants.{Update, Delete}
+use Rattle.gix_ref_edits.specs.RefEdits.{name_of}
 use Rattle.gix_ref_edits.specs.declared.transaction.RefEdit.{RefEdit}
 use Rattle.gix_ref_lookup.specs.declared.find.error.Error.{Error as LookupError}
 use Rattle.gix_ref_lookup.specs.declared.find.error.Error.TheVariants.{PackedOpen, PackedRef}
@@ -22,8 +20,3 @@ as_cause other = Memory
 -- the ids of the records of edits among these records
 abbrev pub ids_among : Store → List Record → List RefEdit → List (Option ObjectId)
 ids_among s records edits = map (λ (edit : RefEdit). packed_id (s.key (name_of edit)) records) edits
-
--- the change deletes its reference, and not its log alone
-abbrev pub deletes_reference : Change → Bool
-deletes_reference (Update log expected new) = false
-deletes_reference (Delete expected log) = is_of_reference log

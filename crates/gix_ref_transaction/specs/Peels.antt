@@ -32,13 +32,13 @@ cause_of_peeling peeling.Find = packed.Find finding.Failed
 cause_of_peeling peeling.Memory = packed.Memory
 
 -- and how `prepare` reports it that an object cannot be put: as that of `packed-refs`, but for an end of another kind and no memory
-abbrev pub told_by_prepare : PackedError → Error
-told_by_prepare packed.OtherHashKind = OtherHashKind
-told_by_prepare packed.Memory = Memory
-told_by_prepare (packed.CloseLock error) = PackedTransactionPrepare (packed.CloseLock error)
-told_by_prepare packed.Resolve = PackedTransactionPrepare packed.Resolve
-told_by_prepare packed.TagChainTooLong = PackedTransactionPrepare packed.TagChainTooLong
-told_by_prepare (packed.Find error) = PackedTransactionPrepare (packed.Find error)
+abbrev pub reported_by_prepare : PackedError → Error
+reported_by_prepare packed.OtherHashKind = OtherHashKind
+reported_by_prepare packed.Memory = Memory
+reported_by_prepare (packed.CloseLock error) = PackedTransactionPrepare (packed.CloseLock error)
+reported_by_prepare packed.Resolve = PackedTransactionPrepare packed.Resolve
+reported_by_prepare packed.TagChainTooLong = PackedTransactionPrepare packed.TagChainTooLong
+reported_by_prepare (packed.Find error) = PackedTransactionPrepare (packed.Find error)
 
 -- a fault of peeling, an end of another kind, or no memory
 abbrev pub IsPeelError : Error → Type 0
@@ -75,8 +75,8 @@ IsUnpeeled kind id peeled packed.Memory = Unit {0}
 IsUnpeeled kind id peeled error = ⊥
 
 -- and `prepare` reports just that
-abbrev pub IsToldUnpeeled : Kind → ObjectId → Peeled → Error → Type 0
-IsToldUnpeeled kind id peeled error = (of : PackedError) × (error ≡ told_by_prepare of)
+abbrev pub IsReportedUnpeeled : Kind → ObjectId → Peeled → Error → Type 0
+IsReportedUnpeeled kind id peeled error = (of : PackedError) × (error ≡ reported_by_prepare of)
     × IsUnpeeled kind id peeled of
 
 -- this holds of the object, where there is one
@@ -104,7 +104,7 @@ module _ (s : Store) (mode : Mode) (kind : Kind) (meaning : ObjectId → Stored)
   abbrev pub IsUnpeeledEdit : RefEdit → Error → Type 0
   IsUnpeeledEdit edit error = (packs_edit s mode edit ≡ true)
       × IsObjectAnd (new_object (new_of edit.change))
-      (λ id. IsToldUnpeeled kind id (peel meaning 1000 id) error)
+      (λ id. IsReportedUnpeeled kind id (peel meaning 1000 id) error)
 
   -- the fault of the first edit that is
   abbrev pub IsFirstUnpeeled : List RefEdit → List RefEdit → Error → Type 0

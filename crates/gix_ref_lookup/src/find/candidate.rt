@@ -1,5 +1,5 @@
 //! One candidate of a lookup: its loose file, or else its record in `packed-refs`.
-ghost use Rattle.std.specs.Prelude.{◌≡◌, ◌⊎◌, false, ℕ, List, Option, None, IfOk, IfErr, IfSome, OnOk};
+ghost use Rattle.std.specs.Prelude.{◌≡◌, ◌⊎◌, false, ℕ, List, Option, None, IfOk, IfErr, IfNone, IfSome, OnOk};
 ghost use Rattle.gix_ref_hash.specs.declared.hash.Kind.{Kind};
 ghost use Rattle.gix_ref_name.specs.Names.{full_bytes, full_ref_bytes};
 ghost use Rattle.gix_ref_name.specs.Namespaces.{stripped};
@@ -13,7 +13,7 @@ ghost use Rattle.gix_ref_lookup.specs.StoreLayout.{namespace_text};
 ghost use Rattle.gix_ref_records.specs.Positions.{CannotRead};
 ghost use Rattle.gix_ref_packed.specs.Buffers.{IsRefusedFile};
 ghost use Rattle.gix_ref_packed.specs.OpenFiles.{HasReadFault};
-ghost use Rattle.gix_ref_lookup.specs.Lookups.{meaning_in, packed_refs_in, HasKey, OfKey, IsByRecord, IsLooseTarget, IsNotRead, IsNotReadAt, IsReady, AreAsked, IsOfKey, IsFaultOrMemory, IsNotPacked, AreHonest, IsSearched, IsHitOfKey, OfSearched, IsCandidate, IsSound, IsHit, CandidateFails};
+ghost use Rattle.gix_ref_lookup.specs.Lookups.{meaning_in, packed_refs_in, HasKey, OfKey, IsByRecord, IsLooseTarget, IsNotRead, IsNotReadAt, IsReady, AreAsked, IsOfKey, IsFaultOrMemory, IsNotPacked, AreHonest, IsSearched, IsHitOfKey, OfSearched, IsCandidate, IsSound, IsHit, CandidateFails, FindsNone, HasNoKey, IsMissing, SearchesNone};
 ghost use Rattle.gix_ref_lookup.specs.Looks.{OnlyLooks};
 
 use crate::find::loose::{Loose, loose_at};
@@ -134,9 +134,12 @@ fn find_key<R: ReadAt + Drop>(
     ensures failed { (kind : Kind) → IfErr result
         (IsNotPacked (AreHonest records.old) (HasReadFault R.faults) (OfSearched kind
         None records.old (λ k text. CannotRead k text (full_ref_bytes key.entry))) (λ error. ⊥)) }
+    ensures none { AreHonest records.old → (kind : Kind) →
+        IfOk result (λ r. IfNone r (FindsNone kind None records.old)) }
     ensures honest { AreHonest records.old → AreHonest records.new }
     ensures searched { (kind k : Kind) (text : List ℕ) → IsSearched kind None records.new k text →
         IsSearched kind None records.old k text }
+    ensures still_none { SearchesNone None records.new → SearchesNone None records.old }
     ensures asked { (kind : Kind) (rs : List Record) → AreAsked kind None records.old rs →
         AreAsked kind None records.new rs }
     ensures ready { IsReady records.new }
@@ -169,6 +172,9 @@ fn find_at_key<F: Files>(
         IfOk result (λ r. IfSome r (λ r. OfKey (meaning_in settings.entry) name
         (λ key. IsHitOfKey settings.entry.kind (packed_refs_in settings.entry (F.means files.old))
         records.old (namespace_text settings.entry.namespace.now) key r))) }
+    ensures none { F.honest → AreHonest records.old →
+        IfOk result (λ r. IfNone r (FindsNone settings.entry.kind
+        (packed_refs_in settings.entry (F.means files.old)) records.old)) }
     ensures failed { (name : List ℕ) → HasKey
         (meaning_in settings.entry) name (full_ref_bytes key.entry) →
         IfErr result (IsNotPacked (F.honest × AreHonest records.old) (HasRisen (F.faults files.old)
@@ -185,6 +191,8 @@ fn find_at_key<F: Files>(
         (packed_refs_in settings.entry (F.means files.old)) records.new kind text →
         IsSearched settings.entry.kind
         (packed_refs_in settings.entry (F.means files.old)) records.old kind text }
+    ensures still_none { F.honest → SearchesNone (packed_refs_in settings.entry (F.means files.old))
+        records.new → SearchesNone (packed_refs_in settings.entry (F.means files.old)) records.old }
     ensures no_fault { OnOk result (F.faults files.new ≡ F.faults files.old) }
     ensures leaves { F.honest → AtEveryStop F.means files.old files.new Unchanged }
 {
@@ -212,6 +220,10 @@ fn find_packed<F: Files>(
         (λ r. IfSome r (λ r. OfKey (meaning_in settings.entry) (full_ref_bytes name.entry)
         (λ key. IsHitOfKey settings.entry.kind (packed_refs_in settings.entry (F.means files.old))
         records.old (namespace_text settings.entry.namespace.now) key r))) }
+    ensures none { F.honest → AreHonest records.old → IfOk result (λ r. IfNone r
+        (HasNoKey (meaning_in settings.entry) (full_ref_bytes name.entry)
+        ⊎ FindsNone settings.entry.kind (packed_refs_in settings.entry (F.means files.old))
+        records.old)) }
     ensures failed { IfErr result (IsNotPacked (F.honest × AreHonest records.old)
         (HasRisen (F.faults files.old) (F.faults files.new) ⊎ HasReadFault F.Reader.faults)
         (OfKey (meaning_in settings.entry) (full_ref_bytes name.entry)
@@ -227,6 +239,8 @@ fn find_packed<F: Files>(
         (packed_refs_in settings.entry (F.means files.old)) records.new kind text →
         IsSearched settings.entry.kind
         (packed_refs_in settings.entry (F.means files.old)) records.old kind text }
+    ensures still_none { F.honest → SearchesNone (packed_refs_in settings.entry (F.means files.old))
+        records.new → SearchesNone (packed_refs_in settings.entry (F.means files.old)) records.old }
     ensures no_fault { OnOk result (F.faults files.new ≡ F.faults files.old) }
     ensures leaves { F.honest → AtEveryStop F.means files.old files.new Unchanged }
 {
@@ -258,6 +272,9 @@ pub fn find_candidate<F: Files>(
     ensures hit { F.honest → AreHonest records.old →
         IfOk result (λ r. IfSome r (IsHit settings.entry (contents F.means files.old) records.old
         (full_ref_bytes name.entry))) }
+    ensures missing { F.honest → AreHonest records.old →
+        IfOk result (λ r. IfNone r (IsMissing settings.entry (contents F.means files.old)
+        records.old (full_ref_bytes name.entry))) }
     ensures failed { IfErr result (CandidateFails F.honest settings.entry (F.means files.old).tree
         records.old (F.faults files.old) (F.faults files.new) (full_ref_bytes name.entry)) }
     ensures asked { F.honest → (rs : List Record) → AreAsked settings.entry.kind
@@ -269,6 +286,8 @@ pub fn find_candidate<F: Files>(
         (packed_refs_in settings.entry (F.means files.old)) records.new kind text →
         IsSearched settings.entry.kind
         (packed_refs_in settings.entry (F.means files.old)) records.old kind text }
+    ensures still_none { F.honest → SearchesNone (packed_refs_in settings.entry (F.means files.old))
+        records.new → SearchesNone (packed_refs_in settings.entry (F.means files.old)) records.old }
     ensures no_fault { OnOk result (F.faults files.new ≡ F.faults files.old) }
     ensures leaves { F.honest → AtEveryStop F.means files.old files.new Unchanged }
 {

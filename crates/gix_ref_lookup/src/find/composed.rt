@@ -1,12 +1,12 @@
 //! Lookups of names in composed Unicode (`core.precomposeUnicode` of `git config`).
-ghost use Rattle.std.specs.Prelude.{◌≡◌, ◌≢◌, ◌⊎◌, List, IfOk, IfErr, IfSome, OnOk, MatchOption};
+ghost use Rattle.std.specs.Prelude.{◌≡◌, ◌≢◌, ◌⊎◌, List, IfOk, IfErr, IfNone, IfSome, OnOk, MatchOption};
 ghost use Rattle.gix_ref_name.specs.ComposedNames.{decomposed};
 ghost use Rattle.gix_ref_name.specs.Names.{full_bytes, partial_bytes, partial_ref_bytes};
 ghost use Rattle.gix_ref_base.specs.PackedRecords.{Record};
 ghost use Rattle.gix_ref_files.specs.Files.{AtEveryStop};
 ghost use Rattle.gix_ref_files.specs.Calls.{Unchanged};
 ghost use Rattle.gix_ref_theory.specs.OnRealTrees.{contents};
-ghost use Rattle.gix_ref_lookup.specs.Lookups.{meaning_in, packed_refs_in, AreAsked, AreHonest, ReturnsHit, IsSound, IsHitOf, IsGivenOf, FailsAmong, lookup_of, asked_names, name_asked, AreStillAsked};
+ghost use Rattle.gix_ref_lookup.specs.Lookups.{meaning_in, packed_refs_in, AreAsked, AreHonest, ReturnsHit, IsSound, IsHitOf, IsGivenOf, FailsAmong, lookup_of, asked_names, name_asked, AreMissing, AreStillAsked};
 
 use crate::find::Error;
 use crate::find::lookup::find_asked;
@@ -79,6 +79,9 @@ pub fn find_reference<F: Files>(
         (packed_refs_in settings.entry (F.means files.old)) records.old rs → IfErr result IsSound }
     ensures hit { F.honest → AreHonest records.old → IfOk result (λ r. IfSome r (IsHitOf composes
         settings.entry (contents F.means files.old) records.old (partial_ref_bytes name.entry))) }
+    ensures missing { F.honest → AreHonest records.old → IfOk result (λ r. IfNone r
+        (AreMissing settings.entry (contents F.means files.old) records.old
+        (name_asked composes (partial_ref_bytes name.entry)))) }
     ensures failed { IfErr result (λ error. (error ≡ Error.Memory)
         ⊎ FailsAmong F.honest settings.entry (F.means files.old).tree records.old
         (F.faults files.old) (F.faults files.new)

@@ -1,5 +1,6 @@
 //! The lookup of a partial name (`gitrevisions`): its candidates, one after the other.
-ghost use Rattle.std.specs.Prelude.{◌≡◌, ◌⊎◌, None, List, IfOk, IfErr, IfSome, OnOk, option_to_list};
+ghost use Rattle.std.specs.Prelude.{◌≡◌, ◌⊎◌, None, List, IfOk, IfErr, IfNone, IfSome, OnOk, option_to_list};
+ghost use Rattle.std.specs.List.{AllByRecursion};
 ghost use Rattle.gix_ref_name.specs.Candidates.{candidates, remote_head};
 ghost use Rattle.gix_ref_name.specs.Names.{partial_ref_bytes};
 ghost use Rattle.gix_ref_base.specs.PackedRecords.{Record};
@@ -7,7 +8,7 @@ ghost use Rattle.gix_ref_files.specs.Files.{AtEveryStop};
 ghost use Rattle.gix_ref_files.specs.Calls.{Unchanged};
 ghost use Rattle.gix_ref_theory.specs.Lookups.{first_hit, hit_or_head, lookup};
 ghost use Rattle.gix_ref_theory.specs.OnRealTrees.{contents};
-ghost use Rattle.gix_ref_lookup.specs.Lookups.{meaning_in, packed_refs_in, AreAsked, AreHonest, ReturnsHit, IsSound, IsHit, Among, FailsAmong, asked_names, AreStillAsked};
+ghost use Rattle.gix_ref_lookup.specs.Lookups.{meaning_in, packed_refs_in, AreAsked, AreHonest, ReturnsHit, IsSound, IsHit, Among, FailsAmong, asked_names, AreMissing, AreStillAsked, IsMissing};
 
 use crate::find::Error;
 use crate::find::candidate::find_candidate;
@@ -35,6 +36,9 @@ fn find_first<F: Files>(
         (packed_refs_in settings.entry (F.means files.old)) records.old rs → IfErr result IsSound }
     ensures hit { F.honest → AreHonest records.old → IfOk result (λ r. IfSome r
         (λ r. Among (λ n. IsHit settings.entry (contents F.means files.old) records.old n r)
+        (candidates (partial_ref_bytes name.entry)))) }
+    ensures missing { F.honest → AreHonest records.old → IfOk result (λ r. IfNone r
+        (AllByRecursion (IsMissing settings.entry (contents F.means files.old) records.old)
         (candidates (partial_ref_bytes name.entry)))) }
     ensures failed { IfErr result
         (FailsAmong F.honest settings.entry (F.means files.old).tree records.old
@@ -68,6 +72,9 @@ fn find_head<F: Files>(
     ensures found { F.honest → IfOk result (ReturnsHit (hit_or_head (meaning_in settings.entry)
         (contents F.means files.old) None (remote_head (partial_ref_bytes name.entry)))) }
     ensures sound { F.honest → IfErr result IsSound }
+    ensures missing { F.honest → IfOk result (λ r. IfNone r (AllByRecursion
+        (λ n. contents F.means files.old ((meaning_in settings.entry).place n) ≡ None)
+        (option_to_list (remote_head (partial_ref_bytes name.entry))))) }
     ensures failed { IfErr result (λ error. (error ≡ Error.Memory)
         ⊎ FailsAmong {G = F.Reader.ReadAt} F.honest settings.entry
         (F.means files.old).tree Records.None (F.faults files.old) (F.faults files.new)
@@ -105,6 +112,9 @@ pub fn find_asked<F: Files>(
     ensures hit { F.honest → AreHonest records.old → IfOk result (λ r. IfSome r
         (λ r. Among (λ n. IsHit settings.entry (contents F.means files.old) records.old n r)
         (asked_names (partial_ref_bytes name.entry)))) }
+    ensures missing { F.honest → AreHonest records.old → IfOk result (λ r. IfNone r
+        (AreMissing settings.entry (contents F.means files.old) records.old
+        (partial_ref_bytes name.entry))) }
     ensures failed { IfErr result (λ error. (error ≡ Error.Memory) ⊎ FailsAmong F.honest
         settings.entry (F.means files.old).tree records.old (F.faults files.old)
         (F.faults files.new) (asked_names (partial_ref_bytes name.entry)) error) }

@@ -8,7 +8,7 @@ ghost use Rattle.gix_ref_files.specs.ReadOnly.{OnlyReads};
 ghost use Rattle.gix_ref_packed.specs.Buffers.{buffer_text, buffer_kind, IsRefusedFile};
 ghost use Rattle.gix_ref_packed.specs.FileSearches.{FindsInFile};
 ghost use Rattle.gix_ref_packed.specs.OpenFiles.{HasReadFault};
-ghost use Rattle.gix_ref_lookup.specs.Lookups.{meaning_in, packed_refs_in, ArePackedRecords, AreAsked, IsSearched, IsReady, IsFaultOrMemory, IsNotPacked, AreHonest, IsOpenedText, of_opening, of_search, as_found};
+ghost use Rattle.gix_ref_lookup.specs.Lookups.{meaning_in, packed_refs_in, ArePackedRecords, AreAsked, IsSearched, IsReady, IsFaultOrMemory, IsNotPacked, AreHonest, IsOpenedText, SearchesNone, of_opening, of_search, as_found};
 
 use crate::find::Error;
 use crate::settings::Settings;
@@ -102,6 +102,8 @@ fn open_records<'b, F: Files>(
         IsSearched settings.entry.kind None r kind text → IsOpenedText settings.entry.kind
         (packed_refs_in settings.entry (F.means files.old)) kind text) }
     ensures honest { F.honest → IfOk result AreHonest }
+    ensures none { F.honest → IfOk result (λ r. SearchesNone None r →
+        packed_refs_in settings.entry (F.means files.old) ≡ None) }
     ensures refused { IfErr result (IsNotPacked F.honest (HasRisen (F.faults files.old)
         (F.faults files.new) ⊎ HasReadFault F.Reader.faults) ⊥ (IsRefusedFile settings.entry.kind
         ((F.means files.old).tree (meaning_in settings.entry).packed_path))) }
@@ -117,7 +119,7 @@ fn open_records<'b, F: Files>(
 }
 
 impl<R: ReadAt + Drop> Records<'_, R> {
-    ghost use Rattle.std.specs.Prelude.{◌≡◌, ◌⊎◌, ℕ, List, Option, OnOk, OnErr, IfErr, IfOk, IfSome, MatchResult, None};
+    ghost use Rattle.std.specs.Prelude.{◌≡◌, ◌⊎◌, ℕ, List, Option, OnOk, OnErr, IfErr, IfOk, IfSome, IfNone, MatchResult, None};
     ghost use Rattle.gix_ref_name.specs.Names.{full_ref_bytes};
     ghost use Rattle.gix_ref_base.specs.PackedRecords.{Record, record_named};
     ghost use Rattle.gix_ref_hash.specs.declared.hash.Kind.{Kind};
@@ -126,7 +128,7 @@ impl<R: ReadAt + Drop> Records<'_, R> {
     ghost use Rattle.gix_ref_packed.specs.Buffers.{IsRefusedFile};
     ghost use Rattle.gix_ref_records.specs.Windows.{AreFound, HitsRecord};
     ghost use Rattle.gix_ref_packed.specs.OpenFiles.{HasReadFault};
-    ghost use Rattle.gix_ref_lookup.specs.Lookups.{meaning_in, packed_refs_in, AreAsked, IsSearched, IsReady, IsNotPacked, AreHonest, IsFaultOrMemory, OfSearched};
+    ghost use Rattle.gix_ref_lookup.specs.Lookups.{meaning_in, packed_refs_in, AreAsked, IsSearched, IsReady, IsNotPacked, AreHonest, IsFaultOrMemory, OfSearched, FindsNone, SearchesNone};
 
     /// Opens `packed-refs`, if it is asked for the first time. `PackedOpen` where it cannot be opened, and `Memory`.
     pub fn open<F: Files<Reader = R>>(
@@ -147,6 +149,8 @@ impl<R: ReadAt + Drop> Records<'_, R> {
             None self.new kind text → OnOk result (IsSearched settings.entry.kind
             (packed_refs_in settings.entry (F.means files.old)) self.old kind text) }
         ensures honest { F.honest → AreHonest self.old → OnOk result (AreHonest self.new) }
+        ensures none { F.honest → OnOk result (SearchesNone None self.new →
+            SearchesNone (packed_refs_in settings.entry (F.means files.old)) self.old) }
         ensures refused { IfErr result (IsNotPacked F.honest (HasRisen (F.faults files.old)
             (F.faults files.new) ⊎ HasReadFault R.faults) ⊥ (IsRefusedFile settings.entry.kind
             ((F.means files.old).tree (meaning_in settings.entry).packed_path))) }
@@ -179,7 +183,10 @@ impl<R: ReadAt + Drop> Records<'_, R> {
         ensures failed { (kind : Kind) → IfErr result
             (IsNotPacked (AreHonest self.old) (HasReadFault R.faults) (OfSearched kind None self.old
             (λ k text. CannotRead k text (full_ref_bytes key.entry))) (λ error. ⊥)) }
+        ensures none { AreHonest self.old → (kind : Kind) →
+            IfOk result (λ found. IfNone found (FindsNone kind None self.old)) }
         ensures honest { AreHonest self.old → AreHonest self.new }
+        ensures still_none { SearchesNone None self.new → SearchesNone None self.old }
         ensures asked { (kind : Kind) (records : List Record) →
             AreAsked kind None self.old records → AreAsked kind None self.new records }
         ensures searched { (kind : Kind) (k : Kind) (text : List ℕ) →

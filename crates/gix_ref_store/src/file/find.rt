@@ -26,13 +26,13 @@ fn not_found(alloc: Global, partial: PartialNameRef<'_>) -> existing::Error
 }
 
 impl<F: Files> Store<F> {
-    ghost use Rattle.std.specs.Prelude.{◌≡◌, List, Some, IfOk, IfErr, OnOk, true, false, is_some};
+    ghost use Rattle.std.specs.Prelude.{◌≡◌, List, Some, IfOk, IfErr, IfNone, OnOk, true, false, is_some};
     ghost use Rattle.gix_ref_name.specs.Names.{partial_ref_bytes};
     ghost use Rattle.gix_ref_base.specs.PackedRecords.{Record};
     ghost use Rattle.gix_ref_lookup.specs.Lookups.{IsSound, AreHonest};
     ghost use Rattle.gix_ref_lookup.specs.declared.find.records.Records.TheVariants.{Unopened};
     ghost use Rattle.gix_ref_store.specs.Store.{files_of};
-    ghost use Rattle.gix_ref_store.specs.Lookup.{AreRecordsIn, AreAskedIn, AreHeld, held, composes_in, FindsBy, FindsAmong, FindsHeld, FindsLoose, HitsIn, FailsIn, MissesIn, MissesBy, MissesAmong, MissesHeld, MissesLoose, LooksUp, AreStillAskedIn};
+    ghost use Rattle.gix_ref_store.specs.Lookup.{AreRecordsIn, AreAskedIn, AreHeld, held, composes_in, FindsBy, FindsAmong, FindsHeld, FindsLoose, HitsIn, FailsIn, MissesIn, MissesBy, MissesAmong, MissesHeld, MissesLoose, LooksUp, AreStillAskedIn, FindsNothing, IfNotFound};
 
     /// Whether names are composed in a lookup.
     fn composes(&self, asks_records: bool) -> bool
@@ -56,6 +56,8 @@ impl<F: Files> Store<F> {
             AreAskedIn F.means self.old asked.old records → IfErr result IsSound }
         ensures hit { F.honest → AreHonest asked.old → IfOk result
             (HitsIn F.means asks_records self.old asked.old (partial_ref_bytes partial.entry)) }
+        ensures missing { F.honest → AreHonest asked.old → IfOk result (λ r. IfNone r (FindsNothing
+            F.means asks_records self.old asked.old (partial_ref_bytes partial.entry))) }
         ensures failed { IfErr result (FailsIn F.honest F.means F.faults asks_records self.old
             self.new asked.old (partial_ref_bytes partial.entry)) }
         ensures asked { F.honest → OnOk result
@@ -86,6 +88,9 @@ impl<F: Files> Store<F> {
             (MissesBy F.means asks_records self.old records (partial_ref_bytes partial.entry)) }
         ensures hit { F.honest → AreHonest asked.old → IfOk result (λ r. HitsIn F.means asks_records
             self.old asked.old (partial_ref_bytes partial.entry) (Some r)) }
+        ensures missing { F.honest → AreHonest asked.old →
+            IfErr result (λ error. IfNotFound error (FindsNothing F.means asks_records self.old
+            asked.old (partial_ref_bytes partial.entry))) }
         ensures failed { IfErr result (MissesIn F.honest F.means F.faults asks_records self.old
             self.new asked.old (partial_ref_bytes partial.entry)) }
         ensures asked { F.honest → OnOk result
@@ -138,6 +143,8 @@ impl<F: Files> Store<F> {
             IfErr result IsSound }
         ensures hit { F.honest → IfOk result (HitsIn {G = F.Reader.ReadAt} F.means true self.old
             Unopened (partial_ref_bytes partial.entry)) }
+        ensures missing { F.honest → IfOk result (λ r. IfNone r (FindsNothing {G = F.Reader.ReadAt}
+            F.means true self.old Unopened (partial_ref_bytes partial.entry))) }
         ensures failed { IfErr result (FailsIn {G = F.Reader.ReadAt} F.honest F.means F.faults true
             self.old self.new Unopened (partial_ref_bytes partial.entry)) }
         ensures no_fault { OnOk result (F.faults (files_of self.new)
@@ -169,6 +176,9 @@ impl<F: Files> Store<F> {
             IfErr result (MissesAmong F.means self.old records (partial_ref_bytes partial.entry)) }
         ensures hit { F.honest → IfOk result (λ r. HitsIn {G = F.Reader.ReadAt} F.means true
             self.old Unopened (partial_ref_bytes partial.entry) (Some r)) }
+        ensures missing { F.honest → IfErr result (λ error. IfNotFound error
+            (FindsNothing {G = F.Reader.ReadAt} F.means true self.old Unopened
+            (partial_ref_bytes partial.entry))) }
         ensures failed { IfErr result (MissesIn {G = F.Reader.ReadAt} F.honest F.means F.faults true
             self.old self.new Unopened (partial_ref_bytes partial.entry)) }
         ensures no_fault { OnOk result (F.faults (files_of self.new)
@@ -194,6 +204,8 @@ impl<F: Files> Store<F> {
         ensures found { F.honest → IfOk result
             (FindsLoose F.means self.old (partial_ref_bytes partial.entry)) }
         ensures sound { F.honest → IfErr result IsSound }
+        ensures missing { F.honest → IfOk result (λ r. IfNone r (FindsNothing {G = F.Reader.ReadAt}
+            F.means false self.old Records.None (partial_ref_bytes partial.entry))) }
         ensures failed { IfErr result (FailsIn {G = F.Reader.ReadAt} F.honest F.means F.faults false
             self.old self.new Records.None (partial_ref_bytes partial.entry)) }
         ensures no_fault { OnOk result (F.faults (files_of self.new)
@@ -223,6 +235,9 @@ impl<F: Files> Store<F> {
             (λ r. FindsLoose F.means self.old (partial_ref_bytes partial.entry) (Some r)) }
         ensures sound { F.honest → IfErr result
             (MissesLoose F.means self.old (partial_ref_bytes partial.entry)) }
+        ensures missing { F.honest → IfErr result (λ error. IfNotFound error
+            (FindsNothing {G = F.Reader.ReadAt} F.means false self.old Records.None
+            (partial_ref_bytes partial.entry))) }
         ensures failed { IfErr result (MissesIn {G = F.Reader.ReadAt} F.honest F.means F.faults
             false self.old self.new Records.None (partial_ref_bytes partial.entry)) }
         ensures no_fault { OnOk result (F.faults (files_of self.new)
@@ -261,6 +276,9 @@ impl<F: Files> Store<F> {
             IfErr result IsSound }
         ensures hit { F.honest → IfOk result (HitsIn {G = F.Reader.ReadAt} F.means
             (is_some packed.entry) self.old (held packed.entry) (partial_ref_bytes partial.entry)) }
+        ensures missing { F.honest → IfOk result (λ r. IfNone r (FindsNothing {G = F.Reader.ReadAt}
+            F.means (is_some packed.entry) self.old (held packed.entry)
+            (partial_ref_bytes partial.entry))) }
         ensures failed { IfErr result (FailsIn {G = F.Reader.ReadAt} F.honest F.means F.faults
             (is_some packed.entry) self.old self.new (held packed.entry)
             (partial_ref_bytes partial.entry)) }
@@ -291,6 +309,9 @@ impl<F: Files> Store<F> {
         ensures hit { F.honest →
             IfOk result (λ r. HitsIn {G = F.Reader.ReadAt} F.means (is_some packed.entry) self.old
             (held packed.entry) (partial_ref_bytes partial.entry) (Some r)) }
+        ensures missing { F.honest → IfErr result (λ error. IfNotFound error
+            (FindsNothing {G = F.Reader.ReadAt} F.means (is_some packed.entry) self.old
+            (held packed.entry) (partial_ref_bytes partial.entry))) }
         ensures failed { IfErr result (MissesIn {G = F.Reader.ReadAt} F.honest F.means F.faults
             (is_some packed.entry) self.old self.new (held packed.entry)
             (partial_ref_bytes partial.entry)) }

@@ -219,7 +219,7 @@ impl<F: Files> Store<F> {
     ghost use Rattle.std.specs.Prelude.{◌≡◌, ◌⊎◌, ◌≤◌, ◌+◌, [], List, IfOk, IfErr, IfSome, IfNone, OnOk, OnErr};
     ghost use Rattle.gix_ref_base.specs.PackedRecords.{Record};
     ghost use Rattle.gix_ref_listing.specs.declared.prefix.Error.TheVariants.{Memory};
-    ghost use Rattle.gix_ref_store.specs.Lookup.{AreRecordsIn, LooksUp, settings_of};
+    ghost use Rattle.gix_ref_store.specs.Lookup.{AreRecordsIn, CanBeOpened, LooksUp, settings_of};
     ghost use Rattle.std.specs.Option.{option_len};
     ghost use Rattle.gix_ref_listing.specs.Listings.{Listed, IsNoRecord, merge_left};
     ghost use Rattle.gix_ref_listing.specs.CleanPrefixes.{IsAcceptedPrefix, IsRefusedPrefix};
@@ -315,7 +315,8 @@ impl<F: Files> Store<F> {
         }
     }
 
-    /// As `iter_prefixed_packed`, of the loose references that a walk found, with its prefix. `Memory`. Not in gix-ref.
+    /// As `iter_prefixed_packed`, of the loose references that a walk found, with its prefix: no folder is walked anew, and no
+    /// file is called. `Memory`. Not in gix-ref.
     pub fn iter_walked<'p>(
         &'p mut self,
         alloc: Global,
@@ -325,6 +326,7 @@ impl<F: Files> Store<F> {
         ensures* rests { sem 𝓛 (RestsIfErr (the_row F.row) self.entry (λ it. it.store.ghost_name)
             result (λ n. OnErr result (LooksUp F.honest F.means self.entry.now n))) }
         ensures same_reference { IfOk result (λ it. it.store.ghost_name ≡ self.entry.ghost_name) }
+        ensures same { IfOk result (λ it. it.store.now ≡ self.entry.now) }
         ensures looks_up { IfOk result
             (λ it. LooksUp F.honest F.means self.entry.now it.store.now) }
         ensures lists { F.honest → (start : Store F) (records : List Record) →
@@ -474,6 +476,7 @@ impl<F: Files> Store<F> {
         ensures looks_up { IfOk result (λ p. LooksUp F.honest F.means self.entry.now p.store.now) }
         ensures no_fault { IfOk result (λ p. F.faults (files_of p.store.now)
             ≡ F.faults (files_of self.entry.now)) }
+        ensures opened { F.honest → IfOk result (λ _. CanBeOpened F.means self.entry.now) }
         ensures refused { F.honest → IfErr result (IsNotOpened F.means self.entry.now) }
     {
         match self.force_refresh_packed_buffer(alloc) {

@@ -32,7 +32,7 @@ impl<F: Files> Store<F> {
     ghost use Rattle.gix_ref_packed.specs.OpenFiles.{CountsRefusal};
     ghost use Rattle.gix_ref_store.specs.Store.{files_of};
     ghost use Rattle.gix_ref_store.specs.Listings.{IsReadFor};
-    ghost use Rattle.gix_ref_store.specs.Lookup.{LooksUp, OpensBuffer, RefusesBuffer, AreRecordsIn, packed_refs_at};
+    ghost use Rattle.gix_ref_store.specs.Lookup.{CanBeOpened, LooksUp, OpensBuffer, RefusesBuffer, AreRecordsIn, packed_refs_at};
 
     /// The `packed-refs` of the store in memory; `None` where there is no such file. `Io` where it cannot be read,
     /// `HeaderParsing` where it begins with `#` and has no header, `Iter` at the first line that is no record where the records
@@ -112,6 +112,7 @@ impl<F: Files> Store<F> {
     /// Tries to open the `packed-refs` of the store, and keeps nothing of it: the errors are those of `open_packed_buffer`.
     /// As gix-ref's `file::Store::force_refresh_packed_buffer`.
     pub fn force_refresh_packed_buffer(&mut self, alloc: Global) -> Result<(), Error>
+        ensures opened { F.honest → OnOk result (CanBeOpened F.means self.old) }
         ensures refused { F.honest → IfErr result (RefusesBuffer F.means self.old) }
         ensures count { IfErr result (λ error. F.faults (files_of self.new)
             ≡ count_open (Err error) (F.faults (files_of self.old))) }
@@ -120,7 +121,7 @@ impl<F: Files> Store<F> {
         ensures unchanged { LooksUp F.honest F.means self.old self.new }
     {
         match self.open_packed_buffer(alloc) {
-            Ok(_) => Ok(()),
+            Ok(_packed) => Ok(()),
             Err(error) => Err(error),
         }
     }

@@ -22,7 +22,7 @@ pub enum Error {
     /// The object at the end of tags is not of the kind of the file's ids.
     #[error("an id is of another kind than those of packed-refs")]
     OtherHashKind,
-    /// A growth of memory was refused.
+    /// There was no memory.
     #[error("out of memory")]
     Memory,
 }

@@ -4,7 +4,7 @@ ghost use Rattle.gix_ref_hash.specs.declared.hash.ObjectId.{ObjectId};
 ghost use Rattle.gix_ref_edits.specs.RefEdits.{name_of, new_of};
 ghost use Rattle.gix_ref_object.specs.Peeling.{peel};
 ghost use Rattle.gix_ref_transaction.specs.Packing.{ends_of, finder_in, mode_in, new_object, peeled_in, put_by, OfFinder};
-ghost use Rattle.gix_ref_transaction.specs.Peels.{cause_of_peeling, ArePut, EndsAt, HasEnd, IsFirstUnpeeled, IsPeelError, IsPeeledOfKind, IsUnpeeled, IsUnpeeledEdit, told_by_prepare};
+ghost use Rattle.gix_ref_transaction.specs.Peels.{cause_of_peeling, ArePut, EndsAt, HasEnd, IsFirstUnpeeled, IsPeelError, IsPeeledOfKind, IsUnpeeled, IsUnpeeledEdit, reported_by_prepare};
 ghost use Rattle.gix_ref_transaction.specs.PrepareSteps.{all_asked, ids_in, setting_of, updates};
 
 use crate::edit::{Edit, PackedObject};
@@ -56,8 +56,8 @@ pub fn end_of<T: Find>(
 }
 
 /// How `prepare` reports it that an object has no end that can be put.
-fn told(error: packed::Error) -> Error
-    ensures told { result ≡ told_by_prepare error }
+fn reported(error: packed::Error) -> Error
+    ensures reported { result ≡ reported_by_prepare error }
     ensures error { IsPeelError result }
 {
     match error {
@@ -120,7 +120,7 @@ fn put_of<T: Find>(
         (Some(finder), Some(target)) => {
             match end_of(alloc, finder, settings.kind, target) {
                 Ok(peeled) => Ok(Some(PackedObject { target, peeled })),
-                Err(error) => Err(told(error)),
+                Err(error) => Err(reported(error)),
             }
         }
         _ => Ok(None),

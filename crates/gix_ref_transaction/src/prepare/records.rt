@@ -1,21 +1,23 @@
 //! The records of the edits of a transaction in `packed-refs`.
-ghost use Rattle.std.specs.Prelude.{◌≡◌, ◌⊎◌, ℕ, List, Option, None, true, OnOk, IfOk, IfErr};
+ghost use Rattle.std.specs.Prelude.{◌≡◌, ◌⊎◌, ℕ, List, Option, None, true, OnOk, IfOk, IfErr, is_some};
+ghost use Rattle.gix_ref_files.specs.Files.{count_after};
 ghost use Rattle.gix_ref_hash.specs.declared.hash.Kind.{Kind};
 ghost use Rattle.gix_ref_name.specs.Names.{full_ref_bytes};
 ghost use Rattle.gix_ref_base.specs.PackedRecords.{Record, record_named};
 ghost use Rattle.gix_ref_files.specs.Tree.{Content};
 ghost use Rattle.gix_ref_files.specs.ReadOnly.{OnlyReads};
+ghost use Rattle.gix_ref_theory.specs.OnRealTrees.{contents};
 ghost use Rattle.gix_ref_packed.specs.OpenFiles.{HasReadFault};
 ghost use Rattle.gix_ref_edits.specs.RefEdits.{name_of};
-ghost use Rattle.gix_ref_lookup.specs.Lookups.{packed_refs_in, ArePackedRecords, AreAsked, AreHonest, AreStillAsked, IsOpenedText, IsReady, IsSearched, OfKey};
-ghost use Rattle.gix_ref_transaction.specs.Causes.{id_of_record, packed_id, IsCounted, IsCountedWith, IsIoOrMemory, IsPackedRefusal, OfSomeKey};
-ghost use Rattle.gix_ref_transaction.specs.internal.StuckRecords.{AreNotFound, IsSearchFault, IsStuckKey};
+ghost use Rattle.gix_ref_lookup.specs.Lookups.{packed_refs_in, ArePackedRecords, AreAsked, AreHonest, AreStillAsked, IsOpenable, IsOpenedText, IsReady, IsSearched, OfKey, SearchesNone};
+ghost use Rattle.gix_ref_transaction.specs.Causes.{decoded, id_of_record, packed_id, AllWithIds, AreRecordIds, IsCounted, IsCountedWith, IsHidden, IsIoOrMemory, IsPackedRefusal, OfSomeKey};
+ghost use Rattle.gix_ref_transaction.specs.internal.StuckRecords.{AreNotFound, IsAskedId, IsFindError, IsNamedId, IsSearchFault, IsSearchedId, IsStuckKey, is_held};
 ghost use Rattle.gix_ref_transaction.specs.PackedCauses.{as_cause, ids_among};
-ghost use Rattle.gix_ref_transaction.specs.PrepareSteps.{setting_of, updates, all_asked, ids_in};
+ghost use Rattle.gix_ref_transaction.specs.PrepareSteps.{setting_of, updates, all_asked, ids_in, place_paths, places_of};
 
 use crate::edit::{Edit, deletes_reference};
 use crate::prepare::Error;
-use gix_ref_files::files::{Files, ReadAt};
+use gix_ref_files::files::{FileError, Files, ReadAt};
 use gix_ref_hash::hash::{Kind, ObjectId};
 use gix_ref_lookup::find;
 use gix_ref_lookup::find::loose::{Loose, loose_at};
@@ -43,6 +45,8 @@ fn id_at<R: ReadAt + Drop>(
     requires { IsReady records.now }
     ensures found { (kind : Kind) (rs : List Record) → AreAsked kind None records.old rs →
         IfOk result (λ id. id ≡ id_of_record (record_named (full_ref_bytes key.entry) rs)) }
+    ensures read { AreHonest records.old → (kind : Kind) → IfOk result
+        (IsSearchedId kind records.old (full_ref_bytes key.entry)) }
     ensures failed { IfErr result (IsSearchFault records.old
         (λ kind. IsStuckKey kind records.old (full_ref_bytes key.entry))) }
     ensures counted { (before now : ℕ) → IfErr result
@@ -68,6 +72,8 @@ fn id_of<R: ReadAt + Drop>(
     ensures found { (kind : Kind) (rs : List Record) →
         AreAsked kind None records.old rs → IfOk result
         (λ id. id ≡ packed_id ((setting_of settings.now).key (full_ref_bytes name.entry)) rs) }
+    ensures read { AreHonest records.old → (kind : Kind) → IfOk result (IsNamedId
+        (setting_of settings.now) kind records.old (full_ref_bytes name.entry)) }
     ensures failed { IfErr result (IsSearchFault records.old (λ kind. OfKey
         (setting_of settings.now) (full_ref_bytes name.entry) (IsStuckKey kind records.old))) }
     ensures counted { (before now : ℕ) → IfErr result
@@ -84,16 +90,47 @@ fn id_of<R: ReadAt + Drop>(
     }
 }
 
+/// Whether a loose file was found that holds a target.
+fn is_held(loose: &Loose) -> bool
+    ensures { result ≡ is_held loose.now }
+{
+    match loose {
+        Loose::Holds(_) => true,
+        Loose::Absent | Loose::Undecodable(_) => false,
+    }
+}
+
+/// Whether a loose file at a place holds a target.
+fn holds_target<F: Files>(
+    alloc: Global,
+    files: &mut F,
+    settings: &Settings<'_>,
+    place: &[u8],
+) -> Result<bool, FileError>
+    ensures holds { F.honest → IfOk result (λ holds. holds ≡ is_some (decoded
+        (setting_of settings.now) (contents F.means files.old place.now))) }
+    ensures count { F.faults files.new ≡ count_after result (F.faults files.old) }
+    ensures reads { OnlyReads F.honest F.means F.faults files.old files.new }
+{
+    let loose = loose_at(alloc, files, place, settings.kind)?;
+    Ok(is_held(&loose))
+}
+
 /// Passes over a search that failed for the record of an edit whose loose file holds a target, which hides the record; not that of a
 /// deletion of the reference, which removes the record too. One call of files at the most.
 fn pass_hidden<F: Files>(
     alloc: Global,
     files: &mut F,
-    kind: Kind,
+    settings: &Settings<'_>,
     edit: &Edit,
     error: Error,
 ) -> Result<(), Error>
-    ensures hidden { OnOk result (IsIoOrMemory error → ⊥) }
+    requires { edit.now.lock ≡ (setting_of settings.now).place (name_of edit.now.update) }
+    ensures hidden { F.honest → OnOk result
+        (IsHidden (setting_of settings.now) (contents F.means files.old) edit.now.update) }
+    ensures asked { F.honest → IfErr result (λ e. IsFindError e →
+        IsHidden (setting_of settings.now) (contents F.means files.old) edit.now.update → ⊥) }
+    ensures unsound { OnOk result (IsIoOrMemory error → ⊥) }
     ensures sound { IsIoOrMemory error → IfErr result IsIoOrMemory }
     ensures refused { (of_kind : Kind) (packed : Option Content) →
         IsPackedRefusal of_kind packed error → IfErr result (IsPackedRefusal of_kind packed) }
@@ -104,9 +141,10 @@ fn pass_hidden<F: Files>(
     if deletes_reference(&edit.update.change) || !matches!(&error, Error::PackedFind(_)) {
         return Err(error);
     }
-    match loose_at(alloc, files, edit.lock.place(), kind)? {
-        Loose::Holds(_) => Ok(()),
-        Loose::Absent | Loose::Undecodable(_) => Err(error),
+    if holds_target(alloc, files, settings, edit.lock.place())? {
+        Ok(())
+    } else {
+        Err(error)
     }
 }
 
@@ -118,12 +156,18 @@ fn id_unless_hidden<F: Files>(
     edit: &Edit,
     records: &mut Records<'_, F::Reader>,
 ) -> Result<Option<ObjectId>, Error>
-    requires { IsReady records.now }
+    requires ready { IsReady records.now }
+    requires place { edit.now.lock ≡ (setting_of settings.now).place (name_of edit.now.update) }
     ensures found { (kind : Kind) (rs : List Record) →
         AreAsked kind None records.old rs → IfOk result
         (λ id. id ≡ packed_id ((setting_of settings.now).key (name_of edit.now.update)) rs) }
+    ensures read { F.honest → AreHonest records.old → (kind : Kind) → IfOk result
+        (IsAskedId (setting_of settings.now) kind (contents F.means files.old) records.old
+        edit.now.update) }
     ensures failed { IfErr result (IsSearchFault records.old (λ kind. OfKey
         (setting_of settings.now) (name_of edit.now.update) (IsStuckKey kind records.old))) }
+    ensures asked { F.honest → IfErr result (λ e. IsFindError e →
+        IsHidden (setting_of settings.now) (contents F.means files.old) edit.now.update → ⊥) }
     ensures counted { IfErr result (IsCountedWith (AreHonest records.old)
         (HasReadFault F.Reader.faults) (F.faults files.old) (F.faults files.new)) }
     ensures still { (kind : Kind) → AreStillAsked kind None records.old records.new }
@@ -133,7 +177,7 @@ fn id_unless_hidden<F: Files>(
     match id_of(alloc, settings, edit.update.name.as_ref(), records) {
         Ok(id) => Ok(id),
         Err(error) => {
-            pass_hidden(alloc, files, settings.kind, edit, error)?;
+            pass_hidden(alloc, files, settings, edit, error)?;
             Ok(None)
         }
     }
@@ -147,12 +191,17 @@ fn find_ids<F: Files>(
     edits: &mut [Edit],
     records: &mut Records<'_, F::Reader>,
 ) -> Result<(), Error>
-    requires { IsReady records.old }
+    requires ready { IsReady records.old }
+    requires places { place_paths edits.old ≡ places_of (setting_of settings.now) (updates edits.old) }
     ensures asked { all_asked edits.new ≡ all_asked edits.old }
     ensures found { (kind : Kind) (rs : List Record) →
         AreAsked kind None records.old rs → OnOk result
         (ids_in edits.new ≡ ids_among (setting_of settings.now) rs (updates edits.old)) }
+    ensures read { F.honest → AreHonest records.old → (kind : Kind) → OnOk result
+        (AllWithIds (IsAskedId (setting_of settings.now) kind (contents F.means files.old)
+        records.old) (updates edits.old) (ids_in edits.new)) }
     ensures failed { IfErr result (IsSearchFault records.old (λ kind. OfSomeKey
+        (λ edit. F.honest → IsHidden (setting_of settings.now) (contents F.means files.old) edit → ⊥)
         (IsStuckKey kind records.old) (setting_of settings.now) (updates edits.old))) }
     ensures counted { IfErr result (IsCountedWith (AreHonest records.old)
         (HasReadFault F.Reader.faults) (F.faults files.old) (F.faults files.new)) }
@@ -171,6 +220,8 @@ fn unopened<'b, R: ReadAt + Drop>(is_absent: bool) -> Records<'b, R>
     ensures searched { (kind of_kind : Kind) (file : Option (List ℕ)) (text : List ℕ) →
         IsSearched kind file result of_kind text → IsOpenedText kind file of_kind text }
     ensures honest { AreHonest result }
+    ensures none { (file : Option (List ℕ)) → (is_absent ≡ true → file ≡ None) →
+        SearchesNone file result → file ≡ None }
 {
     if is_absent {
         Records::None
@@ -189,12 +240,17 @@ pub fn find_records<F: Files>(
     is_absent: bool,
     edits: &mut [Edit],
 ) -> Result<(), Error>
-    requires { F.honest → is_absent ≡ true → packed_refs_in settings.now
+    requires absent { F.honest → is_absent ≡ true → packed_refs_in settings.now
         (F.means files.old) ≡ None }
+    requires places { place_paths edits.old ≡ places_of (setting_of settings.now) (updates edits.old) }
     ensures asked { all_asked edits.new ≡ all_asked edits.old }
     ensures found { F.honest → (rs : List Record) → ArePackedRecords settings.now.kind
         (packed_refs_in settings.now (F.means files.old)) rs → OnOk result
         (ids_in edits.new ≡ ids_among (setting_of settings.now) rs (updates edits.old)) }
+    ensures opened { F.honest → OnOk result (IsOpenable settings.now.kind
+        (packed_refs_in settings.now (F.means files.old))) }
+    ensures read { F.honest → OnOk result (AreRecordIds (setting_of settings.now)
+        settings.now.kind (contents F.means files.old) (updates edits.old) (ids_in edits.new)) }
     ensures failed { IfErr result
         (AreNotFound F.honest (HasReadFault F.Reader.faults) F.means F.faults
         (setting_of settings.now) settings.now.kind (updates edits.old) files.old files.new) }

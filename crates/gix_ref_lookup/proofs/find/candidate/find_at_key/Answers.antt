@@ -8,6 +8,7 @@ use Rattle.gix_ref_packed.specs.Buffers.{IsRefusedFile}
 use Rattle.gix_ref_files.specs.Files.{HasRisen}
 use Rattle.gix_ref_lookup.proofs.NamedRecords.{of_key}
 use Rattle.gix_ref_lookup.proofs.Opening.{if_ok, if_some, if_err, hit_wider, searched_wider, not_packed_wider}
+use Rattle.gix_ref_lookup.proofs.Missing.{any_file, if_none, none_wider}
 use Rattle.gix_ref_lookup.proofs.find.candidate.find_at_key.Goals as goal
 
 pub returns-in-Ok-clause-found : goal.returns-in-Ok-clause-found
@@ -22,6 +23,17 @@ returns-in-Ok-clause-hit g c h honest name keyed =
     (λ found. if_some found (λ r hit.
     (key, keyed, hit_wider settings.kind None (packed_refs_in settings (g.F.Files.means c.args.files.now)) c.open.new.self c.args.records.now (namespace_text settings.namespace.now) key r (c.in-Ok.ensures.searched h) hit)))
     (c.find_key.ensures.hit (c.in-Ok.ensures.honest h honest) settings.kind)
+
+pub returns-in-Ok-clause-none : goal.returns-in-Ok-clause-none
+returns-in-Ok-clause-none g c h honest =
+    let settings = c.args.settings in
+    if_ok c.find_key.result
+    (λ found. if_none found (none_wider settings.kind None (packed_refs_in settings (g.F.Files.means c.args.files.now)) c.open.new.self c.args.records.now (c.in-Ok.ensures.none h) (c.in-Ok.ensures.searched h)))
+    (c.find_key.ensures.none (c.in-Ok.ensures.honest h honest) settings.kind)
+
+pub returns-in-Ok-clause-still_none : goal.returns-in-Ok-clause-still_none
+returns-in-Ok-clause-still_none g c h none =
+    c.in-Ok.ensures.none h (c.find_key.ensures.still_none (any_file _ None c.find_key.new.records c.find_key.ensures.ready none))
 
 pub returns-in-Ok-clause-failed : goal.returns-in-Ok-clause-failed
 returns-in-Ok-clause-failed g c name keyed =

@@ -1,4 +1,6 @@
-use Rattle.std.proofs.Common.{◌⊎◌, inl, inr, ⊎_elim, None}
+use Rattle.std.proofs.Common.{◌≡◌, inl, inr, ⊎_elim, ℕ, List, None, subst}
+use Rattle.std.specs.List.{AllByRecursion}
+use Rattle.gix_ref_files.specs.Tree.{Tree}
 use Rattle.gix_ref_name.specs.Candidates.{candidates, remote_head}
 use Rattle.gix_ref_name.specs.Names.{partial_ref_bytes}
 use Rattle.gix_ref_theory.specs.OnRealTrees.{view_of}
@@ -7,6 +9,7 @@ use Rattle.std.specs.Prelude.{option_to_list}
 use Rattle.gix_ref_lookup.specs.declared.find.records.Records.{Records}
 use Rattle.gix_ref_lookup.specs.declared.find.records.Records.TheVariants as sources
 use Rattle.gix_ref_lookup.proofs.Looking.{among_front, among_behind, among_wider, fails_front, fails_behind, fails_one, fails_from, hit_from, none_found}
+use Rattle.gix_ref_lookup.proofs.Missing.{if_none}
 use Rattle.gix_ref_lookup.proofs.Opening.{if_ok, if_err, if_some}
 use Rattle.gix_ref_lookup.proofs.find.lookup.find_asked.Goals as goal
 
@@ -23,6 +26,16 @@ returns-in-Ok-None-clause-hit g c h honest =
     (among_wider (λ n. IsHit {R = g.row.F-Reader.Denot} {G = g.F.Reader.ReadAt} settings (view_of mid.tree) none n r) (λ n. IsHit {R = g.row.F-Reader.Denot} {G = g.F.Reader.ReadAt} settings (view_of first.tree) c.args.records.now n r) head
     (λ n is. hit_from g.F.Files.honest settings first.tree mid.tree c.args.records.now none (λ k. (c.in-Ok-None.ensures.leaves k).tree) (λ k a. tt) (λ k kind text nowhere. absurd nowhere) h n r is) hit)))
     (c.find_head.ensures.hit h)
+
+pub returns-in-Ok-None-clause-missing : goal.returns-in-Ok-None-clause-missing
+returns-in-Ok-None-clause-missing g c h honest =
+    let s = meaning_in c.args.settings in
+    let head = option_to_list (remote_head (partial_ref_bytes c.args.name)) in
+    if_ok c.find_head.result (λ found. if_none found (λ none. record {
+      candidates = rw c.in-Ok-None.field-0-is at (c.in-Ok-None.ensures.missing h honest);
+      head = subst (λ (T : Tree). AllByRecursion (λ (n : List ℕ). view_of T (s.place n) ≡ None) head) (c.in-Ok-None.ensures.leaves h).tree none;
+    }))
+    (c.find_head.ensures.missing h)
 
 pub returns-in-Ok-None-clause-failed : goal.returns-in-Ok-None-clause-failed
 returns-in-Ok-None-clause-failed g c =

@@ -1,4 +1,5 @@
 use Rattle.std.proofs.Common.{◌≡◌, inl, ℕ, ◌+◌, List, [], ◌++◌, Some, None, Bor, get_or, drop, arith, sym, ◌∙◌, ap, subst}
+use Rattle.std.specs.List.{AllByRecursion}
 use Rattle.gix_ref_name.specs.Candidates.{candidates, fronts_of}
 use Rattle.gix_ref_name.specs.Names.{partial_ref_bytes, full_ref_bytes}
 use Rattle.gix_ref_base.specs.PackedRecords.{Record}
@@ -9,8 +10,9 @@ use Rattle.gix_ref_theory.specs.Readings.{reading_among}
 use Rattle.gix_ref_theory.specs.Readings.Reading.{Absent}
 use Rattle.gix_ref_theory.specs.OnRealTrees.{view_of}
 use Rattle.gix_ref_lookup.specs.declared.find.error.Error.TheVariants.{Memory}
-use Rattle.gix_ref_lookup.specs.Lookups.{meaning_in, AreAsked, IsSearched, IsCandidate, IsPassed, IsHit, ReturnsHit, CandidateFails}
+use Rattle.gix_ref_lookup.specs.Lookups.{meaning_in, AreAsked, IsSearched, IsCandidate, IsMissing, IsPassed, IsHit, ReturnsHit, CandidateFails, SearchesNone}
 use Rattle.gix_ref_lookup.proofs.Looking.{packed_refs_at, still_asked, next_name, hit_here, hit_later, among_here, fails_here, fails_later, fails_from, hit_from}
+use Rattle.gix_ref_lookup.proofs.Missing.{missing_from}
 use Rattle.gix_ref_lookup.proofs.find.lookup.find_first.Goals as goal
 
 pub returns-in_default-clause-failed : goal.returns-in_default-clause-failed
@@ -108,6 +110,8 @@ loop-front-preserved g c =
     let named = c.as_ref.ensures ∙ c.in-Ok.ensures.bytes in
     let same = λ (h : g.F.Files.honest). (x.leaves h).tree in
     let asked = λ (h : g.F.Files.honest) (rs : List Record) (are : AreAsked settings.kind (packed_refs_at settings first.tree) c.args.records.now rs). subst (λ (T : Tree). AreAsked settings.kind (packed_refs_at settings T) c.loop-front.records rs) (sym (same h)) (x.asked h rs are) in
+    let mid = g.F.Files.means c.loop-front.files in
+    let Missing = λ (m : List ℕ). IsMissing {R = g.row.F-Reader.Denot} {G = g.F.Reader.ReadAt} settings view c.args.records.now m in
     let absent : g.F.Files.honest → (rs : List Record) → AreAsked settings.kind (packed_refs_at settings first.tree) c.args.records.now rs → reading_among s view rs n ≡ Absent =
     λ h rs are. subst (λ (m : List ℕ). IsCandidate s view rs m None) named (subst (λ (T : Tree). IsCandidate s (view_of T) rs (full_ref_bytes c.as_ref.result) None) (same h) (rw c.in-Ok-None.field-0-is at (e.found h rs (asked h rs are)))) in
     record {
@@ -115,6 +119,13 @@ loop-front-preserved g c =
       readers = λ h a. e.honest h (x.readers h a);
       searched = λ h k text is. x.searched h k text (subst (λ (T : Tree). IsSearched settings.kind (packed_refs_at settings T) c.loop-front.records k text) (same h)
           (e.searched h k text (subst (λ (T : Tree). IsSearched settings.kind (packed_refs_at settings T) c.find_candidate.new.records k text) (sym (same h)) is)));
+      none = λ h is. x.none h (subst (λ (T : Tree). SearchesNone (packed_refs_at settings T) c.loop-front.records) (same h)
+          (e.still_none h (subst (λ (T : Tree). SearchesNone (packed_refs_at settings T) c.find_candidate.new.records) (sym (same h)) is)));
+      missing = λ h honest later. x.missing h honest (subst (AllByRecursion Missing) next (
+        subst Missing named
+            (missing_from settings first.tree mid.tree c.args.records.now c.loop-front.records (same h) (x.none h) (x.searched h) (full_ref_bytes c.as_ref.result) (rw c.in-Ok-None.field-0-is at (e.missing h (x.readers h honest)))),
+        later,
+      ));
       passed = λ h rs are. x.passed h rs are ∙ (ap (first_hit s view rs) (sym next) ∙ hit_later s view rs n (drop (i + 1) names) (absent h rs are));
       fails = λ now error later. x.fails now error (fails_later (IsPassed {R = g.row.F-Reader.Denot} {G = g.F.Reader.ReadAt} g.F.Files.honest settings first.tree c.args.records.now)
           (λ m. CandidateFails {R = g.row.F-Reader.Denot} {G = g.F.Reader.ReadAt} g.F.Files.honest settings first.tree c.args.records.now before now m error) names i n next absent later);
@@ -131,10 +142,10 @@ returns-in-Ok-Some-clause-asked g c h =
     let mid = g.F.Files.means c.loop-front.files in
     still_asked {R = g.row.F-Reader.Denot} {G = g.F.Reader.ReadAt} settings.kind (packed_refs_at settings first.tree) (packed_refs_at settings mid.tree) c.args.records.now c.loop-front.records c.find_candidate.new.records
     (ap (packed_refs_at settings) (x.leaves h).tree)
-    (record { asked = x.asked h; readers = x.readers h; searched = x.searched h })
-    (record { asked = e.asked h; readers = e.honest h; searched = e.searched h })
+    (record { asked = x.asked h; readers = x.readers h; searched = x.searched h; none = x.none h })
+    (record { asked = e.asked h; readers = e.honest h; searched = e.searched h; none = e.still_none h })
 
 pub returns-clause-asked : goal.returns-clause-asked
 returns-clause-asked g c h =
     let x = c.loop-front.invariant in
-    record { asked = x.asked h; readers = x.readers h; searched = x.searched h }
+    record { asked = x.asked h; readers = x.readers h; searched = x.searched h; none = x.none h }

@@ -1,4 +1,5 @@
 use Rattle.std.proofs.Common.{◌≡◌, ℕ, List, drop}
+use Rattle.std.specs.List.{AllByRecursion}
 use Rattle.gix_ref_hash.specs.declared.hash.Kind.{Kind}
 use Rattle.gix_ref_name.specs.Candidates.{candidates}
 use Rattle.gix_ref_name.specs.Names.{partial_ref_bytes}
@@ -7,7 +8,7 @@ use Rattle.gix_ref_files.specs.Files.{Leaves}
 use Rattle.gix_ref_files.specs.Calls.{Unchanged}
 use Rattle.gix_ref_theory.specs.Lookups.{first_hit}
 use Rattle.gix_ref_theory.specs.OnRealTrees.{view_of}
-use Rattle.gix_ref_lookup.specs.Lookups.{meaning_in, packed_refs_in, AreAsked, AreHonest, IsSearched, FailsAmong}
+use Rattle.gix_ref_lookup.specs.Lookups.{meaning_in, packed_refs_in, AreAsked, AreHonest, IsMissing, IsSearched, FailsAmong, SearchesNone}
 use Rattle.gix_ref_lookup.specs.declared.find.error.Error.{Error}
 use Rattle.gix_ref_lookup.proofs.find.lookup.find_first.Given as goal
 
@@ -26,6 +27,8 @@ invariant-loop-front g l =
       asked : g.F.Files.honest → (rs : List Record) → AreAsked settings.kind file l.fn.records rs → AreAsked settings.kind file l.records rs;
       readers : g.F.Files.honest → AreHonest l.fn.records → AreHonest l.records;
       searched : g.F.Files.honest → (k : Kind) (text : List ℕ) → IsSearched settings.kind file l.records k text → IsSearched settings.kind file l.fn.records k text;
+      none : g.F.Files.honest → SearchesNone file l.records → SearchesNone file l.fn.records;
+      missing : g.F.Files.honest → AreHonest l.fn.records → AllByRecursion (IsMissing settings view l.fn.records) rest → AllByRecursion (IsMissing settings view l.fn.records) names;
       passed : g.F.Files.honest → (rs : List Record) → AreAsked settings.kind file l.fn.records rs → first_hit s view rs names ≡ first_hit s view rs rest;
       fails : (now : ℕ) (error : Error) → FailsAmong g.F.Files.honest settings first.tree l.fn.records (g.F.Files.faults l.fn.files) now rest error →
           FailsAmong g.F.Files.honest settings first.tree l.fn.records (g.F.Files.faults l.fn.files) now names error;

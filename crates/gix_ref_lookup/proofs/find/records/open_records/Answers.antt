@@ -1,9 +1,10 @@
-use Rattle.std.proofs.Common.{◌≡◌, ◌∙◌, subst, true}
+use Rattle.std.proofs.Common.{◌≡◌, ◌∙◌, subst, true, false}
 use Rattle.gix_ref_files.specs.Tree.{Path, is_file, bytes_of}
 use Rattle.gix_ref_packed.specs.Buffers.{IsRefusedFile}
 use Rattle.gix_ref_packed.specs.OpenFiles.{OpenedFile}
 use Rattle.gix_ref_lookup.specs.Lookups.{meaning_in}
 use Rattle.gix_ref_lookup.proofs.Opening.{holds_packed, not_opened, opens_sound}
+use Rattle.gix_ref_lookup.proofs.Missing.{no_file}
 use Rattle.gix_ref_lookup.proofs.find.records.open_records.Goals as goal
 
 pub returns-in-Ok-Some-clause-asked : goal.returns-in-Ok-Some-clause-asked
@@ -15,6 +16,12 @@ returns-in-Ok-Some-clause-asked g c h records are =
     let a_file = subst (λ (p : Path). is_file (tree p) ≡ true) at o.1 in
     let opened = subst (λ (p : Path). OpenedFile kind (bytes_of (tree p)) c.in-Ok-Some.file) at o.2 in
     (o.0, opened.kind_is, holds_packed kind _ records c.in-Ok-Some.file are a_file opened)
+
+pub returns-in-Ok-None-clause-none : goal.returns-in-Ok-None-clause-none
+returns-in-Ok-None-clause-none g c h none =
+    let tree = (g.F.Files.means c.args.files.now).tree in
+    let at = c.deref.ensures.value ∙ c.in_ok-path.ensures in
+    no_file (tree (meaning_in c.args.settings).packed_path) (subst (λ (p : Path). is_file (tree p) ≡ false) at (rw c.in-Ok-None.field-0-is at (c.in-Ok-None.ensures.opened h)))
 
 pub returns-clause-refused : goal.returns-clause-refused
 returns-clause-refused g c =

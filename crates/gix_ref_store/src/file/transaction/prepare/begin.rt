@@ -12,7 +12,7 @@ ghost use Rattle.gix_ref_transaction.specs.Parents.{parents_in, split_parents};
 ghost use Rattle.gix_ref_transaction.specs.Splits.{name_led_to, values_of, IsSplitCause};
 ghost use Rattle.gix_ref_files.specs.ReadOnly.{OnlyReads};
 ghost use Rattle.gix_ref_transaction.specs.PrepareSteps.{setting_of, effects_of, effects_on, files_at, ids_in, packed_ids, seen_files, targets_of, updates, AreWholeLocks, place_paths, places_of};
-ghost use Rattle.gix_ref_transaction.specs.Causes.{AllValid, IsCounted};
+ghost use Rattle.gix_ref_transaction.specs.Causes.{AllValid, AreRecordIds, IsCounted};
 
 use crate::file::settings::settings;
 use crate::file::store::Store;
@@ -88,6 +88,9 @@ impl<F: Files> Store<F> {
         ensures ids { F.honest → HasGoodRecords F.means self.old →
             IfOk result (λ held. ids_in held.edits.items
             ≡ packed_ids (meaning_of self.old) (tree_of F.means self.old) split.edits.items) }
+        ensures read { F.honest → IfOk result (λ held. AreRecordIds (meaning_of self.old)
+            (kind_of self.old) (view_of (tree_of F.means self.old)) split.edits.items
+            (ids_in held.edits.items)) }
         ensures lost { F.honest →
             LosesNothing F.means (mode_in packed_refs.now) self.old self.new split.edits.items }
         ensures whole { F.honest → IfOk result (λ held. AreWholeLocks (disk_in F.means self.new)
@@ -171,6 +174,9 @@ impl<F: Files> Store<F> {
         ensures ids { F.honest → HasGoodRecords F.means self.old →
             IfOk result (λ held. ids_in held.edits.items ≡ packed_ids (meaning_of self.old)
             (tree_of F.means self.old) (updates held.edits.items)) }
+        ensures read { F.honest → IfOk result (λ held. AreRecordIds (meaning_of self.old)
+            (kind_of self.old) (view_of (tree_of F.means self.old)) (updates held.edits.items)
+            (ids_in held.edits.items)) }
         ensures lost { F.honest → IfOk result (λ held. LosesNothing
             F.means (mode_in packed_refs.now) self.old self.new (updates held.edits.items)) }
         ensures whole { F.honest → IfOk result (λ held. AreWholeLocks (disk_in F.means self.new)

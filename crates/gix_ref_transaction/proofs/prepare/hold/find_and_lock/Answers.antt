@@ -5,7 +5,7 @@ use Rattle.gix_ref_lookup.specs.StoreLayout.{folders_of}
 use Rattle.gix_ref_edits.specs.declared.transaction.RefEdit.{RefEdit}
 use Rattle.gix_ref_theory.specs.OnRealTrees.{view_of}
 use Rattle.gix_ref_transaction.specs.OwnLocks.{paths_of, is_in, times, AddsLocks}
-use Rattle.gix_ref_transaction.specs.Causes.{AllValid, IsFirstCause, IsPackedWell, LocksAreApart, locks_of}
+use Rattle.gix_ref_transaction.specs.Causes.{AllValid, AreRecordIds, IsFirstCause, IsPackedWell, LocksAreApart, locks_of}
 use Rattle.gix_ref_transaction.specs.HeldLocks.{HoldAllLocks, AreRemovedAgain, IsTakingFault, OnlyTakes}
 use Rattle.gix_ref_transaction.specs.PackedCauses.{ids_among}
 use Rattle.gix_ref_transaction.specs.Packing.{OfFinder, ends_of, mode_in, mode_of_packing}
@@ -19,6 +19,7 @@ use Rattle.gix_ref_transaction.proofs.Adds.{clash}
 use Rattle.gix_ref_transaction.proofs.Faults.{risen_by_before, risen_by_none_left}
 use Rattle.gix_ref_transaction.proofs.Puts.{all_peel, puts_alike}
 use Rattle.gix_ref_transaction.proofs.TakingRuns.{reads_take, reads_then_takes}
+use Rattle.gix_ref_transaction.proofs.RecordIds.{always, ids_alike}
 use Rattle.gix_ref_transaction.proofs.UnreadRecords.{no_find}
 use Rattle.gix_ref_transaction.proofs.prepare.hold.find_and_lock.Goals as goal
 
@@ -149,6 +150,22 @@ returns-in-Ok-clause-takes g c =
     let F = g.F.Files in
     reads_then_takes F.honest F.means F.faults (locks_of s (updates given)) c.args.files.now c.find_and_peel.new.files c.lock_all_or_none.new.files c.find_and_peel.ensures.reads
     (subst (λ (u : List RefEdit). OnlyTakes F.honest F.means F.faults (locks_of s u) c.find_and_peel.new.files c.lock_all_or_none.new.files) U c.lock_all_or_none.ensures.takes)
+
+pub returns-in-Ok-clause-opened : goal.returns-in-Ok-clause-opened
+returns-in-Ok-clause-opened g c h = if_ok {P = λ _. Unit {0}} c.lock_all_or_none.result (λ held it. c.in-Ok.ensures.opened h) (always c.lock_all_or_none.result)
+
+pub returns-in-Ok-clause-read : goal.returns-in-Ok-clause-read
+returns-in-Ok-clause-read g c h =
+    let s = setting_of c.args.settings.now in
+    let kind = c.args.settings.now.kind in
+    let given = c.args.edits.items in
+    let found = c.find_and_peel.new.edits in
+    let now = take c.args.edits.len (found ++ drop (length found) given) in
+    let over : now ≡ found = asked_over c.args.edits.len c.deref_mut.result.now found (drop (length found) given) c.find_and_peel.ensures.asked c.deref_mut.ensures.len in
+    let view = view_of (g.F.Files.means c.args.files.now).tree in
+    if_ok c.lock_all_or_none.result (λ (held : HeldEdits) (same : all_given held.edits.items ≡ all_given now).
+    subst (AreRecordIds s kind view (updates given)) (sym (ids_alike now held.edits.items same ∙ ap ids_in over))
+    (subst (λ (l : List Edit). AreRecordIds s kind view (updates l) (ids_in found)) c.deref_mut.ensures.value (c.in-Ok.ensures.read h))) c.lock_all_or_none.ensures.given
 
 pub returns-in-Ok-clause-put : goal.returns-in-Ok-clause-put
 returns-in-Ok-clause-put g c =

@@ -3,7 +3,8 @@ use Rattle.std.proofs.Common.{◌≡◌, ◌≢◌, ◌+◌, ◌∙◌, refl, in
 use Rattle.gix_ref_files.specs.Files.{disk_of, Leaves}
 use Rattle.gix_ref_files.specs.Lock.{lock_of}
 use Rattle.gix_ref_files.specs.Tree.{Path, Content, fronts}
-use Rattle.gix_ref_transaction.specs.Causes.{locks_of, packed_taken, IsFindCause, IsPackedCause, IsPackedLocked, IsPackedRefusal, IsPackedWell}
+use Rattle.gix_ref_transaction.specs.Causes.{locks_of, packed_taken, IsPackedCause, IsPackedLocked, IsPackedRefusal, IsPackedWell}
+use Rattle.gix_ref_lookup.specs.Lookups.{IsOpenable}
 use Rattle.gix_ref_transaction.specs.Packing.{mode_in, mode_of_packing}
 use Rattle.gix_ref_transaction.specs.HeldLocks.{OnlyTakes}
 use Rattle.gix_ref_transaction.specs.OwnLocks.{AddsLocks, is_in, paths_of, times, OnlyRemoves, RemovesLocks}
@@ -12,7 +13,7 @@ use Rattle.gix_ref_transaction.specs.PrepareSteps.{packed_locks, packed_places, 
 use Rattle.gix_ref_transaction.proofs.PackedLemmas.{counted_on, not_packed}
 use Rattle.gix_ref_transaction.proofs.Adds.{adds_wider, any_left, clash}
 use Rattle.gix_ref_transaction.proofs.TakingRuns.{takes_alone, takes_then_more}
-use Rattle.gix_ref_transaction.proofs.PackedHeld.{IsSameButWay, off_way, first_cause_on, lockable_all_on, off_lock, same_packed, settled_on}
+use Rattle.gix_ref_transaction.proofs.PackedHeld.{IsSameButWay, off_way, find_cause_on, first_cause_on, lockable_all_on, off_lock, record_ids_on, same_packed, settled_on}
 use Rattle.gix_ref_transaction.proofs.PackedRuns.{adds_again, counted_after, leaves_again, possible, taken_free, takes_less, whole_both}
 use Rattle.gix_ref_transaction.proofs.PackedLocks.{still_empty, taken_empty}
 use Rattle.gix_ref_transaction.proofs.Removing.{times_append}
@@ -49,6 +50,25 @@ returns-in-Ok-find_and_lock-clause-held g c =
             (subst (AreWholeLocks (disk_of mid)) (held h) (c.in-Ok.ensures.taken.whole h)) taken.whole;
       };
     }
+
+pub returns-in-Ok-find_and_lock-clause-opened : goal.returns-in-Ok-find_and_lock-clause-opened
+returns-in-Ok-find_and_lock-clause-opened g c h =
+    let s = setting_of c.args.settings.now in
+    let kind = c.args.settings.now.kind in
+    let old = (g.F.Files.means c.args.files.now).tree in
+    let mid = (g.F.Files.means c.take_packed.new.files).tree in
+    let off = off_lock s old mid c.in-Ok.packed c.in-Ok.ensures.taken.place (c.in-Ok.ensures.taken.takes h) in
+    subst (IsOpenable kind) (same_packed s kind old mid off c.requires.ready.apart.packed_lock) (c.in-Ok-find_and_lock.ensures.opened h)
+
+pub returns-in-Ok-find_and_lock-clause-read : goal.returns-in-Ok-find_and_lock-clause-read
+returns-in-Ok-find_and_lock-clause-read g c h =
+    let s = setting_of c.args.settings.now in
+    let kind = c.args.settings.now.kind in
+    let apart = c.requires.ready.apart in
+    let old = (g.F.Files.means c.args.files.now).tree in
+    let mid = (g.F.Files.means c.take_packed.new.files).tree in
+    let off = off_lock s old mid c.in-Ok.packed c.in-Ok.ensures.taken.place (c.in-Ok.ensures.taken.takes h) in
+    record_ids_on s kind old mid off apart.packed_lock (updates c.args.edits.items) _ apart.packed_locks (c.in-Ok-find_and_lock.ensures.read h)
 
 pub returns-in-Ok-find_and_lock-clause-packed : goal.returns-in-Ok-find_and_lock-clause-packed
 returns-in-Ok-find_and_lock-clause-packed g c =
@@ -158,7 +178,7 @@ returns-in-Err-find_and_lock-clause-refused g c =
           )))
           (why.cause h (subst (IsPackedWell kind) (sym (same_packed s kind old.tree mid.tree (off h) apart.packed_lock)) good));
       opened = λ h. subst (λ (content : Option Content). IsPackedRefusal kind content error) (off_way s kind old.tree mid.tree (off h) apart.packed_lock s.packed_path apart.packed_lock apart.packed_way) (why.opened h);
-      unread = λ h. subst (λ (packed : Option (List ℕ)). IsFindCause s kind packed U error) (same_packed s kind old.tree mid.tree (off h) apart.packed_lock) (why.unread h);
+      unread = λ h. find_cause_on s kind old.tree mid.tree (off h) apart.packed_lock U error apart.packed_locks (why.unread h);
       counted = counted_on _ _ _ _ _ error c.take_packed.ensures.takes.no_fewer (counted_after _ _ _ _ _ error c.release_packed.ensures.releases.no_fewer why.counted);
     }
 

@@ -18,4 +18,4 @@ returns-in-Err-clause-refused g c claims =
     let edit = c.args.edit.now.update in
     let packed : packs_edit s (mode_in c.args.packed_refs.now) edit ≡ true = sym (c.is_packed.ensures ∙ ap (λ p. packs_edit s (mode_of_packing p) edit) c.packing.ensures) ∙ c.if-not-is_packed.false in
     inr (unpeeled_edit g.T.Find.meaning g.T.Find.claims c.args.packed_refs.now s c.args.settings.now.kind edit c.in-Some-Some.finder.now c.in-Some-Some.target _
-    c.in-Some-Some.ensures packed (sym c.object_of.ensures ∙ c.in-Some-Some.is-1) (λ hold. (c.in-Err.error, c.told.ensures.told, c.in-Err.ensures.refused hold)) claims)
+    c.in-Some-Some.ensures packed (sym c.object_of.ensures ∙ c.in-Some-Some.is-1) (λ hold. (c.in-Err.error, c.reported.ensures.reported, c.in-Err.ensures.refused hold)) claims)

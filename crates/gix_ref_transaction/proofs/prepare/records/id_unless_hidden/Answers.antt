@@ -1,4 +1,4 @@
-use Rattle.std.proofs.Common.{⊎_elim, ℕ, List, arith, sym, subst}
+use Rattle.std.proofs.Common.{inr, ⊎_elim, ℕ, List, arith, sym, subst}
 use Rattle.std.proofs.lemmas.Result.{err_from_is_err_and}
 use Rattle.gix_ref_packed.specs.OpenFiles.{HasReadFault}
 use Rattle.gix_ref_lookup.specs.Lookups.{AreHonest, OfKey}
@@ -6,7 +6,7 @@ use Rattle.gix_ref_transaction.specs.Causes.{IsCountedWith, OfFind}
 use Rattle.gix_ref_transaction.specs.declared.prepare.error.Error.{Error}
 use Rattle.gix_ref_edits.specs.RefEdits.{name_of}
 use Rattle.gix_ref_transaction.specs.PrepareSteps.{setting_of}
-use Rattle.gix_ref_transaction.specs.internal.StuckRecords.{IsStuckKey}
+use Rattle.gix_ref_transaction.specs.internal.StuckRecords.{IsNamedId, IsStuckKey}
 use Rattle.gix_ref_transaction.proofs.UnreadRecords.{no_find}
 use Rattle.gix_ref_transaction.proofs.PackedLemmas.{counted_later}
 use Rattle.gix_ref_transaction.proofs.prepare.records.id_unless_hidden.Goals as goal
@@ -42,4 +42,8 @@ returns-in_err-pass_hidden-in-Err-clause-counted g c =
 
 pub returns-in_ok-pass_hidden-in-Err-clause-found : goal.returns-in_ok-pass_hidden-in-Err-clause-found
 returns-in_ok-pass_hidden-in-Err-clause-found g c kind rs asked =
-    absurd (c.in_ok-pass_hidden-in-Err.ensures.hidden (c.in-Err.ensures.failed.sound kind rs asked))
+    absurd (c.in_ok-pass_hidden-in-Err.ensures.unsound (c.in-Err.ensures.failed.sound kind rs asked))
+
+pub returns-in-Ok-clause-read : goal.returns-in-Ok-clause-read
+returns-in-Ok-clause-read g c h honest kind =
+    inr (subst (λ (n : List ℕ). IsNamedId (setting_of c.args.settings.now) kind c.args.records.now n c.in-Ok.id) c.as_ref.ensures (c.in-Ok.ensures.read honest kind))

@@ -2,7 +2,7 @@ use Rattle.std.proofs.Common.{◌≡◌, List, [], sym, ap, subst, ◌∙◌, If
 use Rattle.gix_ref_packed.specs.OpenFiles.{HasReadFault}
 use Rattle.gix_ref_theory.specs.OnRealTrees.{view_of}
 use Rattle.gix_ref_edits.specs.declared.transaction.RefEdit.{RefEdit}
-use Rattle.gix_ref_transaction.specs.Causes.{AllValid, IsCounted}
+use Rattle.gix_ref_transaction.specs.Causes.{AllValid, AreRecordIds, IsCounted}
 use Rattle.gix_ref_transaction.specs.OwnLocks.{paths_of}
 use Rattle.gix_ref_transaction.specs.Packing.{OfFinder, ends_of, mode_in}
 use Rattle.gix_ref_transaction.specs.Peels.{ArePut}
@@ -15,7 +15,7 @@ use Rattle.gix_ref_store.specs.Prepared.{HasGoodRecords, HoldsFrom, HoldsPacked,
 use Rattle.gix_ref_store.specs.Store.{files_of, kind_of, meaning_of, with_files}
 use Rattle.gix_ref_store.specs.declared.file.store.Store.{Store}
 use Rattle.gix_ref_store.proofs.Refusals.{if_asked, if_asked_of}
-use Rattle.gix_ref_store.proofs.SplitRuns.{effects_same, files_same, ids_same, good_on, holds_on, locks_same, loses_on, packed_on, refused_before, refused_on}
+use Rattle.gix_ref_store.proofs.SplitRuns.{effects_same, files_same, ids_same, good_on, holds_on, locks_same, loses_on, packed_on, read_on, refused_before, refused_on}
 use Rattle.gix_ref_store.proofs.file.store.Store.check_and_lock.Goals as goal
 
 pub lock_split-requires : goal.lock_split-requires
@@ -84,6 +84,18 @@ returns-in-Ok-clause-ids g c h good =
     (λ held. ids_in held.edits.items ≡ packed_ids (meaning_of old) (tree_of F.means (with_files old files)) split)
     (λ held is. is ∙ ids_same F.honest F.means F.faults (mode_in c.args.packed_refs.now) old files reads h split)
     (found h (good_on F.honest F.means F.faults (mode_in c.args.packed_refs.now) old files reads h good))
+
+pub returns-in-Ok-clause-read : goal.returns-in-Ok-clause-read
+returns-in-Ok-clause-read g c h =
+    let F = g.F.Files in
+    let old = c.args.self.now in
+    let split = c.in-Ok.split.edits.items in
+    let files = files_of c.split.new.self in
+    let read = subst (λ (st : Store g.row.F.Denot). F.honest → IfOk c.lock_split.result (λ held. AreRecordIds (meaning_of st) (kind_of st) (view_of (tree_of F.means st)) split (ids_in held.edits.items))) c.in-Ok.ensures.same c.lock_split.ensures.read in
+    if_asked_of split c.lock_split.result c.lock_split.ensures.asked (λ (held : HeldLocks) (u : List RefEdit). AreRecordIds (meaning_of old) (kind_of old) (view_of (tree_of F.means old)) u (ids_in held.edits.items))
+    (λ held. AreRecordIds (meaning_of old) (kind_of old) (view_of (tree_of F.means (with_files old files))) split (ids_in held.edits.items))
+    (λ held is. read_on F.honest F.means F.faults (mode_in c.args.packed_refs.now) old files c.in-Ok.ensures.reads h split (ids_in held.edits.items) is)
+    (read h)
 
 pub returns-in-Ok-clause-lost : goal.returns-in-Ok-clause-lost
 returns-in-Ok-clause-lost g c h =

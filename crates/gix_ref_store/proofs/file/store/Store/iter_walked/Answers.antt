@@ -15,6 +15,7 @@ returns-in-Ok g c = (
   record {
     rests = _;
     same_reference = refl;
+    same = refl;
     looks_up = record {
       leaves = λ h. starts (g.F.Files.means c.args.self.now.files) _ refl;
       same = record { dirs = refl; namespace = refl; of_kind = refl; reflogs = refl; composes = refl; prohibits = refl; threshold = refl };

@@ -11,7 +11,7 @@ use Rattle.gix_ref_theory.proofs.LockDisks.{as_before}
 use Rattle.gix_ref_store.specs.Prepared.{disk_in, places_in}
 use Rattle.gix_ref_store.specs.Store.{meaning_of, with_files}
 use Rattle.gix_ref_store.proofs.PreparedLosses.{kept_loses, untouched_loses}
-use Rattle.gix_ref_store.proofs.Refusals.{refused_split, held_asked, held_parents, held_places, held_room, held_effects, held_files, held_ids, held_packed, held_split, held_whole}
+use Rattle.gix_ref_store.proofs.Refusals.{refused_split, held_asked, held_parents, held_places, held_read, held_room, held_effects, held_files, held_ids, held_packed, held_split, held_whole}
 use Rattle.gix_ref_lookup.proofs.Laying.{folders_laid}
 use Rattle.gix_ref_store.proofs.file.store.Store.lock_split.Goals as goal
 
@@ -78,7 +78,7 @@ pub returns-in-Ok-clause-held : goal.returns-in-Ok-clause-held
 returns-in-Ok-clause-held g c =
     let F = g.F.Files in
     let e = c.lock_edits.ensures in
-    held_split F.honest F.means F.faults (mode_in c.args.packed_refs.now) c.args.self.now (with_files c.args.self.now c.lock_edits.new.files) c.in-Ok.edits c.in-Ok.remains c.args.split.edits.items c.in-Ok.ensures.asked c.lock_edits.result e.held e.packed
+    held_split F.honest F.means F.faults (mode_in c.args.packed_refs.now) c.args.self.now (with_files c.args.self.now c.lock_edits.new.files) c.in-Ok.edits c.in-Ok.remains c.args.split.edits.items c.in-Ok.ensures.asked c.lock_edits.result e.held e.packed e.opened
     (record { dirs = refl; namespace = refl; of_kind = refl; reflogs = refl; composes = refl; prohibits = refl; threshold = refl })
     c.requires.valid c.in_default.ensures.single e.takes
 
@@ -111,3 +111,9 @@ returns-in-Ok-clause-whole g c h =
     let F = g.F.Files in
     let e = c.lock_edits.ensures in
     held_whole F.honest F.means F.faults (mode_in c.args.packed_refs.now) c.args.self.now (with_files c.args.self.now c.lock_edits.new.files) c.in-Ok.edits c.in-Ok.remains c.args.split.edits.items c.in-Ok.ensures.asked c.lock_edits.result e.held h
+
+pub returns-in-Ok-clause-read : goal.returns-in-Ok-clause-read
+returns-in-Ok-clause-read g c h =
+    let F = g.F.Files in
+    let e = c.lock_edits.ensures in
+    held_read F.honest F.means F.faults (mode_in c.args.packed_refs.now) c.args.self.now (with_files c.args.self.now c.lock_edits.new.files) c.in-Ok.edits c.in-Ok.remains c.args.split.edits.items c.in-Ok.ensures.asked c.lock_edits.result (e.read h)

@@ -1,0 +1,5 @@
+use Rattle.gix_ref_store.proofs.LooseAnswers.{if_not_found}
+use Rattle.gix_ref_store.proofs.file.store.Store.find_loose.Goals as goal
+
+pub returns-in-Ok-None-clause-missing : goal.returns-in-Ok-None-clause-missing
+returns-in-Ok-None-clause-missing g c h = if_not_found _ (rw c.in-Ok-None.field-0-is at (c.in-Ok-None.ensures.missing h))
