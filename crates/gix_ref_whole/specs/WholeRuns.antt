@@ -17,8 +17,8 @@ use Rattle.gix_ref_lookup.specs.declared.find.existing.Error.{Error as Missing}
 use Rattle.gix_ref_listing.specs.declared.error.Error.{Error as ItemError}
 use Rattle.gix_ref_listing.specs.declared.prefix.Error.{Error as PrefixError}
 use Rattle.gix_ref_transaction.specs.CarriedEdits.{AreCarried}
-use Rattle.gix_ref_object.specs.contracts.object.NeverFind.TheImpl.{claims-value, meaning-value}
-use Rattle.gix_ref_object.specs.declared.object.Never.{Never}
+use Rattle.gix_ref_hash.specs.declared.hash.ObjectId.{ObjectId}
+use Rattle.gix_ref_object.specs.Objects.{Stored}
 use Rattle.gix_ref_theory.specs.Edits.{Mode}
 use Rattle.gix_ref_transaction.specs.CommittedEdits.{planned}
 use Rattle.gix_ref_transaction.specs.OwnLocks.{is_in, paths_of}
@@ -131,13 +131,13 @@ module _ {F : Type 0} (honest : Type 0) (means : F → Meaning) (faults : F → 
     pub changes : LooksUp honest means start new
     pub lists : IfOk items (λ all. ListsNames old start new made.split prefix all.items)
 
--- of a transaction that does with `packed-refs` as `uses` says
-module _ {F : Type 0} (honest : Type 0) (means : F → Meaning) (faults : F → ℕ)
-    (uses : PackedRefs Never) where
+-- of a transaction that does with `packed-refs` as `uses` says, with a finder of objects, if there is one
+module _ {F T : Type 0} (honest : Type 0) (means : F → Meaning) (faults : F → ℕ)
+    (claims : T → Type 0) (meaning : T → ObjectId → Stored) (uses : PackedRefs T) where
   -- these edits are prepared
   abbrev pub Prepares : (old mid : Store F) → List RefEdit → Option Path → List Edit → Type 0
   Prepares old mid given packed held = PreparesGiven honest means faults
-      (OfFinder claims-value.it uses) (ends_of meaning-value.it uses) (mode_in uses) old mid given packed held
+      (OfFinder claims uses) (ends_of meaning uses) (mode_in uses) old mid given packed held
 
   -- A commit of edits that were prepared, and what it returned: the edits as they were prepared, each with what was found of it in the
   -- files before, and `uses`. Of the files before it made the edited ones, and each log gained the line that is due by them, or none; each
@@ -146,7 +146,7 @@ module _ {F : Type 0} (honest : Type 0) (means : F → Meaning) (faults : F → 
   -- every loss of power, each reference reads as before or as edited; and where loose files are kept no deletion shows first, and updates
   -- show in order.
   pub record HasCommitted (old new : Store F) (committer : Option SignatureRef)
-      (given : List RefEdit) (done : Done Never) : Type 0 where
+      (given : List RefEdit) (done : Done T) : Type 0 where
     pub mid : Store F
     pub packed : Option Path
     pub held : List Edit
@@ -170,7 +170,7 @@ module _ {F : Type 0} (honest : Type 0) (means : F → Meaning) (faults : F → 
 
   -- What `make` says of edits that it committed: both are of one split list.
   pub record MakesEdited (old new : Store F) (committer : Option SignatureRef)
-      (given : List RefEdit) (done : Done Never) : Type 0 where
+      (given : List RefEdit) (done : Done T) : Type 0 where
     pub kept : KeepsEdited honest means faults (mode_in uses) old new given
         (paths_of done.locks_left.items)
     pub commits : HasCommitted old new committer given done
@@ -178,7 +178,7 @@ module _ {F : Type 0} (honest : Type 0) (means : F → Meaning) (faults : F → 
 
   -- and then a lookup, in the store that the commit left
   abbrev pub FindsAfter : {R : Type 0} (G : Ghosts R) → (old new : Store F) →
-      Option SignatureRef → List RefEdit → Done Never → List ℕ → Result Reference Missing → Type 0
+      Option SignatureRef → List RefEdit → Done T → List ℕ → Result Reference Missing → Type 0
   FindsAfter G old new committer given done name found =
       (start : Store F) × MakesEdited old start committer given done
       × FindsEdited honest means faults G (mode_in uses) old start new given
@@ -186,7 +186,7 @@ module _ {F : Type 0} (honest : Type 0) (means : F → Meaning) (faults : F → 
 
   -- or a listing
   abbrev pub ListsAfter : {R : Type 0} (G : Ghosts R) → (old new : Store F) →
-      Option SignatureRef → List RefEdit → Done Never → (prefix : List ℕ) →
+      Option SignatureRef → List RefEdit → Done T → (prefix : List ℕ) →
       Result (Vec (Result Reference ItemError) Global) PrefixError → Type 0
   ListsAfter G old new committer given done prefix items =
       (start : Store F) × MakesEdited old start committer given done
@@ -195,7 +195,7 @@ module _ {F : Type 0} (honest : Type 0) (means : F → Meaning) (faults : F → 
 
   -- And both: the listing begins in the store that the lookup left.
   pub record ReadsAfter {R : Type 0} (G : Ghosts R) (old new : Store F)
-      (committer : Option SignatureRef) (given : List RefEdit) (done : Done Never)
+      (committer : Option SignatureRef) (given : List RefEdit) (done : Done T)
       (name prefix : List ℕ) (found : Result Reference Missing)
       (items : Result (Vec (Result Reference ItemError) Global) PrefixError) : Type 0 where
     pub start : Store F
@@ -228,10 +228,10 @@ module _ {F : Type 0} (honest : Type 0) (means : F → Meaning) (faults : F → 
 
   -- Why edits were not committed, and what is left then: they were refused, or their commit failed. `uses` is handed back.
   abbrev pub IsNotMade : (read : Type 0) → (old new : Store F) → Option SignatureRef →
-      List RefEdit → Error → Type 0
+      List RefEdit → Error T → Type 0
   IsNotMade read old new committer given (Prepare refused) =
-      RefusesGiven honest read means faults (OfFinder claims-value.it uses)
-      (ends_of meaning-value.it uses) (mode_in uses) old new given refused.error (paths_of refused.locks_left.items)
+      RefusesGiven honest read means faults (OfFinder claims uses)
+      (ends_of meaning uses) (mode_in uses) old new given refused.error (paths_of refused.locks_left.items)
       × (refused.packed_refs ≡ uses)
   IsNotMade read old new committer given (Commit failed) =
       HasFailed old new committer given failed.error (paths_of failed.locks_left.items)

@@ -11,6 +11,7 @@ use crate::make::make;
 use gix_ref_edits::transaction::RefEdit;
 use gix_ref_files::files::Files;
 use gix_ref_log::actor::SignatureRef;
+use gix_ref_object::object::{Find, Never};
 use gix_ref_packed::packed::Buffer;
 use gix_ref_store::file::Store;
 use gix_ref_store::file::iter::{self, LooseNames, LooseThenPacked, loose_then_packed};
@@ -20,9 +21,9 @@ use std::alloc::{AllocError, Global};
 
 /// Edits that were committed, and what was listed after them.
 #[derive(Debug, Drop)]
-pub struct Listed {
+pub struct Listed<T: Find = Never> {
     /// What the commit returned.
-    pub done: Done,
+    pub done: Done<T>,
     /// The items of the listing, or why there is none.
     pub items: Result<Vec<Result<Reference, loose_then_packed::Error>>, iter::Error>,
 }
@@ -112,18 +113,18 @@ pub(crate) fn list<F: Files>(
 ///
 /// `Prepare` where the edits are refused, and `Commit` where their commit fails; then nothing is listed. `items` is an error where
 /// the prefix has no listing, `packed-refs` cannot be opened, or there was no memory.
-pub fn commit_then_list<F: Files>(
+pub fn commit_then_list<F: Files, T: Find>(
     alloc: Global,
     store: &mut Store<F>,
-    packed_refs: PackedRefs,
+    packed_refs: PackedRefs<T>,
     edits: Vec<RefEdit>,
     committer: Option<SignatureRef<'_>>,
     prefix: &[u8],
-) -> Result<Listed, Error>
-    ensures listed { IfOk result (λ r. ListsAfter F.honest F.means F.faults packed_refs
+) -> Result<Listed<T>, Error<T>>
+    ensures listed { IfOk result (λ r. ListsAfter F.honest F.means F.faults T.claims T.meaning packed_refs
         F.Reader.ReadAt store.old store.new committer.entry edits.items
         r.done prefix.now r.items) }
-    ensures not_made { IfErr result (IsNotMade F.honest F.means F.faults packed_refs
+    ensures not_made { IfErr result (IsNotMade F.honest F.means F.faults T.claims T.meaning packed_refs
         (HasReadFault F.Reader.faults) store.old store.new
         committer.entry edits.items) }
 {

@@ -191,7 +191,7 @@ fn put<F: Files, T: Find>(
     objects: T,
 ) -> Result<String> {
     let mode = PackedRefs::DeletionsAndNonSymbolicUpdatesRemoveLooseSourceReference(objects);
-    match store.transaction().packed_refs(mode).prepare(alloc, edits) {
+    match store.transaction_with(mode).prepare(alloc, edits) {
         Ok(prepared) => match prepared.commit(alloc, None) {
             Ok(done) => lock_lines(alloc, &done.locks_left),
             Err(failed) => {

@@ -65,9 +65,31 @@ impl<F: Files> Store<F> {
         ensures value { result.store.now ≡ self.old }
         ensures packed_refs { result.packed_refs ≡ PackedRefs.DeletionsOnly }
     {
+        self.transaction_with(PackedRefs::DeletionsOnly)
+    }
+
+    /// A transaction on this store with that use of `packed-refs`, as `transaction().packed_refs(..)` has it. Whoever follows the
+    /// store through contracts with a finder of his own begins here: `packed_refs` changes the type of a transaction, and with it
+    /// the prover loses which store it borrows. Not in gix-ref.
+    ///
+    /// ```text
+    /// let packed_refs = PackedRefs::DeletionsAndNonSymbolicUpdates(finder);
+    /// match store.transaction_with(packed_refs).prepare(alloc, edits) {
+    ///     Ok(prepared) => prepared.commit(alloc, None),
+    ///     Err(refused) => return Err(refused.error),
+    /// }
+    /// ```
+    pub fn transaction_with<T: Find>(
+        &mut self,
+        packed_refs: PackedRefs<T>,
+    ) -> Transaction<'_, F, PackedRefs<T>>
+        ensures same_reference { result.store.ghost_name ≡ self.entry.ghost_name }
+        ensures value { result.store.now ≡ self.old }
+        ensures packed_refs { result.packed_refs ≡ packed_refs }
+    {
         Transaction {
             store: self,
-            packed_refs: PackedRefs::DeletionsOnly,
+            packed_refs,
         }
     }
 }
