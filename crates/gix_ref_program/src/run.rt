@@ -274,8 +274,9 @@ fn run_text<F: Files, W: Write>(
     out: &mut W,
 ) -> RunResult<F>
     ensures packed_refs { result.packed_refs ≡ packed_refs }
-    ensures prints { Prints (TextRan F.honest F.means F.faults packed_refs F.Reader.ReadAt files result.files
-        (line_asked line.now) text.now) (W.contents out.old) (W.contents out.new) result.status }
+    ensures prints { Prints (TextRan F.honest F.means F.faults packed_refs F.Reader.ReadAt files
+        result.files (line_asked line.now) text.now) (W.contents out.old) (W.contents out.new)
+        result.status }
     ensures leaves { F.honest → Leaves (F.means files) (F.means result.files)
         (IsTextStop F.honest F.means F.faults packed_refs files (line_asked line.now) text.now) }
     ensures loses { F.honest → IsReadyFor F.honest F.means F.faults files (line_asked line.now) →
@@ -338,8 +339,9 @@ fn run_script<F: Files, W: Write>(
     out: &mut W,
 ) -> RunResult<F>
     ensures packed_refs { result.packed_refs ≡ packed_refs }
-    ensures prints { Prints (ScriptRan F.honest F.means F.faults packed_refs F.Reader.ReadAt files result.files
-        (line_asked line.now) path.now) (W.contents out.old) (W.contents out.new) result.status }
+    ensures prints { Prints (ScriptRan F.honest F.means F.faults packed_refs F.Reader.ReadAt files
+        result.files (line_asked line.now) path.now) (W.contents out.old) (W.contents out.new)
+        result.status }
     ensures leaves { F.honest → Leaves (F.means files) (F.means result.files)
         (IsStopInScript F.honest F.means F.faults packed_refs files (line_asked line.now) path.now) }
     ensures loses { F.honest → IsReadyFor F.honest F.means F.faults files (line_asked line.now) →
@@ -398,8 +400,8 @@ fn run_line<F: Files, W: Write>(
     out: &mut W,
 ) -> RunResult<F>
     ensures packed_refs { result.packed_refs ≡ packed_refs }
-    ensures prints { Prints (LineRan F.honest F.means F.faults packed_refs F.Reader.ReadAt files result.files
-        (line_asked line.now)) (W.contents out.old) (W.contents out.new) result.status }
+    ensures prints { Prints (LineRan F.honest F.means F.faults packed_refs F.Reader.ReadAt files
+        result.files (line_asked line.now)) (W.contents out.old) (W.contents out.new) result.status }
     ensures leaves { F.honest → Leaves (F.means files) (F.means result.files)
         (IsStopIn F.honest F.means F.faults packed_refs files (line_asked line.now)) }
     ensures loses { F.honest → MayWrite (line_asked line.now).asked →
