@@ -1,8 +1,10 @@
+pub mod AskedParts
 pub mod FileSearchLemmas
 pub mod ItemRuns
 pub mod MemorySearches
 pub mod NamesInTurn
 pub mod OneItem
+pub mod OwedRecords
 pub mod PrefixParts
 pub mod PrefixRuns
 pub mod RecordsOfText

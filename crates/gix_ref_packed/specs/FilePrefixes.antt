@@ -1,14 +1,15 @@
 -- Reading, of the records of a file, only those of a prefix.
-use Rattle.std.specs.Prelude.{◌≡◌, ◌≤◌, ◌-◌, ◌⊎◌, ℕ, List, [], ◌∷◌, ◌++◌, take, drop}
+use Rattle.std.specs.Prelude.{◌≡◌, ◌<◌, ◌≤◌, ◌-◌, ◌⊎◌, ℕ, List, [], ◌∷◌, ◌++◌, take, drop}
 use Rattle.gix_ref_hash.specs.declared.hash.Kind.{Kind}
 use Rattle.gix_ref_base.specs.PackedRecords.{Record}
 use Rattle.gix_ref_records.specs.RecordGrammar.{Records, Below, Rising}
-use Rattle.gix_ref_records.specs.Prefixes.{IsListStart, records_prefixed}
+use Rattle.gix_ref_records.specs.Prefixes.{IsListStart, IsNameStart, NamesAscend, records_prefixed}
 use Rattle.gix_ref_packed.specs.declared.packed.buffer.Buffer.{Buffer}
 use Rattle.gix_ref_packed.specs.declared.packed.sorted_file.ReadError.{ReadError}
 use Rattle.gix_ref_packed.specs.declared.packed.sorted_file.ReadError.TheVariants.{Io, Memory, Changed}
 use Rattle.gix_ref_packed.specs.Buffers.{buffer_text, buffer_kind, buffer_line}
 use Rattle.gix_ref_packed.specs.OpenFiles.{HasReadFault}
+use Rattle.gix_ref_packed.specs.YetToGive.{IsAsked}
 
 -- each name that begins with the prefix is below this one
 abbrev pub IsPast : List ℕ → List ℕ → Type 0
@@ -66,3 +67,20 @@ abbrev pub FailsReadBy : {R : Type 0} → (R → ℕ) → ReadError → Type 0
 FailsReadBy faults (Io error) = HasReadFault faults
 FailsReadBy faults Memory = Unit {0}
 FailsReadBy faults Changed = Unit {0}
+
+-- The lines of a text from one place up to another have each record of the prefix, whatever the other lines are.
+pub record EnclosesAsked (kind : Kind) (text prefix : List ℕ) (start end : ℕ) : Type 0 where
+  pub begins : IsListStart text start
+  pub ends : IsNameStart kind text end
+  pub ordered : start ≤ end
+  pub asked : (r : Record) (asked : IsAsked kind text prefix r) →
+      (start ≤ asked.0.0) × (asked.0.0 < end)
+
+-- a text has each record of the prefix that another one has, and its names ascend
+abbrev pub HoldsAsked : Kind → (text prefix part : List ℕ) → Type 0
+HoldsAsked kind text prefix part = NamesAscend kind part
+    × ((r : Record) → IsAsked kind text prefix r → IsAsked kind part prefix r)
+
+-- so the buffer
+abbrev pub BufferHoldsAsked : Kind → (text prefix : List ℕ) → Buffer → Type 0
+BufferHoldsAsked kind text prefix b = HoldsAsked kind text prefix (buffer_text b)

@@ -1,6 +1,8 @@
+pub mod CutRecords
 pub mod DigitLemmas
 pub mod Halves
 pub mod HeaderLemmas
+pub mod LineBounds
 pub mod LineLemmas
 pub mod LowerBounds
 pub mod OneReading
@@ -8,4 +10,5 @@ pub mod QuickOrders
 pub mod ReadBack
 pub mod RecordBytes
 pub mod RecordPlaces
+pub mod TakenLines
 pub mod WindowLemmas

@@ -119,10 +119,11 @@ module _ (k : Kind) (text n : List ℕ) (low high o : ℕ) (sure : Bool) (probe 
   orders : (x : Ordering) → probe.order ≡ Some x → Orders k (drop probe.start text) n sure x
   orders x is = let order = probed.order in subst (OrdersIfNamed k (drop probe.start text) n sure) is order
 
-  pub passes_malformed : probe.order ≡ None → Bound k text n probe.next high
-  passes_malformed is rs h up =
+  -- a text of records has no line without the form of one
+  pub no_malformed : probe.order ≡ None → (rs : List Record) → Records k text rs → ⊥
+  no_malformed is rs h =
       let order = probed.order in
-      absurd (saw_malformed_line k text probe.start o within probed.record_of (subst (OrdersIfNamed k (drop probe.start text) n sure) is order) rs h)
+      saw_malformed_line k text probe.start o within probed.record_of (subst (OrdersIfNamed k (drop probe.start text) n sure) is order) rs (forms_of k text rs h)
 
   pub passes_low : probe.order ≡ Some Less → Bound k text n probe.next high
   passes_low is =
@@ -203,12 +204,12 @@ splits k text n low high met bound rs h up =
 pub same_byte : (a : ℕ) → Equal ≡ nat_cmp a a
 same_byte a = nat_cmp_is a a Equal refl
 
-prefix_not_below : (p r : List ℕ) → Below (p ++ r) p → ⊥
+pub prefix_not_below : (p r : List ℕ) → Below (p ++ r) p → ⊥
 prefix_not_below [] [] h = absurd (cc)
 prefix_not_below [] (x ∷ r) h = absurd (cc)
 prefix_not_below (a ∷ p) r h = prefix_not_below p r (ap (λ o. ordering_then o (slice_cmp nat_cmp (p ++ r) p)) (same_byte a) ∙ h)
 
-between : (p y r : List ℕ) → (Below y p → ⊥) → Below y (p ++ r) → (s : List ℕ) × (y ≡ p ++ s)
+pub between : (p y r : List ℕ) → (Below y p → ⊥) → Below y (p ++ r) → (s : List ℕ) × (y ≡ p ++ s)
 between [] y r above below = (y, refl)
 between (a ∷ p) [] r above below = absurd (above refl)
 between (a ∷ p) (b ∷ y) r above below = ⊎_elim
@@ -224,7 +225,7 @@ between (a ∷ p) (b ∷ y) r above below = ⊎_elim
     (cases_eq b a))
     (cases_lt b a)
 
-between_or_same : (p y z r : List ℕ) → (Below y p → ⊥) → z ≡ p ++ r → (Below z y → ⊥) → (s : List ℕ) × (y ≡ p ++ s)
+pub between_or_same : (p y z r : List ℕ) → (Below y p → ⊥) → z ≡ p ++ r → (Below z y → ⊥) → (s : List ℕ) × (y ≡ p ++ s)
 between_or_same p y z r above is low = go (slice_cmp nat_cmp y z) refl
   where
     go : (o : Ordering) → slice_cmp nat_cmp y z ≡ o → (s : List ℕ) × (y ≡ p ++ s)

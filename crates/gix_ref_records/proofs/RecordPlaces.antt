@@ -38,7 +38,7 @@ ends_lf l =
     let at : length (l ++ 10 ∷ []) - 1 ≡ length l = omega arith in
     record { some = omega arith; last = ap (λ i. get_or (l ++ 10 ∷ []) i 0) at ∙ get_or-append_seam l 10 [] 0 }
 
-hex_no_lf : (d : List ℕ) (k : Kind) → IsHexOf k d → NoLf d
+pub hex_no_lf : (d : List ℕ) (k : Kind) → IsHexOf k d → NoLf d
 hex_no_lf d k h i x lt same =
     let hex : is_hex_digit (get_or d i x) ≡ true = h.digits i x lt in
     let bad : is_hex_digit 10 ≡ true = subst (λ (b : ℕ). is_hex_digit b ≡ true) same hex in cc
@@ -47,12 +47,12 @@ line_no_lf : (l : List ℕ) → All (λ b. in_record_line b ≡ true) l → NoLf
 line_no_lf l passes i x lt same =
     let bad : in_record_line 10 ≡ true = subst (λ (b : ℕ). in_record_line b ≡ true) same (passes i x lt) in cc
 
-one_no_lf : (b : ℕ) → (b == 10) ≡ false → NoLf (b ∷ [])
+pub one_no_lf : (b : ℕ) → (b == 10) ≡ false → NoLf (b ∷ [])
 one_no_lf b other zero x lt same = let e : (b == 10) ≡ true = eq-eqb b 10 same in cc
 one_no_lf b other (suc i) x lt same = let len : length (b ∷ []) ≡ 1 = refl in absurd (omega arith)
 
 -- up to the LF of a line
-to_lf : (after line rest : List ℕ) → Line after line rest → (l : List ℕ) × NoLf l × (after ≡ l ++ 10 ∷ rest)
+pub to_lf : (after line rest : List ℕ) → Line after line rest → (l : List ℕ) × NoLf l × (after ≡ l ++ 10 ∷ rest)
 to_lf after line rest f = ⊎_elim
     (λ (lf : f.after ≡ 10 ∷ rest). (line, line_no_lf line f.cut.front_passes, f.cut.whole ∙ ap (λ r. line ++ r) lf))
     (λ (crlf : f.after ≡ 13 ∷ 10 ∷ rest). (line ++ 13 ∷ [], All-append (λ b. b ≢ 10) line (13 ∷ []) (line_no_lf line f.cut.front_passes) (one_no_lf 13 refl), f.cut.whole ∙ ap (λ r. line ++ r) crlf ∙ sym (append_assoc line (13 ∷ []) (10 ∷ rest))))
@@ -182,16 +182,16 @@ abbrev pub Begins : (k : Kind) (text : List ℕ) (rs : List Record) → Forms k 
 Begins k text [] h p r = ⊥
 Begins k text (x ∷ xs) h p r = ((p ≡ 0) × (r ≡ x)) ⊎ ((q : ℕ) × (p + length h.0 ≡ length text + q) × Begins k h.0 xs h.2 q r)
 
+pub no_caret_first : (t : List ℕ) → StopsAt is_caret t → get_or t 0 0 ≢ 94
+no_caret_first [] stops caret = let zero : 0 ≡ 94 = caret in absurd (omega arith)
+no_caret_first (b ∷ t) stops caret = let bad : (b == 94) ≡ true = eq-eqb b 94 caret in let no : (b == 94) ≡ false = stops in cc
+
 -- no record begins with `^`
 pub no_caret_at : (k : Kind) (text : List ℕ) (rs : List Record) → Forms k text rs → get_or text 0 0 ≢ 94
 no_caret_at k text [] h caret =
     let none : get_or text 0 0 ≡ 0 = ap (λ t. get_or t 0 0) h in
     let bad : (94 == 0) ≡ true = subst (λ (b : ℕ). (b == 0) ≡ true) (sym none ∙ caret) refl in absurd (cc)
-no_caret_at k text (r ∷ rs) h caret = first text h.1.no_caret caret
-  where
-    first : (t : List ℕ) → StopsAt is_caret t → get_or t 0 0 ≢ 94
-    first [] stops caret = let zero : 0 ≡ 94 = caret in absurd (omega arith)
-    first (b ∷ t) stops caret = let bad : (b == 94) ≡ true = eq-eqb b 94 caret in let no : (b == 94) ≡ false = stops in cc
+no_caret_at k text (r ∷ rs) h caret = no_caret_first text h.1.no_caret caret
 
 -- what a byte's record is, where the first record ends in `front`
 pub record Front (text front rest : List ℕ) : Type 0 where

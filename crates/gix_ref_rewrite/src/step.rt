@@ -40,7 +40,7 @@ fn copy_below<'a>(
     ensures copies { IfOk result (Copies kind key.now ahead.entry text.old.items text.new.items) }
     ensures refused { IfErr result (IsStuckAt kind ahead.entry.line ahead.entry.rest.now) }
 {
-    let place = lower_bound_in_memory(ahead.rest, kind, key);
+    let place = lower_bound_in_memory(ahead.rest, kind, key).place as usize;
     let next = copy_until(text, ahead, kind, ahead.rest.len() - place)?;
     Ok(next)
 }

@@ -82,7 +82,8 @@ impl<R: ReadAt + Drop> PackedFile<R> {
     ghost use Rattle.gix_ref_files.specs.DiskCalls.{Untouched};
     ghost use Rattle.gix_ref_packed.specs.Buffers.{IsRefusedFile};
     ghost use Rattle.gix_ref_packed.specs.OpenFiles.{OpenedFile, CountsRefusal, packed_file_text, packed_file_kind, packed_file_line, packed_file_faults, FailsFindByRead};
-    ghost use Rattle.gix_ref_packed.specs.FilePrefixes.{HoldsPrefix, FailsReadBy};
+    ghost use Rattle.gix_ref_packed.specs.FilePrefixes.{BufferHoldsAsked, HoldsPrefix, FailsReadBy};
+    ghost use Rattle.gix_ref_records.specs.Prefixes.{NamesAscend};
     ghost use Rattle.gix_ref_packed.specs.FileSearches.{FindsInFile, IsNoChange, count_find};
 
     /// Opens the file at a path, whose ids are of the kind; `None` where no file is there. In place of the memory map of gix-ref's
@@ -161,9 +162,9 @@ impl<R: ReadAt + Drop> PackedFile<R> {
     }
 
     /// The records of the prefix, in a buffer that is asked by `iter_prefixed` of that prefix; other records may be in it.
-    /// Of a sorted file only their lines are read, or the whole where they are more than an eighth of it, or where a
-    /// line among them is no record: so lines are numbered as in the file. `Io` where the file could not be read, and
-    /// `Memory` where there was no memory for what is read. Not in gix-ref.
+    /// Of a sorted file only their lines are read, or the whole where they are more than an eighth of it, where a line
+    /// among them is no record, or where halving met one that has not the form of a record: so lines are numbered as in the
+    /// file. `Io` where the file could not be read, and `Memory` where there was no memory for what is read. Not in gix-ref.
     ///
     /// ```text
     /// let packed = file.into_prefixed(alloc, b"refs/tags/")?;
@@ -174,6 +175,11 @@ impl<R: ReadAt + Drop> PackedFile<R> {
     pub fn into_prefixed(self, alloc: Global, prefix: &[u8]) -> Result<Buffer, ReadError>
         ensures holds { R.honest → IfOk result (HoldsPrefix (packed_file_kind self)
             (packed_file_text self) (packed_file_line self) prefix.now) }
+
+        // Whatever the other lines are, where names ascend: each record of the prefix is in it.
+        ensures asked { R.honest → NamesAscend (packed_file_kind self) (packed_file_text self) →
+            IfOk result (BufferHoldsAsked (packed_file_kind self) (packed_file_text self)
+            prefix.now) }
         ensures refused { R.honest → IfErr result IsNoChange }
         ensures failed { IfErr result (FailsReadBy R.faults) }
     {

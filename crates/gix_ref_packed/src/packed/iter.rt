@@ -1,6 +1,9 @@
 //! The records of a `packed-refs` in the order of its lines, with the lines that are no record.
-ghost use Rattle.std.specs.Prelude.{◌+◌, ◌<◌, ◌^◌, length};
+ghost use Rattle.std.specs.Prelude.{◌≡◌, ◌⊎◌, ◌+◌, ◌<◌, ◌^◌, List, length};
 ghost use Rattle.std.specs.Iterator.{at_most};
+ghost use Rattle.gix_ref_base.specs.PackedRecords.{Record};
+ghost use Rattle.gix_ref_records.specs.RecordGrammar.{Records, Rising};
+ghost use Rattle.gix_ref_records.specs.Prefixes.{IsBadStart, IsListStart, NamesAscend, SplitsAt, SplitsLines};
 
 mod error;
 mod parts;
@@ -13,7 +16,23 @@ use gix_ref_records::packed::Reference;
 use gix_ref_records::packed::bound::lower_bound_in_memory;
 use gix_ref_records::packed::decode::take_record;
 use gix_ref_records::packed::header_end::{first_line_behind, read_header_end};
-use parts::{begins_with_prefix, count_line_feeds, cut_line, first_line};
+use parts::{begins_with_prefix, begins_with_record, count_line_feeds, cut_line, first_line};
+
+/// Where the records of a prefix begin. Where halving met a line that has not the form of a record, that is the front of the
+/// text, if a record of the prefix is there, and else that line.
+fn first_of_prefix(text: &[u8], kind: Kind, prefix: &[u8]) -> usize
+    ensures starts { IsListStart text.now result }
+    ensures splits { (rs : List Record) → Records kind text.now rs → Rising rs →
+        SplitsAt kind text.now rs prefix.now result }
+    ensures lines { NamesAscend kind text.now → IsBadStart kind text.now result
+        ⊎ SplitsLines kind text.now prefix.now result }
+{
+    let bound = lower_bound_in_memory(text, kind, prefix);
+    if bound.is_malformed && begins_with_record(text, kind, prefix) {
+        return 0;
+    }
+    bound.place as usize
+}
 
 /// The records of a text, and a fault for each line that is no record. A record whose line with `^` is bad is two faults.
 /// As gix-ref's `packed::Iter`.
@@ -113,14 +132,14 @@ impl<'a> Iterator for Iter<'a> {
 }
 
 impl Buffer {
-    ghost use Rattle.std.specs.Prelude.{◌≡◌, ◌+◌, ℕ, List, None, Some, true};
+    ghost use Rattle.std.specs.Prelude.{◌≡◌, ◌+◌, ℕ, List, [], None, Some, true};
     ghost use Rattle.std.specs.Iterator.Runs.{EachRunFrom};
     ghost use Rattle.gix_ref_base.specs.PackedRecords.{Record};
     ghost use Rattle.gix_ref_records.specs.RecordGrammar.{Records, Rising};
-    ghost use Rattle.gix_ref_records.specs.Prefixes.{records_prefixed, IsListStart};
+    ghost use Rattle.gix_ref_records.specs.Prefixes.{records_prefixed, IsListStart, NamesAscend};
     ghost use Rattle.gix_ref_packed.specs.Buffers.{buffer_text, buffer_kind};
     ghost use Rattle.gix_ref_packed.specs.Items.{ItemStep, AreItems, AreRecords, unread_buffer, unread_from};
-    ghost use Rattle.gix_ref_packed.specs.YetToGive.{IsYet};
+    ghost use Rattle.gix_ref_packed.specs.YetToGive.{IsYet, Owes};
 
     /// The records of the buffer, in the order of their names. Lines are numbered as in the file that was opened. As
     /// gix-ref's `packed::Buffer::iter`.
@@ -148,7 +167,9 @@ impl Buffer {
     }
 
     /// The records whose names begin with the prefix, in the order of their names: the first is found by halving, and
-    /// the first other name ends them. As gix-ref's `packed::Buffer::iter_prefixed`.
+    /// the first other name ends them. Where halving meets a line that has not the form of a record, they begin with that
+    /// line, which is a fault, or at the front of the text, if that is a record of the prefix. So where no item is a fault,
+    /// none of the records is missing. As gix-ref's `packed::Buffer::iter_prefixed`.
     ///
     /// ```text
     /// for tag in packed.iter_prefixed(b"refs/tags/".to_vec(alloc)?) {
@@ -170,9 +191,13 @@ impl Buffer {
         // The same for a caller that takes one item at a time: it is yet to give those of the prefix.
         ensures yet { (rs : List Record) → Records (buffer_kind self.now) (buffer_text self.now)
             rs → Rising rs → IsYet result (records_prefixed prefix.items rs) }
+
+        // Whatever the other lines are, where the names ascend: each record of the prefix is yet to come, or a fault.
+        ensures owes { NamesAscend (buffer_kind self.now) (buffer_text self.now) →
+            Owes (buffer_kind self.now) (buffer_text self.now) prefix.items [] result }
     {
         let text = self.as_bytes();
-        let start = lower_bound_in_memory(text, self.kind(), prefix.as_slice());
+        let start = first_of_prefix(text, self.kind(), prefix.as_slice());
         Iter {
             rest: &text[start..],
             kind: self.kind(),

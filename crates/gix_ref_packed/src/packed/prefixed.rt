@@ -8,7 +8,7 @@ use crate::packed::buffer::Buffer;
 use crate::packed::sorted_file::{ReadError, SortedFile, read_window};
 use gix_ref_files::files::ReadAt;
 use gix_ref_hash::hash::Kind;
-use gix_ref_records::packed::bound::lower_bound;
+use gix_ref_records::packed::bound::{Bound, lower_bound};
 use gix_ref_records::packed::decode::take_record;
 use std::alloc::{AllocError, Global};
 
@@ -50,11 +50,12 @@ fn is_records(text: &[u8], kind: Kind) -> bool
 
 impl<R: ReadAt + Drop> SortedFile<R> {
     ghost use Rattle.std.specs.Prelude.{◌≡◌, ◌≤◌, ◌-◌, List, length, take, drop, IfOk, IfErr};
-    ghost use Rattle.gix_ref_packed.specs.FilePrefixes.{Encloses, HoldsPrefix};
+    ghost use Rattle.gix_ref_packed.specs.FilePrefixes.{BufferHoldsAsked, Encloses, EnclosesAsked, HoldsPrefix};
+    ghost use Rattle.gix_ref_records.specs.Prefixes.{NamesAscend};
     ghost use Rattle.gix_ref_packed.specs.FileSearches.{IsNoChange, count_read};
 
     /// Two places between which all records of the prefix are: halving finds either. They are those of all records where
-    /// that costs less, and where the file is not sorted.
+    /// that costs less, where halving met a line that has not the form of a record, and where the file is not sorted.
     fn places_of(
         &mut self,
         alloc: Global,
@@ -69,10 +70,15 @@ impl<R: ReadAt + Drop> SortedFile<R> {
             ≡ count_read error (R.faults self.old.reader)) }
         ensures encloses { R.honest → IfOk result (λ places. Encloses kind
             (drop self.old.base (R.bytes self.old.reader)) prefix.now places.0 places.1) }
+
+        // Whatever the other lines are, where names ascend.
+        ensures asked { R.honest → NamesAscend kind (drop self.old.base (R.bytes self.old.reader)) →
+            IfOk result (λ places. EnclosesAsked kind
+            (drop self.old.base (R.bytes self.old.reader)) prefix.now places.0 places.1) }
         ensures stays { R.honest → IfErr result IsNoChange }
     {
-        let start = match lower_bound(self, kind, prefix) {
-            Ok(start) => start,
+        let first = match lower_bound(self, kind, prefix) {
+            Ok(first) => first,
             Err(error) => return Err(error),
         };
         let len = self.records_len();
@@ -81,12 +87,17 @@ impl<R: ReadAt + Drop> SortedFile<R> {
                 Ok(end) => end,
                 Err(error) => return Err(error),
             },
-            None => len,
+            None => Bound {
+                place: len,
+                is_malformed: false,
+            },
         };
-        if end < start || end - start > len / WHOLE_FROM {
+        let (start, end_place) = (first.place, end.place);
+        let is_malformed = first.is_malformed || end.is_malformed;
+        if is_malformed || end_place < start || end_place - start > len / WHOLE_FROM {
             return Ok((0, len));
         }
-        Ok((start, end))
+        Ok((start, end_place))
     }
 
     /// The bytes of the records from one place up to another.
@@ -116,8 +127,9 @@ impl<R: ReadAt + Drop> SortedFile<R> {
         }
     }
 
-    /// Reads the records of the prefix, and others where that costs less. Where a line among them is no record, the whole
-    /// is read, so that lines are numbered as in the file, in which the first has the number `first_line`.
+    /// Reads the records of the prefix, and others where that costs less. Where a line among them is no record, or halving
+    /// met a line that has not the form of one, the whole is read, so that lines are numbered as in the file, in which the
+    /// first has the number `first_line`.
     pub(crate) fn read_prefixed(
         &mut self,
         alloc: Global,
@@ -131,6 +143,9 @@ impl<R: ReadAt + Drop> SortedFile<R> {
             ≡ count_read error (R.faults self.old.reader)) }
         ensures holds { R.honest → IfOk result (HoldsPrefix kind
             (drop self.old.base (R.bytes self.old.reader)) first_line prefix.now) }
+        ensures asked { R.honest → NamesAscend kind (drop self.old.base (R.bytes self.old.reader)) →
+            IfOk result (BufferHoldsAsked kind (drop self.old.base (R.bytes self.old.reader))
+            prefix.now) }
         ensures stays { R.honest → IfErr result IsNoChange }
     {
         let (start, end) = self.places_of(alloc, kind, prefix)?;

@@ -47,6 +47,17 @@ impl Look {
             near: left < FEW_BYTES,
         }
     }
+
+    /// How to look at a record that has to be one, with so many bytes left.
+    #[inline(always)]
+    pub fn sure(left: u64) -> Look
+        ensures { result.sure ≡ true }
+    {
+        Look {
+            sure: true,
+            near: left < FEW_BYTES,
+        }
+    }
 }
 
 /// A text of records at which one can probe near a place. What is said of its bytes holds where it is honest.

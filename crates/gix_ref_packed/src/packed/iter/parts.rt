@@ -1,9 +1,15 @@
 //! What an iterator over packed references asks of lines and names.
-ghost use Rattle.std.specs.Prelude.{◌≡◌, ◌<◌, ◌≤◌, length};
+ghost use Rattle.std.specs.Prelude.{◌≡◌, ◌<◌, ◌≤◌, ℕ, List, length, nat_eq, true};
+ghost use Rattle.std.specs.Bool.{OnTrue};
+ghost use Rattle.std.specs.List.{starts_with};
 ghost use Rattle.std.specs.Option.{option_map};
+ghost use Rattle.gix_ref_base.specs.PackedRecords.{Record};
+ghost use Rattle.gix_ref_records.specs.RecordGrammar.{Takes};
 ghost use Rattle.gix_ref_packed.specs.Items.{CutsAtFeed, FirstLine, has_prefix, line_feeds, line_without_cr};
 
 use gix_ref_hash::bytes::cut;
+use gix_ref_hash::hash::Kind;
+use gix_ref_records::packed::decode::take_record;
 use memchr::memchr_iter;
 
 /// The line at the front of the text, up to its LF, and what follows it; the whole text where it has no LF.
@@ -44,6 +50,17 @@ pub fn begins_with_prefix(name: &[u8], prefix: &Option<Vec<u8>>) -> bool
     match prefix {
         Some(prefix) => name.starts_with(prefix.as_slice()),
         None => true,
+    }
+}
+
+/// Whether a record is at the front of the text, and its name begins with the prefix.
+pub fn begins_with_record(text: &[u8], kind: Kind, prefix: &[u8]) -> bool
+    ensures { OnTrue result ((r : Record) × (rest : List ℕ) × Takes kind text.now r rest
+        × (starts_with nat_eq r.name prefix.now ≡ true)) }
+{
+    match take_record(text, kind) {
+        Some((reference, _)) => reference.name.to_path().starts_with(prefix),
+        None => false,
     }
 }
 

@@ -1,4 +1,5 @@
 use Rattle.gix_ref_packed.proofs.OneItem.{next_gives_first, faults_are_lines, ended_stays_ended}
+use Rattle.gix_ref_packed.proofs.OwedRecords.{next_pays}
 use Rattle.gix_ref_packed.proofs.packed.laws.next_gives_the_first.Goals as goal
 
 pub returns-clause-first : goal.returns-clause-first
@@ -9,3 +10,6 @@ returns-clause-lines c = faults_are_lines
 
 pub returns-clause-ended : goal.returns-clause-ended
 returns-clause-ended c = ended_stays_ended
+
+pub returns-clause-pays : goal.returns-clause-pays
+returns-clause-pays c = next_pays

@@ -1,6 +1,7 @@
 use Rattle.std.proofs.Common.{◌≡◌, ◌-◌}
 use Rattle.gix_ref_records.specs.Prefixes.{IsListStart}
 use Rattle.gix_ref_records.proofs.LowerBounds.{Bound}
+use Rattle.gix_ref_records.proofs.LineBounds.{LinesBound}
 use Rattle.gix_ref_records.proofs.packed.bound.lower_bound.Given as goal
 
 abbrev pub invariant-loop-low : goal.invariant-loop-low
@@ -10,6 +11,7 @@ invariant-loop-low g l = record {
   frame : g.T.SearchableRecords.frame l.text ≡ g.T.SearchableRecords.frame l.fn.text;
   starts : g.T.SearchableRecords.honest → IsListStart (g.T.SearchableRecords.bytes l.fn.text) l.high;
   bound : g.T.SearchableRecords.honest → Bound l.kind (g.T.SearchableRecords.bytes l.fn.text) l.wanted l.low l.high;
+  lines : g.T.SearchableRecords.honest → LinesBound l.kind (g.T.SearchableRecords.bytes l.fn.text) l.wanted l.low l.high;
 }
 
 abbrev pub decreases-loop-low : goal.decreases-loop-low
