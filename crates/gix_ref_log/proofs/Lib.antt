@@ -12,5 +12,6 @@ pub mod SignatureLemmas
 pub mod SignaturesAgain
 pub mod StampNumbers
 pub mod Stamps
+pub mod StoppedWrites
 pub mod TextLines
 pub mod WindowLemmas

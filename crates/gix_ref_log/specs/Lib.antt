@@ -6,4 +6,5 @@ pub mod LogLines
 pub mod LogStages
 pub mod LogWindows
 pub mod Signatures
+pub mod Writers
 pub mod internal

@@ -2,6 +2,7 @@
 ghost use Rattle.std.specs.Prelude.{◌≡◌, ◌+◌, ◌-◌, ◌*◌, ◌↔◌, IsTrue, ℤ, pos, MatchOption, IfSome};
 ghost use Rattle.gix_ref_log.specs.Signatures.{Who, IsSeconds, IsZone, IsDigit, IsPlainText, IsSignature, IsWritableOffset, CanWrite, offset_text, signature_text, trimmed, without_space};
 
+use crate::writer::write_parts;
 use bstr::ByteSlice;
 use gix_ref_hash::bytes::{cut, cut_last};
 use std::alloc::{AllocError, Global};
@@ -175,8 +176,9 @@ impl Signature {
 }
 
 impl<'a> SignatureRef<'a> {
-    ghost use Rattle.std.specs.Prelude.{OnOk, IfOk, IsErrOf};
+    ghost use Rattle.std.specs.Prelude.{OnOk, IfOk, IfErr, IsErrOf};
     ghost use Rattle.std.specs.Io.KnownBytes.{Appends};
+    ghost use Rattle.gix_ref_log.specs.Writers.{StopsShort};
     ghost use Rattle.gix_ref_log.specs.Signatures.{trimmed_who, signature_who, signature_ref_who};
 
     /// Reads a signature, `name <email> seconds +hhmm`: the name is all before the first `<`, less one space at its end,
@@ -273,16 +275,19 @@ impl<'a> SignatureRef<'a> {
     }
 
     /// Writes the parts of the signature, whose offset has this text.
-    fn write_parts<W: io::Write>(self, zone: &[u8], out: &mut W) -> io::Result<()>
+    fn write_stamped<W: io::Write>(self, zone: &[u8], out: &mut W) -> io::Result<()>
         requires { zone.now ≡ offset_text self.time.offset }
-        ensures { OnOk result (Appends (W.contents out.old) (W.contents out.new)
+        ensures written { OnOk result (Appends (W.contents out.old) (W.contents out.new)
+            (signature_text (signature_ref_who self.entry))) }
+        ensures stopped { IfErr result (StopsShort (W.contents out.old) (W.contents out.new)
             (signature_text (signature_ref_who self.entry))) }
     {
-        out.write_all(self.name)?;
-        out.write_all(b" <")?;
-        out.write_all(self.email)?;
-        write!(out, "> {} ", self.time.seconds)?;
-        out.write_all(zone)
+        let mut digits = itoa::Buffer::new();
+        let seconds = digits.format(self.time.seconds).as_bytes();
+        write_parts(
+            out,
+            &[self.name, b" <", self.email, b"> ", seconds, b" ", zone],
+        )
     }
 
     /// Writes `name <email> seconds +hhmm`, as it is: nothing is trimmed. `SignatureUnwritable` comes before the first
@@ -299,11 +304,14 @@ impl<'a> SignatureRef<'a> {
         ensures refused { IsErrOf result WriteError.SignatureUnwritable
             ↔ (CanWrite (signature_ref_who self.entry) → ⊥) }
         ensures untouched { IsErrOf result WriteError.SignatureUnwritable → out.new ≡ out.old }
+        ensures stopped { (error : _) → IsErrOf result (WriteError.Io error) →
+            StopsShort (W.contents out.old) (W.contents out.new)
+            (signature_text (signature_ref_who self.entry)) error }
     {
         let Some(zone) = self.writable_zone() else {
             return Err(WriteError::SignatureUnwritable);
         };
-        match self.write_parts(&zone, out) {
+        match self.write_stamped(&zone, out) {
             Ok(()) => Ok(()),
             Err(error) => Err(WriteError::Io(error)),
         }

@@ -4,3 +4,4 @@
 pub mod actor;
 pub mod laws;
 pub mod log;
+mod writer;

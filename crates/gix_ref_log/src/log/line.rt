@@ -107,6 +107,7 @@ impl Line {
     ghost use Rattle.gix_ref_hash.specs.Bytes.{NoByte};
     ghost use Rattle.gix_ref_log.specs.Signatures.{CanWrite, signature_who};
     ghost use Rattle.gix_ref_log.specs.LogLines.{CanWriteLine, line_text};
+    ghost use Rattle.gix_ref_log.specs.Writers.{StopsShort};
 
     /// Writes the ids in lower case, the signature as it is, a tab also before an empty message, and LF. A message with
     /// LF is `MessageWithNewlines`, else a signature that cannot be written is `SignatureUnwritable`, both before the first
@@ -128,6 +129,8 @@ impl Line {
             out.new ≡ out.old }
         ensures signature_untouched { IsErrOf result WriteError.SignatureUnwritable →
             out.new ≡ out.old }
+        ensures stopped { (error : _) → IsErrOf result (WriteError.Io error) →
+            StopsShort (W.contents out.old) (W.contents out.new) (line_text self.now) error }
     {
         if self.message.as_slice().find_byte(b'\n').is_some() {
             return Err(WriteError::MessageWithNewlines);

@@ -1,14 +1,18 @@
 //! Writing a line of a reflog.
-ghost use Rattle.std.specs.Prelude.{◌≡◌, ◌↔◌, ◌++◌, ◌∷◌, [], OnOk, IfOk, IsErrOf};
+ghost use Rattle.std.specs.Prelude.{◌≡◌, ◌↔◌, ◌++◌, ◌∷◌, [], OnOk, IfOk, IfErr, IsErrOf};
 ghost use Rattle.std.specs.Io.KnownBytes.{Appends};
 ghost use Rattle.gix_ref_hash.specs.Bytes.{NoByte};
 ghost use Rattle.gix_ref_log.specs.Signatures.{CanWrite, signature_who, signature_ref_who, trimmed_who};
+ghost use Rattle.gix_ref_log.specs.Writers.{StopsShort};
+ghost use Rattle.hex.specs.Hex.{encode_lower};
+ghost use Rattle.gix_ref_hash.specs.Ids.{id_bytes};
 ghost use Rattle.gix_ref_log.specs.LogLines.{CanWriteLine, message_part, line_text, head_text, appended_text};
 ghost use Rattle.gix_ref_hash.specs.declared.hash.ObjectId.{ObjectId};
 ghost use Rattle.gix_ref_log.specs.declared.log.line.Line.{Line};
 
 use super::Line;
 use crate::actor::{self, SignatureRef};
+use crate::writer::write_parts;
 use bstr::ByteSlice;
 use gix_ref_hash::hash::ObjectId;
 use std::alloc::Global;
@@ -43,6 +47,15 @@ pub enum AppendError {
     Memory,
 }
 
+/// The hex digits of the id, in lower case, at the front of the room.
+fn hex_digits<'a>(id: &ObjectId, room: &'a mut [u8; 64]) -> &'a [u8]
+    ensures { result.now ≡ encode_lower (id_bytes id.now) }
+{
+    let digits = &mut room[..id.kind().len_in_hex()];
+    hex::encode_to_slice(id.as_bytes(), digits).unwrap();
+    digits
+}
+
 /// Writes the ids and the signature.
 fn write_head<W: io::Write>(
     previous: &ObjectId,
@@ -51,10 +64,15 @@ fn write_head<W: io::Write>(
     out: &mut W,
 ) -> io::Result<()>
     requires { CanWrite (signature_ref_who who) }
-    ensures { OnOk result (Appends (W.contents out.old) (W.contents out.new)
+    ensures written { OnOk result (Appends (W.contents out.old) (W.contents out.new)
+        (head_text previous.now new.now (signature_ref_who who.entry))) }
+    ensures stopped { IfErr result (StopsShort (W.contents out.old) (W.contents out.new)
         (head_text previous.now new.now (signature_ref_who who.entry))) }
 {
-    write!(out, "{previous} {new} ")?;
+    let (mut room, mut new_room) = ([0u8; 64], [0u8; 64]);
+    let previous = hex_digits(previous, &mut room);
+    let new = hex_digits(new, &mut new_room);
+    write_parts(out, &[previous, b" ", new, b" "])?;
     match who.write_to(out) {
         Ok(()) => Ok(()),
         Err(actor::WriteError::Io(error)) => Err(error),
@@ -90,7 +108,10 @@ fn push_head(
 /// Writes a line whose signature can be written.
 pub(super) fn write_line<W: io::Write>(line: &Line, out: &mut W) -> io::Result<()>
     requires { CanWrite (signature_who line.now.signature) }
-    ensures { OnOk result (Appends (W.contents out.old) (W.contents out.new) (line_text line.now)) }
+    ensures written { OnOk result (Appends (W.contents out.old) (W.contents out.new)
+        (line_text line.now)) }
+    ensures stopped { IfErr result (StopsShort (W.contents out.old) (W.contents out.new)
+        (line_text line.now)) }
 {
     write_head(
         &line.previous_oid,
@@ -98,9 +119,7 @@ pub(super) fn write_line<W: io::Write>(line: &Line, out: &mut W) -> io::Result<(
         line.signature.to_ref(),
         out,
     )?;
-    out.write_all(b"\t")?;
-    out.write_all(&line.message)?;
-    out.write_all(b"\n")
+    write_parts(out, &[b"\t", &line.message, b"\n"])
 }
 
 /// The bytes of a line, whose signature can be written, without a tab before an empty message.
