@@ -10,8 +10,8 @@ use Rattle.std.specs.declared.io.ErrorKind.TheVariants.{Interrupted}
 abbrev pub AppendsBeginning : Option (List ℕ) → Option (List ℕ) → List ℕ → Type 0
 AppendsBeginning old new text = (n : ℕ) × (n < length text) × Appends old new (take n text)
 
--- Writing the text stopped at this error: a beginning of the text is written, and not all of it. A write that a signal
--- interrupted was tried again.
+-- Writing the text stopped at this error: the writer holds a beginning of the text, and not all of it. A signal that
+-- interrupts a write is no such error, since that write is tried again.
 pub record StopsShort (old new : Option (List ℕ)) (text : List ℕ) (error : Error) : Type 0 where
   pub begun : AppendsBeginning old new text
   pub retried : error_kind error ≢ Interrupted

@@ -52,7 +52,7 @@ pub enum WriteError {
     /// The name or the email holds `<`, `>` or LF, or the offset is no whole minute or past 99:59. Nothing was written.
     #[error("the name, the email or the offset of the signature cannot be written")]
     SignatureUnwritable,
-    /// The writer failed; it holds what it took before.
+    /// The writer failed; it holds a beginning of the signature, and not all of it.
     #[error("the signature could not be written: {0}")]
     Io(io::Error),
 }
@@ -264,7 +264,7 @@ impl<'a> SignatureRef<'a> {
     }
 
     /// The text of the offset, where the signature can be written.
-    fn writable_zone(self) -> Option<[u8; 5]>
+    pub(crate) fn writable_zone(self) -> Option<[u8; 5]>
         ensures { MatchOption result (CanWrite (signature_ref_who self.entry) → ⊥) (λ zone. CanWrite
             (signature_ref_who self.entry) × (zone ≡ offset_text self.entry.time.offset)) }
     {
@@ -274,7 +274,7 @@ impl<'a> SignatureRef<'a> {
         zone_text(self.time.offset)
     }
 
-    /// Writes the parts of the signature, whose offset has this text.
+    /// Writes the signature, of whose offset this is the text.
     fn write_stamped<W: io::Write>(self, zone: &[u8], out: &mut W) -> io::Result<()>
         requires { zone.now ≡ offset_text self.time.offset }
         ensures written { OnOk result (Appends (W.contents out.old) (W.contents out.new)
@@ -291,7 +291,8 @@ impl<'a> SignatureRef<'a> {
     }
 
     /// Writes `name <email> seconds +hhmm`, as it is: nothing is trimmed. `SignatureUnwritable` comes before the first
-    /// byte; after `Io` the writer holds what it took before it failed. As gix-actor's `SignatureRef::write_to`.
+    /// byte. After `Io` the writer holds a beginning of the signature, and not all of it; a write that a signal interrupts
+    /// is tried again. As gix-actor's `SignatureRef::write_to`.
     ///
     /// ```text
     /// let time = Time { seconds: 1234567890, offset: 28800 };

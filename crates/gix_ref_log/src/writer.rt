@@ -1,10 +1,11 @@
 //! Writing a text of several parts, and what the writer holds where it fails.
-ghost use Rattle.std.specs.Prelude.{◌<◌, ◌≤◌, ◌≢◌, length, take, IfErr, IfOk, OnErr, OnOk};
+ghost use Rattle.std.specs.Prelude.{◌≡◌, ◌+◌, ◌<◌, ◌≤◌, ◌≢◌, ◌++◌, length, take, vec_capacity, vec_len, IfErr, IfOk, OnErr, OnOk};
 ghost use Rattle.std.specs.Io.KnownBytes.{Appends, Keeps};
 ghost use Rattle.std.specs.IoError.{error_kind};
 ghost use Rattle.std.specs.declared.io.ErrorKind.TheVariants.{Interrupted};
 ghost use Rattle.gix_ref_log.specs.Writers.{StopsShort, concat_slices};
 
+use std::alloc::AllocError;
 use std::io;
 
 /// Writes one byte of the text or more, and returns how many. A write that a signal interrupts is tried again.
@@ -47,6 +48,23 @@ pub(crate) fn write_parts<W: io::Write>(out: &mut W, parts: &[&[u8]]) -> io::Res
 {
     for part in parts {
         write_whole(out, part)?;
+    }
+    Ok(())
+}
+
+/// Adds the parts to the text, one after the other. Where there is no memory for them, the text stays as it was.
+pub(crate) fn push_parts(text: &mut Vec<u8>, parts: &[&[u8]]) -> Result<(), AllocError>
+    ensures added { OnOk result (text.new.items ≡ text.old.items ++ concat_slices parts.now) }
+    ensures left { OnErr result (text.new.items ≡ text.old.items) }
+    ensures room { OnErr result
+        (vec_capacity text.old < vec_len text.old + length (concat_slices parts.now)) }
+{
+    let len = text.len();
+    for part in parts {
+        if let Err(error) = text.extend_from_slice(part) {
+            text.truncate(len);
+            return Err(error);
+        }
     }
     Ok(())
 }

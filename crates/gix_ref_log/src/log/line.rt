@@ -102,7 +102,7 @@ impl<'a> LineRef<'a> {
 }
 
 impl Line {
-    ghost use Rattle.std.specs.Prelude.{◌≡◌, ◌↔◌, OnOk, IsErrOf};
+    ghost use Rattle.std.specs.Prelude.{◌≡◌, ◌<◌, ◌+◌, ◌++◌, ◌↔◌, length, vec_capacity, vec_len, OnOk, OnErr, IsErrOf};
     ghost use Rattle.std.specs.Io.KnownBytes.{Appends};
     ghost use Rattle.gix_ref_hash.specs.Bytes.{NoByte};
     ghost use Rattle.gix_ref_log.specs.Signatures.{CanWrite, signature_who};
@@ -111,7 +111,8 @@ impl Line {
 
     /// Writes the ids in lower case, the signature as it is, a tab also before an empty message, and LF. A message with
     /// LF is `MessageWithNewlines`, else a signature that cannot be written is `SignatureUnwritable`, both before the first
-    /// byte; after `Io` the writer holds what it took before it failed. As gix-ref's `log::Line::write_to`.
+    /// byte. After `Io` the writer holds a beginning of the line, and not all of it; a write that a signal interrupts is
+    /// tried again. As gix-ref's `log::Line::write_to`.
     ///
     /// ```text
     /// // The old id, the new id, the signature, a tab and the message.
@@ -135,12 +136,44 @@ impl Line {
         if self.message.as_slice().find_byte(b'\n').is_some() {
             return Err(WriteError::MessageWithNewlines);
         }
-        if !self.signature.to_ref().is_writable() {
+        let Some(zone) = self.signature.to_ref().writable_zone() else {
             return Err(WriteError::SignatureUnwritable);
-        }
-        match write::write_line(self, out) {
+        };
+        match write::write_line(self, &zone, out) {
             Ok(()) => Ok(()),
             Err(error) => Err(WriteError::Io(error)),
+        }
+    }
+
+    /// Adds the line to the end of the text, as `write_to` writes it. A message with LF is `MessageWithNewlines`, else a
+    /// signature that cannot be written is `SignatureUnwritable`. `Memory` comes only where the text has no room for the
+    /// line and cannot grow. After an error the text is as it was. Not in gix-ref, which calls `write_to` on a `Vec`.
+    ///
+    /// ```text
+    /// let mut log = Vec::new(alloc);
+    /// line.push_to(&mut log)?;
+    /// ```
+    pub fn push_to(&self, text: &mut Vec<u8>) -> Result<(), AppendError>
+        ensures added { OnOk result
+            (CanWriteLine (signature_who self.now.signature) self.now.message.items
+            × (text.new.items ≡ text.old.items ++ line_text self.now)) }
+        ensures message { IsErrOf result AppendError.MessageWithNewlines
+            ↔ (NoByte 10 self.now.message.items → ⊥) }
+        ensures signature { IsErrOf result AppendError.SignatureUnwritable ↔ (NoByte 10
+            self.now.message.items × (CanWrite (signature_who self.now.signature) → ⊥)) }
+        ensures room { IsErrOf result AppendError.Memory →
+            vec_capacity text.old < vec_len text.old + length (line_text self.now) }
+        ensures left { OnErr result (text.new.items ≡ text.old.items) }
+    {
+        if self.message.as_slice().find_byte(b'\n').is_some() {
+            return Err(AppendError::MessageWithNewlines);
+        }
+        let Some(zone) = self.signature.to_ref().writable_zone() else {
+            return Err(AppendError::SignatureUnwritable);
+        };
+        match write::push_line(self, &zone, text) {
+            Ok(()) => Ok(()),
+            Err(_) => Err(AppendError::Memory),
         }
     }
 }

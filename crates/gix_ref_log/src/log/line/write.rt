@@ -1,9 +1,10 @@
 //! Writing a line of a reflog.
-ghost use Rattle.std.specs.Prelude.{◌≡◌, ◌↔◌, ◌++◌, ◌∷◌, [], OnOk, IfOk, IfErr, IsErrOf};
+ghost use Rattle.std.specs.Prelude.{◌≡◌, ◌<◌, ◌+◌, ◌↔◌, ◌++◌, ◌∷◌, [], length, vec_capacity, vec_len, OnOk, OnErr, IfOk, IfErr, IsErrOf};
 ghost use Rattle.std.specs.Io.KnownBytes.{Appends};
 ghost use Rattle.gix_ref_hash.specs.Bytes.{NoByte};
-ghost use Rattle.gix_ref_log.specs.Signatures.{CanWrite, signature_who, signature_ref_who, trimmed_who};
-ghost use Rattle.gix_ref_log.specs.Writers.{StopsShort};
+ghost use Rattle.gix_ref_log.specs.Signatures.{CanWrite, offset_text, signature_ref_who, trimmed_who};
+ghost use Rattle.std.specs.Fmt.{signed_decimal};
+ghost use Rattle.gix_ref_log.specs.Writers.{StopsShort, concat_slices};
 ghost use Rattle.hex.specs.Hex.{encode_lower};
 ghost use Rattle.gix_ref_hash.specs.Ids.{id_bytes};
 ghost use Rattle.gix_ref_log.specs.LogLines.{CanWriteLine, message_part, line_text, head_text, appended_text};
@@ -12,10 +13,10 @@ ghost use Rattle.gix_ref_log.specs.declared.log.line.Line.{Line};
 
 use super::Line;
 use crate::actor::{self, SignatureRef};
-use crate::writer::write_parts;
+use crate::writer::{push_parts, write_parts};
 use bstr::ByteSlice;
 use gix_ref_hash::hash::ObjectId;
-use std::alloc::Global;
+use std::alloc::{AllocError, Global};
 use std::io;
 use thiserror::Error;
 
@@ -28,12 +29,12 @@ pub enum WriteError {
     /// The signature cannot be written. Nothing was written.
     #[error("the signature of a log line cannot be written")]
     SignatureUnwritable,
-    /// The writer failed; it holds what it took before.
+    /// The writer failed; it holds a beginning of the line, and not all of it.
     #[error("the log line could not be written: {0}")]
     Io(io::Error),
 }
 
-/// Why a transaction's line was not made.
+/// Why a line was not added to a text.
 #[derive(Clone, Copy, Debug, PartialEq, Eq, Error)]
 pub enum AppendError {
     /// The message holds LF.
@@ -56,28 +57,58 @@ fn hex_digits<'a>(id: &ObjectId, room: &'a mut [u8; 64]) -> &'a [u8]
     digits
 }
 
-/// Writes the ids and the signature.
-fn write_head<W: io::Write>(
-    previous: &ObjectId,
-    new: &ObjectId,
-    who: SignatureRef<'_>,
-    out: &mut W,
-) -> io::Result<()>
-    requires { CanWrite (signature_ref_who who) }
+/// The parts of a line, of whose ids, seconds and offset these are the texts.
+fn line_parts<'a>(
+    line: &'a Line,
+    previous: &'a [u8],
+    new: &'a [u8],
+    seconds: &'a [u8],
+    zone: &'a [u8],
+) -> [&'a [u8]; 14]
+    requires previous { previous.now ≡ encode_lower (id_bytes line.now.previous_oid) }
+    requires new { new.now ≡ encode_lower (id_bytes line.now.new_oid) }
+    requires seconds { seconds.now ≡ signed_decimal line.now.signature.time.seconds }
+    requires zone { zone.now ≡ offset_text line.now.signature.time.offset }
+    ensures { concat_slices result ≡ line_text line.now }
+{
+    let (name, email) = (&line.signature.name, &line.signature.email);
+    let message = &line.message;
+    [
+        previous, b" ", new, b" ", name, b" <", email, b"> ", seconds, b" ", zone, b"\t", message,
+        b"\n",
+    ]
+}
+
+/// Writes a line, of whose offset this is the text.
+pub(super) fn write_line<W: io::Write>(line: &Line, zone: &[u8], out: &mut W) -> io::Result<()>
+    requires { zone.now ≡ offset_text line.now.signature.time.offset }
     ensures written { OnOk result (Appends (W.contents out.old) (W.contents out.new)
-        (head_text previous.now new.now (signature_ref_who who.entry))) }
+        (line_text line.now)) }
     ensures stopped { IfErr result (StopsShort (W.contents out.old) (W.contents out.new)
-        (head_text previous.now new.now (signature_ref_who who.entry))) }
+        (line_text line.now)) }
 {
     let (mut room, mut new_room) = ([0u8; 64], [0u8; 64]);
-    let previous = hex_digits(previous, &mut room);
-    let new = hex_digits(new, &mut new_room);
-    write_parts(out, &[previous, b" ", new, b" "])?;
-    match who.write_to(out) {
-        Ok(()) => Ok(()),
-        Err(actor::WriteError::Io(error)) => Err(error),
-        Err(actor::WriteError::SignatureUnwritable) => unreachable!(),
-    }
+    let previous = hex_digits(&line.previous_oid, &mut room);
+    let new = hex_digits(&line.new_oid, &mut new_room);
+    let mut digits = itoa::Buffer::new();
+    let seconds = digits.format(line.signature.time.seconds).as_bytes();
+    write_parts(out, &line_parts(line, previous, new, seconds, zone))
+}
+
+/// Adds a line, of whose offset this is the text, to a text.
+pub(super) fn push_line(line: &Line, zone: &[u8], text: &mut Vec<u8>) -> Result<(), AllocError>
+    requires { zone.now ≡ offset_text line.now.signature.time.offset }
+    ensures added { OnOk result (text.new.items ≡ text.old.items ++ line_text line.now) }
+    ensures left { OnErr result (text.new.items ≡ text.old.items) }
+    ensures room { OnErr result
+        (vec_capacity text.old < vec_len text.old + length (line_text line.now)) }
+{
+    let (mut room, mut new_room) = ([0u8; 64], [0u8; 64]);
+    let previous = hex_digits(&line.previous_oid, &mut room);
+    let new = hex_digits(&line.new_oid, &mut new_room);
+    let mut digits = itoa::Buffer::new();
+    let seconds = digits.format(line.signature.time.seconds).as_bytes();
+    push_parts(text, &line_parts(line, previous, new, seconds, zone))
 }
 
 /// The bytes that most ids and signatures need.
@@ -103,23 +134,6 @@ fn push_head(
         Err(actor::WriteError::Io(error)) => Err(error),
         Err(actor::WriteError::SignatureUnwritable) => unreachable!(),
     }
-}
-
-/// Writes a line whose signature can be written.
-pub(super) fn write_line<W: io::Write>(line: &Line, out: &mut W) -> io::Result<()>
-    requires { CanWrite (signature_who line.now.signature) }
-    ensures written { OnOk result (Appends (W.contents out.old) (W.contents out.new)
-        (line_text line.now)) }
-    ensures stopped { IfErr result (StopsShort (W.contents out.old) (W.contents out.new)
-        (line_text line.now)) }
-{
-    write_head(
-        &line.previous_oid,
-        &line.new_oid,
-        line.signature.to_ref(),
-        out,
-    )?;
-    write_parts(out, &[b"\t", &line.message, b"\n"])
 }
 
 /// The bytes of a line, whose signature can be written, without a tab before an empty message.
