@@ -13,3 +13,5 @@ mod made;
 mod reader;
 #[cfg(test)]
 mod signatures;
+#[cfg(test)]
+mod writer;

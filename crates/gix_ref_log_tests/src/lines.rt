@@ -1,7 +1,8 @@
 //! Lines of reflogs: which texts are read, what is written, and what cannot be (`git reflog`, `git update-ref`).
 use crate::made::{ONES, ZEROS, committer, copy, id, joined};
+use crate::writer::Slow;
 use gix_ref_hash::hash::Kind;
-use gix_ref_log::log::{Line, LineRef, WriteError};
+use gix_ref_log::log::{AppendError, Line, LineRef, WriteError};
 use std::alloc::Global;
 use std::process::Abort;
 
@@ -37,4 +38,32 @@ fn a_writer_that_fails(rt: HostRuntime) {
     let failed = line(&rt, rt.alloc(), b"C", b"ab").write_to(&mut short);
     assert!(rt; matches!(failed, Err(WriteError::Io(_))), "no room");
     assert!(rt; room.starts_with(ZEROS), "what it took before");
+}
+
+#[test]
+fn a_line_is_added_to_a_text(rt: HostRuntime) {
+    let alloc = rt.alloc();
+    let mut text = Vec::from_slice(alloc, b"before\n").expect(&rt, "memory");
+    let added = line(&rt, alloc, b"C", b"why").push_to(&mut text);
+    assert!(rt; added.is_ok(), "it is added");
+    let who = b" C <c@example.com> 1234 +0800\twhy\n".as_slice();
+    let want = joined(&rt, alloc, &[b"before\n", ZEROS, b" ", ONES, who]);
+    assert!(rt; text == want, "behind what was there");
+    let refused = line(&rt, alloc, b"<", b"why").push_to(&mut text);
+    assert!(rt;
+        refused == Err(AppendError::SignatureUnwritable),
+        "a name with <"
+    );
+    assert!(rt; text == want, "and nothing is added");
+}
+
+#[test]
+fn a_writer_that_is_slow_and_interrupted(rt: HostRuntime) {
+    let alloc = rt.alloc();
+    let made = line(&rt, alloc, b"C", b"why");
+    let mut want = Vec::new(alloc);
+    assert!(rt; made.push_to(&mut want).is_ok(), "the text");
+    let mut slow = Slow::new(alloc);
+    assert!(rt; made.write_to(&mut slow).is_ok(), "it is written");
+    assert!(rt; slow.taken == want, "byte by byte");
 }
