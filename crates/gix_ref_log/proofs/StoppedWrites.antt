@@ -1,15 +1,14 @@
 -- What a writer holds where a text of several parts stopped short.
-use Rattle.std.proofs.Common.{◌≡◌, ◌≢◌, ℕ, ◌+◌, ◌<◌, List, ◌++◌, length, take, drop, sym, ap, ◌∙◌, subst, arith, length-append, take-append-drop, take-add, Option}
+use Rattle.std.proofs.Common.{◌≡◌, ℕ, ◌+◌, List, ◌++◌, length, take, drop, sym, ap, ◌∙◌, subst, arith, length-append, take-append-drop, take-add, Option}
 use Rattle.std.proofs.lemmas.List.{take-append-le}
 use Rattle.std.proofs.Math.Seq.{take-append-add}
-use Rattle.std.proofs.KnownBytes.{Appends-trans, Appends-kept}
-use Rattle.std.specs.Io.KnownBytes.{Appends, Keeps}
+use Rattle.std.proofs.KnownBytes.{Appends-trans}
+use Rattle.std.specs.Io.KnownBytes.{Appends}
 use Rattle.std.specs.declared.io.Error.{Error}
-use Rattle.std.specs.IoError.{error_kind}
-use Rattle.std.specs.declared.io.ErrorKind.TheVariants.{Interrupted}
 use Rattle.std.specs.Borrow.{Bor}
 use Rattle.std.proofs.lemmas.List.Concat.{flat_map-append}
-use Rattle.gix_ref_log.specs.Writers.{StopsShort, concat_slices}
+use Rattle.gix_ref_log.specs.Writers.{StopsShort}
+use Rattle.gix_ref_log.specs.internal.Parts.{concat_slices}
 
 -- more of the text was to follow
 pub StopsShort-before : (old new : Option (List ℕ)) (text after : List ℕ) (error : Error) → StopsShort old new text error → StopsShort old new (text ++ after) error
@@ -30,13 +29,6 @@ StopsShort-after old mid new before text error written stopped =
       begun = (length before + n, omega (arith, length-append before text), subst (Appends old new) (sym (take-append-add before text n)) joined);
       retried = stopped.retried;
     }
-
--- a count of bytes was written, and then nothing
-pub StopsShort-at : (old mid new : Option (List ℕ)) (text : List ℕ) (n : ℕ) (error : Error) → n < length text → Appends old mid (take n text) → Keeps mid new → error_kind error ≢ Interrupted → StopsShort old new text error
-StopsShort-at old mid new text n error within written kept retried = record {
-  begun = (n, within, Appends-kept old mid new (take n text) written kept);
-  retried = retried;
-}
 
 -- some bytes more were written
 pub Appends-more : (old mid new : Option (List ℕ)) (text : List ℕ) (n count : ℕ) → Appends old mid (take n text) → Appends mid new (take count (drop n text)) → Appends old new (take (n + count) text)

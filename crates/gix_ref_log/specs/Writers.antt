@@ -1,6 +1,5 @@
 -- What a writer holds of a text that was written to it.
-use Rattle.std.specs.Prelude.{ℕ, ◌<◌, ◌≢◌, List, length, take, flat_map, Option}
-use Rattle.std.specs.Borrow.{Bor}
+use Rattle.std.specs.Prelude.{ℕ, ◌<◌, ◌≢◌, List, length, take, Option}
 use Rattle.std.specs.Io.KnownBytes.{Appends}
 use Rattle.std.specs.IoError.{error_kind}
 use Rattle.std.specs.declared.io.Error.{Error}
@@ -15,7 +14,3 @@ AppendsBeginning old new text = (n : ℕ) × (n < length text) × Appends old ne
 pub record StopsShort (old new : Option (List ℕ)) (text : List ℕ) (error : Error) : Type 0 where
   pub begun : AppendsBeginning old new text
   pub retried : error_kind error ≢ Interrupted
-
--- the bytes of the slices, one after the other
-abbrev pub concat_slices : List (Bor (List ℕ)) → List ℕ
-concat_slices parts = flat_map (λ part. part.now) parts

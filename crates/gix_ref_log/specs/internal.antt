@@ -1,1 +1,2 @@
 pub mod LogFast
+pub mod Parts

@@ -3,7 +3,8 @@ ghost use Rattle.std.specs.Prelude.{◌≡◌, ◌+◌, ◌<◌, ◌≤◌, ◌�
 ghost use Rattle.std.specs.Io.KnownBytes.{Appends, Keeps};
 ghost use Rattle.std.specs.IoError.{error_kind};
 ghost use Rattle.std.specs.declared.io.ErrorKind.TheVariants.{Interrupted};
-ghost use Rattle.gix_ref_log.specs.Writers.{StopsShort, concat_slices};
+ghost use Rattle.gix_ref_log.specs.Writers.{StopsShort};
+ghost use Rattle.gix_ref_log.specs.internal.Parts.{concat_slices};
 
 use std::alloc::AllocError;
 use std::io;

@@ -1,6 +1,6 @@
 use Rattle.std.proofs.Common.{ℕ, List, [], length, take, arith, length-append, ap, ◌∙◌, Bor}
 use Rattle.std.proofs.lemmas.List.Folds.{length-flat_map-take}
-use Rattle.gix_ref_log.specs.Writers.{concat_slices}
+use Rattle.gix_ref_log.specs.internal.Parts.{concat_slices}
 use Rattle.gix_ref_log.proofs.writer.push_parts.Goals as goal
 
 pub returns-in-Err-clause-room : goal.returns-in-Err-clause-room

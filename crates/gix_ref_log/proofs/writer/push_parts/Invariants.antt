@@ -1,6 +1,6 @@
 -- The parts so far are added.
 use Rattle.std.proofs.Common.{◌≡◌, ◌≤◌, ◌++◌, take, vec_capacity}
-use Rattle.gix_ref_log.specs.Writers.{concat_slices}
+use Rattle.gix_ref_log.specs.internal.Parts.{concat_slices}
 use Rattle.gix_ref_log.proofs.writer.push_parts.Given as goal
 
 abbrev pub invariant-loop-part : goal.invariant-loop-part

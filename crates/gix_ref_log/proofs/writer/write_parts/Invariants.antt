@@ -1,7 +1,7 @@
 -- The parts so far are written.
 use Rattle.std.proofs.Common.{take}
 use Rattle.std.specs.Io.KnownBytes.{Appends}
-use Rattle.gix_ref_log.specs.Writers.{concat_slices}
+use Rattle.gix_ref_log.specs.internal.Parts.{concat_slices}
 use Rattle.gix_ref_log.proofs.writer.write_parts.Given as goal
 
 abbrev pub invariant-loop-part : goal.invariant-loop-part
