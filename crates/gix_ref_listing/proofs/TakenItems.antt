@@ -1,5 +1,6 @@
 -- What was taken of a listing, as its next item.
-use Rattle.std.proofs.Common.{ℕ, List, refl, sym, subst, Some, Result, Ok, Err}
+use Rattle.std.proofs.Common.{◌≡◌, ℕ, List, refl, sym, subst, Some, Result, Ok, Err}
+use Rattle.std.specs.Prelude.{OnOk}
 use Rattle.gix_ref_files.specs.Files.{Meaning}
 use Rattle.gix_ref_theory.specs.OnRealTrees.{view_of}
 use Rattle.gix_ref_records.specs.declared.raw.Reference.{Reference}
@@ -8,12 +9,17 @@ use Rattle.gix_ref_listing.specs.GoneFiles.{IsFoundOrGone, IsTakenItem}
 use Rattle.gix_ref_listing.specs.Listings.{Listed, TakesListed, merged_listing}
 use Rattle.gix_ref_listing.specs.Listings.Listed.{Walked, InPacked}
 use Rattle.gix_ref_listing.specs.OwnRecords.{own_of}
-use Rattle.gix_ref_listing.specs.Steps.{GivesItem}
+use Rattle.gix_ref_listing.specs.Steps.{CountsNone, GivesItem}
 use Rattle.gix_ref_listing.specs.declared.error.Error.{Error}
 use Rattle.gix_ref_listing.specs.declared.found.Found.{Found}
 use Rattle.gix_ref_listing.specs.declared.merge.Merge.{Merge}
 use Rattle.gix_ref_listing.specs.declared.merge.Taken.{Taken}
 use Rattle.gix_ref_listing.specs.declared.merge.Taken.TheVariants as taking
+
+-- no fault was counted where the item is a reference
+pub counts_none : (before now : ℕ) (item : Result Reference Error) → OnOk item (now ≡ before) → CountsNone before now (Some item)
+counts_none before now (Ok r) same = same
+counts_none before now (Err e) same = tt
 
 module _ {F : Type 0} (honest : Type 0) (means : F → Meaning) (faults : F → ℕ) (settings : Settings) (before now : F) where
   pub gives_taken : (listed : List Listed) (taken : Taken) (item : Result Reference Error) (t : Merge) → TakesListed settings listed (Some taken) t →

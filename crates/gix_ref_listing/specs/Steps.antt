@@ -1,5 +1,5 @@
 -- One item of a listing after the other.
-use Rattle.std.specs.Prelude.{◌≡◌, ◌≤◌, ℕ, List, [], ◌∷◌, Option, Some, None, Result}
+use Rattle.std.specs.Prelude.{◌≡◌, ◌≤◌, ℕ, List, [], ◌∷◌, Option, Some, None, Result, Ok, Err}
 use Rattle.gix_ref_files.specs.Files.{Meaning, Leaves}
 use Rattle.gix_ref_files.specs.Calls.{Unchanged}
 use Rattle.gix_ref_theory.specs.OnRealTrees.{view_of}
@@ -28,6 +28,12 @@ pub record GivesRecord (settings : Settings) (s t : Merge) (own : OwnRecord) : T
       × (listed ≡ InPacked (own_of own) ∷ more) × AreYet settings t more
   pub goes_on : IsDrained s → ⊥
 
+-- no fault was counted, unless the item is a fault
+abbrev pub CountsNone : (before now : ℕ) → Option (Result Reference Error) → Type 0
+CountsNone before now None = now ≡ before
+CountsNone before now (Some (Ok r)) = now ≡ before
+CountsNone before now (Some (Err e)) = Unit {0}
+
 module _ {F : Type 0} (honest : Type 0) (means : F → Meaning) (faults : F → ℕ) where
   -- the item is the first of these, and the rest is yet to come; or none is left
   abbrev pub GivesItem : Settings → (before now : F) → List Listed →
@@ -38,13 +44,14 @@ module _ {F : Type 0} (honest : Type 0) (means : F → Meaning) (faults : F → 
       × IsGivenItem honest settings (view_of (means before).tree) (faults before) (faults now) one
       item
 
-  -- What giving an item does: it is the first of those that are yet to come; no file changes; and what has ended stays ended,
-  -- whatever the texts are.
+  -- What giving an item does: it is the first of those that are yet to come; no file changes; a fault that is counted is told by the
+  -- item; and what has ended stays ended, whatever the texts are.
   pub record GivesNext (settings : Settings) (before now : F) (s : Merge)
       (r : Option (Result Reference Error)) (t : Merge) : Type 0 where
     pub gives : (listed : List Listed) → AreYet settings s listed →
         GivesItem settings before now listed r t
     pub rises : faults before ≤ faults now
+    pub counts : CountsNone (faults before) (faults now) r
     pub leaves : honest → Leaves (means before) (means now) (Unchanged (means before).tree)
     pub ends : r ≡ None → IsDrained t
     pub stays_ended : IsDrained s → r ≡ None

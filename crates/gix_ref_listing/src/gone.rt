@@ -1,6 +1,6 @@
 //! A file that a walk found, and that is gone when its item is read: a program that packs references may have moved the reference
 //! into `packed-refs` since (`git pack-refs`). So its name is asked for once more.
-ghost use Rattle.std.specs.Prelude.{◌≡◌, ℕ, List, None, IfOk, IfSome, IfNone};
+ghost use Rattle.std.specs.Prelude.{◌≡◌, ℕ, List, None, IfOk, IfSome, IfNone, OnOk};
 ghost use Rattle.gix_ref_name.specs.Names.{full_bytes, full_ref_bytes};
 ghost use Rattle.gix_ref_base.specs.PackedRecords.{Record, record_named};
 ghost use Rattle.gix_ref_records.specs.Windows.{AreFound};
@@ -80,6 +80,7 @@ fn find_key<F: Files>(
         IfOk result (AreFound (record_named (full_ref_bytes key.entry) records)) }
     ensures hit { F.honest → IfOk result (λ found. IfSome found (HitsNow settings.entry.kind
         (packed_refs_in settings.entry (F.means files.old)) (full_ref_bytes key.entry))) }
+    ensures no_fault { OnOk result (F.faults files.new ≡ F.faults files.old) }
     ensures looks { OnlyLooks F.honest F.means F.faults files.old files.new }
 {
     let mut records = Records::Unopened;
@@ -104,6 +105,7 @@ fn find_record<F: Files>(
         (λ found. OfKey (meaning_in settings.entry) (full_ref_bytes name.entry)
         (λ key. HitsNow settings.entry.kind (packed_refs_in settings.entry (F.means files.old))
         key found))) }
+    ensures no_fault { OnOk result (F.faults files.new ≡ F.faults files.old) }
     ensures looks { OnlyLooks F.honest F.means F.faults files.old files.new }
 {
     match settings.key_name(alloc, name)? {
@@ -120,6 +122,7 @@ fn find_packed<F: Files>(
     name: FullName,
 ) -> Result<Reference, Error>
     ensures item { IsPackedAgain F.honest settings.entry (contents F.means files.old) name result }
+    ensures no_fault { OnOk result (F.faults files.new ≡ F.faults files.old) }
     ensures looks { OnlyLooks F.honest F.means F.faults files.old files.new }
 {
     match find_record(alloc, files, settings, name.as_ref()) {
@@ -144,6 +147,7 @@ pub(crate) fn find_again<F: Files>(
 ) -> Result<Reference, Error>
     ensures item { IsAskedAgain F.honest settings.entry (contents F.means files.old)
         (F.faults files.old) (F.faults files.new) name result }
+    ensures no_fault { OnOk result (F.faults files.new ≡ F.faults files.old) }
     ensures looks { OnlyLooks F.honest F.means F.faults files.old files.new }
 {
     let place = settings.place(alloc, name.as_ref())?;

@@ -1,5 +1,5 @@
 //! One item of a listing.
-ghost use Rattle.std.specs.Prelude.{◌≡◌, ◌≤◌, ◌+◌, List, IfSome, IfNone};
+ghost use Rattle.std.specs.Prelude.{◌≡◌, ◌≤◌, ◌+◌, List, IfSome, IfNone, OnOk};
 ghost use Rattle.std.specs.Option.{option_len};
 ghost use Rattle.gix_ref_theory.specs.OnRealTrees.{contents};
 ghost use Rattle.gix_ref_lookup.specs.Looks.{OnlyLooks};
@@ -34,6 +34,7 @@ fn file_item<F: Files>(
 ) -> Result<Reference, Error>
     ensures item { IsFoundOrGone F.honest settings.entry (contents F.means files.old)
         (F.faults files.old) (F.faults files.new) (File name path) result }
+    ensures no_fault { OnOk result (F.faults files.new ≡ F.faults files.old) }
     ensures looks { OnlyLooks F.honest F.means F.faults files.old files.new }
 {
     match read_at(alloc, files, settings, name.as_ref(), path) {
@@ -67,6 +68,7 @@ fn item<F: Files>(
 ) -> Result<Reference, Error>
     ensures item { IsTakenItem F.honest settings.entry (contents F.means files.old)
         (F.faults files.old) (F.faults files.new) taken.entry result }
+    ensures no_fault { OnOk result (F.faults files.new ≡ F.faults files.old) }
     ensures looks { OnlyLooks F.honest F.means F.faults files.old files.new }
 {
     match taken {

@@ -25,6 +25,7 @@ module _ {F : Type 0} (honest : Type 0) (means : F → Meaning) (faults : F → 
   given files settings s t own r gave is = record {
     gives = λ listed yet. let first = gave.gives listed yet in (InPacked (own_of own), first.0, first.1, first.2, is);
     rises = omega arith;
+    counts = refl;
     leaves = λ h. starts (means files) _ refl;
     ends = λ none. absurd (cc);
     stays_ended = λ drained. absurd (gave.goes_on drained);

@@ -9,6 +9,7 @@ returns-clause-next g c =
       gives = λ listed yet. gives_plain F.honest F.means F.faults c.args.settings c.args.files.now c.take_item.new.files listed c.take_item.result c.take_item.new.merge
           (step.gives listed (of_plain c.args.settings c.args.merge.now listed yet));
       rises = step.rises;
+      counts = step.counts;
       leaves = step.leaves;
       ends = step.ends;
       stays_ended = step.stays_ended;

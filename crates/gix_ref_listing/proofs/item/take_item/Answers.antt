@@ -1,7 +1,7 @@
 use Rattle.std.proofs.Common.{List, Some, sym, subst}
 use Rattle.gix_ref_listing.specs.Listings.{Listed, merged_listing}
 use Rattle.gix_ref_listing.specs.Steps.{GivesItem}
-use Rattle.gix_ref_listing.proofs.TakenItems.{gives_taken}
+use Rattle.gix_ref_listing.proofs.TakenItems.{counts_none, gives_taken}
 use Rattle.gix_ref_listing.proofs.item.take_item.Goals as goal
 
 pub returns-in-Some-clause-next : goal.returns-in-Some-clause-next
@@ -14,6 +14,7 @@ returns-in-Some-clause-next g c =
           subst (λ (l : List Listed). GivesItem F.honest F.means F.faults c.args.settings before now l (Some c.item.result) c.take.new.self) (sym yet.2)
           (gives_taken F.honest F.means F.faults c.args.settings before now (merged_listing c.args.merge.now.found.entries yet.0) c.in-Some.taken c.item.result c.take.new.self (c.in-Some.ensures.takes yet.0 yet.1) c.item.ensures.item);
       rises = c.item.ensures.looks.no_fewer;
+      counts = counts_none (F.faults before) (F.faults now) c.item.result c.item.ensures.no_fault;
       leaves = c.item.ensures.looks.leaves;
       ends = λ none. absurd (cc);
       stays_ended = λ drained. let none = c.take.ensures.stays_ended drained in absurd (cc);
