@@ -53,8 +53,8 @@ written_at (Line path bytes) = Some path
 written_at (Rename from to) = Some to
 written_at other = None
 
--- It was seen that no folder is at the path that a step about this writes: there was a loose file as its edit was compared, or no folder
--- as its line was decided.
+-- It was seen that no folder is at the path that a step about this writes: there was a loose file as its edit was compared, or no
+-- folder as its line was decided.
 abbrev pub is_seen : List Edit → About → Bool
 is_seen edits (about.Rename at) = file_seen_at edits at
 is_seen edits (about.Line at) = is_no_folder_seen (log_seen_at edits at)
@@ -90,8 +90,8 @@ pub record AreInWay (dirs : Dirs) (T : Tree) (seen : Bool) (path : Path)
   pub inside : All (IsAtOrBelow path) folders
   -- and no folder of the store, or above it
   pub outside : All (λ f. IsIn f (roots_of dirs) → ⊥) folders
-  -- Either nothing is removed, and a folder there holds more than empty folders, unless it was seen that none is there: then none is
-  -- sought. Or the folder there is removed, and all that are below it.
+  -- Either nothing is removed, and a folder there holds more than empty folders, unless it was seen that none is there: then none
+  -- is sought. Or the folder there is removed, and all that are below it.
   pub none_or_all : ((folders ≡ []) × (seen ≡ false → is_folder (T path) ≡ true →
       HoldsMore dirs T path)) ⊎ AreAllFolders T path folders
 
@@ -154,8 +154,8 @@ abbrev pub first_component : List ℕ → ℕ
 first_component [] = 0
 first_component (c ∷ rest) = if c == 47 then 0 else suc (first_component rest)
 
--- How many bytes of a path, of which a folder of the store has so many, are those of a folder that stays although it is empty: `logs`, or `refs`
--- and one component more. Of all other paths every folder stays.
+-- How many bytes of a path, of which a folder of the store has so many, are those of a folder that stays although it is empty:
+-- `logs`, or `refs` and one component more. Of all other paths every folder stays.
 abbrev pub kept_below : (root : ℕ) → (path : Path) → (rest : List ℕ) → ℕ
 kept_below root path rest =
     if starts_with nat_eq rest (codes "/logs/") then root + 5

@@ -14,7 +14,8 @@ use Rattle.gix_ref_commit.specs.declared.plan.About.{About}
 use Rattle.gix_ref_commit.specs.declared.run.Unfinished.{Unfinished}
 use Rattle.gix_ref_commit.specs.declared.run.Unfinished.TheVariants.{Memory, Step}
 
--- A run of these entries ended at one of them: those before it are done, and it ended the run for this cause, which left the tree T.
+-- A run of these entries ended at one of them: those before it are done, and it ended the run for this cause, which left the tree
+-- T.
 pub record EndsAtStep (honest : Type 0) (entries : List Entry) (start T : Tree) (about : About)
     (cause : Cause) : Type 0 where
   pub before : List Entry

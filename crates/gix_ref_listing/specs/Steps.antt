@@ -44,8 +44,8 @@ module _ {F : Type 0} (honest : Type 0) (means : F → Meaning) (faults : F → 
       × IsGivenItem honest settings (view_of (means before).tree) (faults before) (faults now) one
       item
 
-  -- What giving an item does: it is the first of those that are yet to come; no file changes; a fault that is counted is told by the
-  -- item; and what has ended stays ended, whatever the texts are.
+  -- What giving an item does: it is the first of those that are yet to come; no file changes; a fault that is counted is told by
+  -- the item; and what has ended stays ended, whatever the texts are.
   pub record GivesNext (settings : Settings) (before now : F) (s : Merge)
       (r : Option (Result Reference Error)) (t : Merge) : Type 0 where
     pub gives : (listed : List Listed) → AreYet settings s listed →

@@ -21,7 +21,8 @@ BecomesFile (Text text) before now = now ≡ Some text.items
 abbrev pub folders_at : Path → List Path
 folders_at place = folder_of place ∷ fronts place
 
--- Before a commit: the lock is there and empty, as it was taken; and a loss of power leaves `packed-refs` and its folders as they are.
+-- Before a commit: the lock is there and empty, as it was taken; and a loss of power leaves `packed-refs` and its folders as they
+-- are.
 pub record IsReadyOn (place : Path) (D : Disk) : Type 0 where
   pub lock : IsWholeAt D (lock_of place) []
   pub file : IsSettledAt D (file_of (D.tree place)) place
@@ -37,8 +38,8 @@ abbrev pub OthersSettled : (place : Path) → (D E : Disk) → Type 0
 OthersSettled place D E = (q : Path) → q ≢ place → q ≢ lock_of place →
     IsSettledAt D (file_of (D.tree q)) q → IsSettledAt E (file_of (D.tree q)) q
 
--- A loss of power in a commit, which begins with the disk D: `packed-refs` is as before or as the rewrite makes it, and the others are as
--- before.
+-- A loss of power in a commit, which begins with the disk D: `packed-refs` is as before or as the rewrite makes it, and the others
+-- are as before.
 abbrev pub IsLostOf :
     Kind → Option Buffer → List ChangeValue → (place : Path) → Disk → Tree → Type 0
 IsLostOf kind records changes place D T =

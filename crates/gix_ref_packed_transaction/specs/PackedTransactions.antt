@@ -39,8 +39,8 @@ changes_of t = change_values t.changes.items
 abbrev pub AreDistinct : List ChangeValue → Type 0
 AreDistinct changes = IsStrictlySortedBy (slice_cmp nat_cmp) (keys_in changes)
 
--- what becomes of the file by the changes: of no records, where there is none; else of these, where it holds them in the order of their
--- names
+-- what becomes of the file by the changes: of no records, where there is none; else of these, where it holds them in the order of
+-- their names
 abbrev pub IsMadeOf : Kind → Option Buffer → List ChangeValue → Rewrite → Type 0
 IsMadeOf kind None changes rewrite = AreDistinct changes → IsChanged kind changes [] rewrite
 IsMadeOf kind (Some buffer) changes rewrite =
@@ -112,8 +112,8 @@ IsUnbegun Memory = Unit {0}
 IsUnbegun (Commit error) = ⊥
 IsUnbegun (Io error) = ⊥
 
--- Why a commit failed: the rename failed, or a folder is at the place; another call of files failed; a line of the records is no record; or
--- there was no memory.
+-- Why a commit failed: the rename failed, or a folder is at the place; another call of files failed; a line of the records is no
+-- record; or there was no memory.
 abbrev pub SaysWhyPacked : (honest : Type 0) → Kind → Option Buffer → (place : Path) →
     (before now : ℕ) → Tree → Error → Type 0
 SaysWhyPacked honest kind records place before now T (Commit error) =

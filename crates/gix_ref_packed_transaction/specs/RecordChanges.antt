@@ -36,8 +36,8 @@ change_of_name name (Some id) peeled change =
 change_of_name name None peeled change =
     if deletes_reference change then Some (name, None) else None
 
--- The change of the record of an edit's name, if it changes that: an update puts its object, which has the one at the end of its tags, and a
--- deletion removes the record.
+-- The change of the record of an edit's name, if it changes that: an update puts its object, which has the one at the end of its
+-- tags, and a deletion removes the record.
 pub record IsChangeOf (claims : Type 0) (meaning : ObjectId → Stored) (kind : Kind)
     (edit : RefEdit) (change : Option ChangeValue) : Type 0 where
   pub peeled : Option ObjectId

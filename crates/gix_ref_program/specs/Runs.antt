@@ -199,8 +199,8 @@ module _ {F : Type 0} where
         (partial_error name ≡ Some error) × (new ≡ old) × (locks.items ≡ [])
     ShowOutcome G old new name outcome = ⊥
 
-    -- Items of the listing of a prefix, between two counts of faults: the first ones, all where `whole` says so. A folder that could
-    -- not be listed is among them only where the count rose.
+    -- Items of the listing of a prefix, between two counts of faults: the first ones, all where `whole` says so. A folder that
+    -- could not be listed is among them only where the count rose.
     pub record AreListed (settings : Settings) (view : View) (before now : ℕ)
         (records : List Record) (prefix : List ℕ) (whole : Bool)
         (items : List (Result Reference ListError)) : Type 0 where
@@ -341,8 +341,8 @@ module _ {F : Type 0} where
           ⊎ ((start : F) × (text : List ℕ) × HasSameDisk files start × HasText files path text
           × IsTextStop start line text T)
 
-      -- A loss of power in the text of a script leaves this tree: each file that was settled is as before, or it is what a loss in its
-      -- lines leaves.
+      -- A loss of power in the text of a script leaves this tree: each file that was settled is as before, or it is what a loss in
+      -- its lines leaves.
       abbrev pub IsTextLoss : (start : F) → LineAsked → (text : List ℕ) → Tree → Type 0
       IsTextLoss start line text T =
           IsKept means start T
@@ -375,8 +375,8 @@ module _ {F : Type 0} where
           × IsOpened files line old × IsStop old (terms_of line committer uses) line.asked T)
           ⊎ ((path : List ℕ) × (line.asked ≡ Script path) × IsStopInScript files line path T))
 
-      -- A loss of power in a line that writes leaves this tree: each file that was settled is as before, or it is what a loss in its
-      -- transaction, or in its script, leaves.
+      -- A loss of power in a line that writes leaves this tree: each file that was settled is as before, or it is what a loss in
+      -- its transaction, or in its script, leaves.
       abbrev pub IsLossIn : F → LineAsked → Tree → Type 0
       IsLossIn files line T =
           IsKept means files T

@@ -65,8 +65,8 @@ module _ {F : Type 0} (honest : Type 0) (means : F → Meaning) (faults : F → 
       ⊎ ((asked : List Asked) × AsksFor line asked
       × IsWriteLoss honest means faults terms asked old T)
 
-  -- A stop in a script of these lines: stores S0, .., Sk, of which each is made of the one before by the next line; and the tree is left by
-  -- a stop in the line that follows, or is that of Sk, where none follows.
+  -- A stop in a script of these lines: stores S0, .., Sk, of which each is made of the one before by the next line; and the tree is
+  -- left by a stop in the line that follows, or is that of Sk, where none follows.
   abbrev pub IsScriptStop : (lines : List (List ℕ)) → Store F → Tree → Type 0
   IsScriptStop lines old T = IsWithinSteps LineMade (λ s. T ≡ tree_of means s)
       (IsLineStop T) lines old

@@ -37,8 +37,8 @@ error_of (Ok done) = None
 error_of (Err failed) = Some (Commit failed.error)
 
 module _ {F : Type 0} (means : F → Meaning) where
-  -- these are the edits whose locks are tried: the split list of those that are asked for, or these, where there is none; where there was
-  -- no memory for composed names, they are those that are given
+  -- these are the edits whose locks are tried: the split list of those that are asked for, or these, where there is none; where
+  -- there was no memory for composed names, they are those that are given
   abbrev pub AreTried : Store F → (edits tried : List RefEdit) → Type 0
   AreTried old edits tried =
       (asked : List RefEdit) × (AreAskedAs old.precompose_unicode edits asked ⊎ (asked ≡ edits))
@@ -55,8 +55,8 @@ module _ {F : Type 0} (honest : Type 0) (means : F → Meaning) (faults : F → 
     pub prepared : PreparesGiven honest means faults (OfFinder claims-value.it uses)
         (ends_of meaning-value.it uses) (mode_in uses) old mid edits packed held
 
-  -- A stop in an update: before its commit nothing is added but its locks and folders on the way to them; in it, where `packed-refs` was
-  -- good, each reference reads as before or as edited.
+  -- A stop in an update: before its commit nothing is added but its locks and folders on the way to them; in it, where
+  -- `packed-refs` was good, each reference reads as before or as edited.
   abbrev pub IsStopOf : Store F → Option SignatureRef → List RefEdit → Tree → Type 0
   IsStopOf old committer edits T =
       ((tried : List RefEdit) × AreTried means old edits tried
@@ -67,8 +67,8 @@ module _ {F : Type 0} (honest : Type 0) (means : F → Meaning) (faults : F → 
       × (HasGoodRecords means old → IsOldOrNew (meaning_of old) (mode_in uses) b.prepared.split
       (extras_due means b.mid committer b.held) (tree_of means old) T))
 
-  -- A loss of power in an update: before its commit each file that was settled is as before, but for the locks of the edits; in it each
-  -- reference reads as before or as edited. The commit begins on a disk of which all is settled but locks.
+  -- A loss of power in an update: before its commit each file that was settled is as before, but for the locks of the edits; in it
+  -- each reference reads as before or as edited. The commit begins on a disk of which all is settled but locks.
   abbrev pub IsLossOf : Store F → Option SignatureRef → List RefEdit → Tree → Type 0
   IsLossOf old committer edits T =
       ((tried : List RefEdit) × AreTried means old edits tried
@@ -79,8 +79,8 @@ module _ {F : Type 0} (honest : Type 0) (means : F → Meaning) (faults : F → 
       (places_in means (mode_in uses) old b.prepared.split) (with_extras b.prepared.split
       (extras_due means b.mid committer b.held)) D (tree_of means old) T))
 
-  -- An update that was made: its edits were prepared and committed. Of the transaction's locks only those stay that are named, and one is
-  -- named only where a fault came.
+  -- An update that was made: its edits were prepared and committed. Of the transaction's locks only those stay that are named, and
+  -- one is named only where a fault came.
   pub record UpdateMade (old new : Store F) (committer : Option SignatureRef) (edits : List RefEdit)
       (left : List Path) : Type 0 where
     pub begun : IsBegun old edits

@@ -93,8 +93,8 @@ module _ {F : Type 0} (honest : Type 0) (means : F → Meaning) (faults : F → 
       × IsLossOf honest means faults terms.uses old terms.committer edits T)
 
 module _ {F : Type 0} (honest read : Type 0) (means : F → Meaning) (faults : F → ℕ) (terms : Terms) where
-  -- A transaction that was refused, or whose commit failed, and the locks that stay: the commands have no edits, and nothing is begun;
-  -- or these edits were not made.
+  -- A transaction that was refused, or whose commit failed, and the locks that stay: the commands have no edits, and nothing is
+  -- begun; or these edits were not made.
   abbrev pub IsNotWritten : List Asked → (old new : Store F) → Refusal → (left : List Path) → Type 0
   IsNotWritten asked old new refusal left =
       (NoEdits terms asked refusal × (new ≡ old) × (left ≡ []))

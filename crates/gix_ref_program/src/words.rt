@@ -202,7 +202,7 @@ fn prefix_of<'w>(words: &[&'w [u8]]) -> Result<Option<&'w [u8]>, WrongWords>
 }
 
 /// The command of these words.
-pub fn command_of<'w>(words: &[&'w [u8]]) -> Option<Command<'w>>
+pub(crate) fn command_of<'w>(words: &[&'w [u8]]) -> Option<Command<'w>>
     ensures { MatchOption result ((asked : Asked) → IsCommand (texts words.now) asked → ⊥)
         (λ command. IsCommand (texts words.now) (command_asked command)) }
 {

@@ -37,8 +37,8 @@ abbrev pub extras_due : {F : Type 0} (means : F → Meaning) → Store F →
     (committer : Option SignatureRef) → List Edit → List Extra
 extras_due means store committer held = with_ends (lines_due means store committer held) held
 
--- each line that is due can be made and added: there is a committer, its signature and the message can be written, and no file is in the
--- path of the log
+-- each line that is due can be made and added: there is a committer, its signature and the message can be written, and no file is
+-- in the path of the log
 abbrev pub LinesPass : {F : Type 0} (honest : Type 0) (means : F → Meaning) → Store F →
     (committer : Option SignatureRef) → List Edit → Type 0
 LinesPass honest means store committer held = honest →

@@ -40,8 +40,8 @@ module _ {F : Type 0} (honest : Type 0) (means : F → Meaning) (faults : F → 
     -- which is no line of a well-formed `packed-refs`
     pub sound : NoBadLineFrom honest means faults start packed held error
 
-  -- At each moment of a commit, where `packed-refs` was well formed, each reference reads as before or as edited; and of the locks only
-  -- these stay, which it names.
+  -- At each moment of a commit, where `packed-refs` was well formed, each reference reads as before or as edited; and of the locks
+  -- only these stay, which it names.
   pub record EveryMomentIsSafe (start new : Store F) (committer : Option SignatureRef)
       (packed : Option Path) (held : List Edit) (left : List Path) : Type 0 where
     -- at every stop, and at its end

@@ -74,7 +74,8 @@ ChangesLocks locks before T = (q : Path) → is_in locks q ≡ false → T q ≡
 
 module _ {F : Type 0} (honest : Type 0) (means : F → Meaning) (faults : F → ℕ) where
   -- A commit, from the store `start` with these edits of a `prepare` that began with the store `old`: where `packed-refs` was well
-  -- formed, every stop leaves each reference as before or as edited; of the locks only those stay that are named, and one is named only where a fault came.
+  -- formed, every stop leaves each reference as before or as edited; of the locks only those stay that are named, and one is named
+  -- only where a fault came.
   pub record EveryStopIsOldOrNew (mode : Mode) (old start new : Store F) (given : List RefEdit)
       (extras : List Extra) (left : List Path) : Type 0 where
     -- the tree with which it begins, which a stop before its first change leaves
@@ -134,9 +135,9 @@ module _ {F : Type 0} (honest : Type 0) (means : F → Meaning) (faults : F → 
   abbrev pub IsPackedEmpty : Store F → Option Path → Type 0
   IsPackedEmpty start packed = IsPackedLockEmpty packed (tree_of means start)
 
-  -- Where a commit ended early: at the step about this, for this cause. All lines and `packed-refs` were decided before, the new text of
-  -- `packed-refs` is in its lock, the steps before that one are done, and none after it is begun; then locks were removed, and empty
-  -- folders above what is deleted.
+  -- Where a commit ended early: at the step about this, for this cause. All lines and `packed-refs` were decided before, the new
+  -- text of `packed-refs` is in its lock, the steps before that one are done, and none after it is begun; then locks were removed,
+  -- and empty folders above what is deleted.
   pub record EndsEarlyAt (start new : Store F) (committer : Option SignatureRef)
       (packed : Option Path) (held : List Edit) (about : About) (cause : Cause) : Type 0 where
     pub ran : List Edit
@@ -228,8 +229,8 @@ module _ {F : Type 0} (honest : Type 0) (means : F → Meaning) (faults : F → 
   FailsForLog start new committer packed held error =
       RefusesLine start new committer packed held error
 
-  -- Right before this step a folder and each one below it were removed in turn, all that was there before the first write, and yet it is not empty as
-  -- the run ends: then a file was written below it since.
+  -- Right before this step a folder and each one below it were removed in turn, all that was there before the first write, and yet
+  -- it is not empty as the run ends: then a file was written below it since.
   pub record IsFilledAgain (dirs : Dirs) (about : About) (first mid : Tree) (before : List Entry)
       (path : Path) : Type 0 where
     pub front : List Entry
@@ -243,8 +244,8 @@ module _ {F : Type 0} (honest : Type 0) (means : F → Meaning) (faults : F → 
   pub record IsNotEmptied (start new : Store F) (committer : Option SignatureRef)
       (packed : Option Path) (held : List Edit) (about : About) (cause : Cause)
       (at : EndsEarlyAt start new committer packed held about cause) (path : Path) : Type 0 where
-    -- a folder that was there before the first write held more than empty folders then, or a file was written below it since; where it was
-    -- seen that no folder is there none was sought
+    -- a folder that was there before the first write held more than empty folders then, or a file was written below it since; where
+    -- it was seen that no folder is there none was sought
     pub there : is_seen at.ran about ≡ false →
         is_folder (at.filled path) ≡ true → HoldsMore start.dirs at.filled path
         ⊎ IsFilledAgain start.dirs about at.filled at.mid at.stops.before path
@@ -258,7 +259,8 @@ module _ {F : Type 0} (honest : Type 0) (means : F → Meaning) (faults : F → 
       (at : EndsEarlyAt start new committer packed held about Unexpected) × (is_folder (at.mid path)
       ≡ true → IsNotEmptied start new committer packed held about Unexpected at path)
 
-  -- Where a folder was in the place of a reference, of its log, or of `packed-refs`, as the run ended; or a file was in the path of the log.
+  -- Where a folder was in the place of a reference, of its log, or of `packed-refs`, as the run ended; or a file was in the path of
+  -- the log.
   abbrev pub MeetsFolder : (start new : Store F) → Option SignatureRef → Option Path → List Edit →
       Path → Type 0
   MeetsFolder start new committer packed held path =
@@ -271,9 +273,9 @@ module _ {F : Type 0} (honest : Type 0) (means : F → Meaning) (faults : F → 
       × ((before : EndsEarlyAt start new committer packed held Packed Unexpected)
       × (IsPackedPlace (meaning_of start) packed → is_folder (before.mid path) ≡ true))))
 
-  -- Why a commit failed, with these edits. A fault of a call of files came with a rise of their count and is no want of memory, and the
-  -- error says at which edit; a folder is in the place where the commit ended; a line or `packed-refs` was refused or memory was, and then
-  -- nothing but locks has changed.
+  -- Why a commit failed, with these edits. A fault of a call of files came with a rise of their count and is no want of memory, and
+  -- the error says at which edit; a folder is in the place where the commit ended; a line or `packed-refs` was refused or memory
+  -- was, and then nothing but locks has changed.
   abbrev pub FailsFor : (start new : Store F) → Option SignatureRef → Option Path → List Edit →
       Error → Type 0
   FailsFor start new committer packed held (CreateOrUpdateRefLog error) =

@@ -55,8 +55,9 @@ abbrev pub IsInOneOf : List Path → Path → Type 0
 IsInOneOf [] q = ⊥
 IsInOneOf (path ∷ paths) q = IsAtOrBelow path q ⊎ IsInOneOf paths q
 
--- Each folder of the tree `before` is in T, but those at or below a path that is written, which were in the way of its file, and those above a
--- path that was removed: up to `logs`, or `refs` and one component more. The git folder, the common folder and those above them stay.
+-- Each folder of the tree `before` is in T, but those at or below a path that is written, which were in the way of its file, and
+-- those above a path that was removed: up to `logs`, or `refs` and one component more. The git folder, the common folder and those
+-- above them stay.
 abbrev pub FoldersStay : Dirs → (written deleted : List Path) → (before T : Tree) → Type 0
 FoldersStay dirs written deleted before T =
     (q : Path) → before q ≡ Some Folder → (T q ≡ Some Folder)
@@ -68,7 +69,8 @@ module _ {F : Type 0} (honest : Type 0) (means : F → Meaning) (faults : F → 
   outcomes_in start committer held = log_outcomes (line_rules start committer)
       (view_of (means (files_of start)).tree) (asked held)
 
-  -- where a commit of these edits writes: `packed-refs`, where its lock is held, each loose file that is written, and each log whose line is due
+  -- where a commit of these edits writes: `packed-refs`, where its lock is held, each loose file that is written, and each log
+  -- whose line is due
   abbrev pub written_in : Store F → Option SignatureRef → Option Path → List Edit → List Path
   written_in start committer packed held = packed_places packed
       ++ (flat_map written_by held ++ flat_map lined_by (outcomes_in start committer held))

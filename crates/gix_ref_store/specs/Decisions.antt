@@ -1,5 +1,5 @@
--- What a commit decides inside of a store of logs, of `packed-refs` and of the folders in its way, or why it could not; and the locks that
--- it names.
+-- What a commit decides inside of a store of logs, of `packed-refs` and of the folders in its way, or why it could not; and the
+-- locks that it names.
 use Rattle.std.specs.Prelude.{◌≡◌, ◌≢◌, ◌<◌, ℕ, List, Option, None, Result, Ok, Err, length}
 use Rattle.gix_ref_base.specs.PackedRecords.{Record}
 use Rattle.gix_ref_files.specs.Files.{Meaning}
@@ -41,9 +41,8 @@ left_in (Ok remains) = paths_of remains.left.items
 left_in (Err ended) = paths_of ended.left.items
 
 module _ {F : Type 0} (honest : Type 0) (means : F → Meaning) (faults : F → ℕ) where
-  -- A due line was refused; a call of files failed, with a rise of their count, where a folder in the way of a line or of a rename was listed, or
-  -- at `packed-refs`; `packed-refs` has a bad line, and so it is not well formed;
-  -- or memory was refused.
+  -- A due line was refused; a call of files failed, with a rise of their count, where a folder in the way of a line or of a rename
+  -- was listed, or at `packed-refs`; `packed-refs` has a bad line, and so it is not well formed; or memory was refused.
   abbrev pub IsUndecided : (start new : Store F) → Option SignatureRef → List Edit → Error → Type 0
   IsUndecided start new committer held (CreateOrUpdateRefLog (Append source path)) =
       IsFaultBetween honest means faults start new source
@@ -66,8 +65,8 @@ module _ {F : Type 0} (honest : Type 0) (means : F → Meaning) (faults : F → 
   IsUndecided start new committer held Memory = Unit {0}
   IsUndecided start new committer held other = ⊥
 
-  -- What was decided of the logs of these edits, which became `ran`, and of `packed-refs`, with the path that it has. The new text of
-  -- `packed-refs` is in its lock.
+  -- What was decided of the logs of these edits, which became `ran`, and of `packed-refs`, with the path that it has. The new text
+  -- of `packed-refs` is in its lock.
   pub record TextsAreDecided (start new : Store F) (committer : Option SignatureRef)
       (packed : Option Path) (held ran : List Edit) (rewrite : Rewrite)
       (place : Path) : Type 0 where

@@ -117,8 +117,8 @@ module _ {F : Type 0} where
       pub gives : GivesRecord (settings_of s.store.now) s.rest.merge t.rest.merge own
       pub next : (r : Reference) → IsRecordItem (own_of own) (Ok r) → NextItem s (Some (Ok r)) t
 
-    -- These are the first items of a listing, in its order, and `rest` is yet to come. Each is made between two counts of faults, the
-    -- first of which is `before`, and the last at most `now`.
+    -- These are the first items of a listing, in its order, and `rest` is yet to come. Each is made between two counts of faults,
+    -- the first of which is `before`, and the last at most `now`.
     abbrev pub AreFirst : Settings → View → (before now : ℕ) → (listed rest : List Listed) →
         List (Result Reference Error) → Type 0
     AreFirst settings view before now listed rest [] = (before ≤ now) × (listed ≡ rest)
@@ -127,8 +127,8 @@ module _ {F : Type 0} where
         × (before ≤ mid) × IsItem honest settings view before mid one item
         × AreFirst settings view mid now more rest items
 
-    -- What calls of `next` gave up to the iterator t: the first items of the listing, each as the files of the store are; and a call
-    -- gives none only where none is left.
+    -- What calls of `next` gave up to the iterator t: the first items of the listing, each as the files of the store are; and a
+    -- call gives none only where none is left.
     pub record GivesFirst (store : Store F) (listed : List Listed)
         (it t : LooseThenPacked F Remaining) (items : List (Result Reference Error)) : Type 0 where
       pub rest : List Listed
@@ -136,8 +136,8 @@ module _ {F : Type 0} where
           (count_in t) listed rest items
       pub ends : (u : LooseThenPacked F Remaining) → NextItem t None u → rest ≡ []
 
-    -- An iterator over the listing of a prefix of a store: whatever its calls give are the first items of the listing. A folder that
-    -- could not be listed is among them only where the count of faults rose.
+    -- An iterator over the listing of a prefix of a store: whatever its calls give are the first items of the listing. A folder
+    -- that could not be listed is among them only where the count of faults rose.
     pub record IteratesListing (store : Store F) (records : List Record) (prefix : List ℕ)
         (it : LooseThenPacked F Remaining) : Type 0 where
       pub listed : List Listed
@@ -166,8 +166,8 @@ module _ {F : Type 0} (honest : Type 0) (means : F → Meaning) (faults : F → 
     pub counts : faults (stores.files_of start) ≤ faults (stores.files_of now)
     pub looks_up : LooksUp honest means start now
 
-  -- Why there is no listing: after the walk `packed-refs` is not opened, by a call of files that failed or for its text; the prefix has
-  -- none; no memory.
+  -- Why there is no listing: after the walk `packed-refs` is not opened, by a call of files that failed or for its text; the prefix
+  -- has none; no memory.
   abbrev pub IsNoListing : {R : Type 0} (G : Ghosts R) → (start new : Store F) → (prefix : List ℕ) →
       ListError → Type 0
   IsNoListing G start new prefix (PackedOpen error) =

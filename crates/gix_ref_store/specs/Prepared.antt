@@ -54,8 +54,8 @@ module _ {F : Type 0} (means : F → Meaning) where
   HasGoodRecords store = IsPackedWell (kind_of store)
       (view_of (tree_of store) (meaning_of store).packed_path)
 
-  -- Nothing of a store is unsynced but locks, and folders that hold no other file; and the git folder, the common folder and those above
-  -- them stay after every loss of power.
+  -- Nothing of a store is unsynced but locks, and folders that hold no other file; and the git folder, the common folder and those
+  -- above them stay after every loss of power.
   abbrev pub IsAtRest : Store F → Type 0
   IsAtRest store = IsAllSettled (disk_in store) × AllStay (disk_in store) (roots (folders store))
 
@@ -69,8 +69,8 @@ module _ {F : Type 0} (means : F → Meaning) where
   abbrev pub KeepsAll : Mode → (old new : Store F) → List RefEdit → Type 0
   KeepsAll mode old new edits = KeepsAllBut old new (places_in mode old edits)
 
-  -- Every loss of power meanwhile leaves each file that was settled, but for the locks of these places; and all stays as settled as it
-  -- was.
+  -- Every loss of power meanwhile leaves each file that was settled, but for the locks of these places; and all stays as settled as
+  -- it was.
   pub record LosesNothingBut (old new : Store F) (places : List Path) : Type 0 where
     pub keeps : KeepsAllBut old new places
     pub loses : Loses (means (files_of old)) (means (files_of new))
@@ -83,9 +83,10 @@ module _ {F : Type 0} (means : F → Meaning) where
 
 module _ {F : Type 0} (honest read : Type 0) (means : F → Meaning) (faults : F → ℕ)
     (claims : Type 0) (meaning : ObjectId → Stored) (mode : Mode) where
-  -- A refusal. Where `packed-refs` is well formed, its error is the first cause that applies; `Packed` is returned for a `packed-refs` that is
-  -- refused, and `PackedFind` where the record of an edit is asked for and cannot be read; a fault of files came with a rise of their count, or a read by a reader failed; all is as before but for the locks that are
-  -- named, and folders that lead to locks; those that are named are locks of the edits, and one is named only where a fault came.
+  -- A refusal. Where `packed-refs` is well formed, its error is the first cause that applies; `Packed` is returned for a
+  -- `packed-refs` that is refused, and `PackedFind` where the record of an edit is asked for and cannot be read; a fault of files
+  -- came with a rise of their count, or a read by a reader failed; all is as before but for the locks that are named, and folders
+  -- that lead to locks; those that are named are locks of the edits, and one is named only where a fault came.
   pub record RefusesFrom (old new : Store F) (given : List RefEdit) (error : Error)
       (left : List Path) : Type 0 where
     -- the edits whose locks are tried: those of the split list, or as they are given, where there is none
@@ -145,8 +146,8 @@ module _ {F : Type 0} (honest read : Type 0) (means : F → Meaning) (faults : F
     pub same : IsSameStore old new
 
 module _ {F : Type 0} (honest : Type 0) (means : F → Meaning) (faults : F → ℕ) where
-  -- Locks that are held. Where `packed-refs` is well formed, no cause applies; this was found of each edit; each lock has its whole text.
-  -- In any case each edit is valid by itself, its lock was free, and nothing else was added but folders that lead to locks.
+  -- Locks that are held. Where `packed-refs` is well formed, no cause applies; this was found of each edit; each lock has its whole
+  -- text. In any case each edit is valid by itself, its lock was free, and nothing else was added but folders that lead to locks.
   pub record HoldsFrom (mode : Mode) (old new : Store F) (edits : List RefEdit)
       (was : List (Option TargetValue)) : Type 0 where
     pub accepted : honest → HasGoodRecords means old →
@@ -176,8 +177,8 @@ module _ {F : Type 0} (honest : Type 0) (means : F → Meaning) (faults : F → 
         ≡ packed_taken (meaning_of old) mode (tree_of means old) edits
     pub empty : honest → AreEmpty (tree_of means new) (map lock_of (packed_places packed_place))
 
-  -- A transaction whose split list is prepared: its locks are held, that of `packed-refs` too; its edits carry what was found, and are
-  -- those of the list, with their places.
+  -- A transaction whose split list is prepared: its locks are held, that of `packed-refs` too; its edits carry what was found, and
+  -- are those of the list, with their places.
   pub record PreparesFrom
       (mode : Mode) (old new : Store F) (edits : List RefEdit) (packed_place : Option Path)
       (after : List Edit) : Type 0 where
@@ -205,8 +206,8 @@ module _ {F : Type 0} (honest : Type 0) (means : F → Meaning) (faults : F → 
     pub puts : HaveTheirPuts (meaning_of old) mode after
     pub can_be_put : AllCanBePut (meaning_of old) (kind_of old) after
 
-  -- What becomes of the edits that are given: their split list, in which each that was looked up may be, and which is theirs where none
-  -- follows.
+  -- What becomes of the edits that are given: their split list, in which each that was looked up may be, and which is theirs where
+  -- none follows.
   pub record SplitsFrom (old : Store F) (given split : List RefEdit) : Type 0 where
     pub is : honest → AreSplit (meaning_of old) (view_of (tree_of means old)) given split
     pub can_follow : honest → All (CanFollow (meaning_of old))
@@ -226,8 +227,8 @@ module _ {F : Type 0} (honest : Type 0) (means : F → Meaning) (faults : F → 
   HaveParents old asked edits = parents_in edits
       ≡ split_parents (name_led_to (meaning_of old) (view_of (tree_of means old))) (values_of asked)
 
-  -- The edits of a split list as they are held: each with what was found of it, its place, its parent, what becomes of its loose file, and
-  -- the id of its record.
+  -- The edits of a split list as they are held: each with what was found of it, its place, its parent, what becomes of its loose
+  -- file, and the id of its record.
   pub record HoldsGiven (claims : Type 0) (meaning : ObjectId → Stored) (mode : Mode)
       (old new : Store F) (given : List RefEdit) (packed_place : Option Path)
       (edits : List Edit) : Type 0 where

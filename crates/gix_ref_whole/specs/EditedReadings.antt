@@ -19,8 +19,8 @@ use Rattle.gix_ref_lookup.specs.declared.find.existing.Error.TheVariants.{Find, 
 abbrev pub reading_after : Store → View → List Edit → List ℕ → Reading
 reading_after s view edits name = edited_reading s edits name (reading s view name)
 
--- A full name that a lookup takes as itself first: it begins with `refs/`, `main-worktree/` or `worktrees/`, or has only capitals and
--- underscores; it may be that of a reference; and it is not composed to another name.
+-- A full name that a lookup takes as itself first: it begins with `refs/`, `main-worktree/` or `worktrees/`, or has only capitals
+-- and underscores; it may be that of a reference; and it is not composed to another name.
 pub record IsAskedFirst (s : Store) (composes : Bool) (name : List ℕ) : Type 0 where
   pub reference : s.is_reference name ≡ true
   pub first : (is_pseudo name || is_rooted name) ≡ true
@@ -30,8 +30,8 @@ pub record IsAskedFirst (s : Store) (composes : Bool) (name : List ℕ) : Type 0
 abbrev pub further : List ℕ → List (List ℕ)
 further name = drop 1 (candidates name)
 
--- What a lookup of such a name finds where it reads this: its target. Where it reads nothing, the lookup goes on with the names that it
--- may be short for; and a fault is an error.
+-- What a lookup of such a name finds where it reads this: its target. Where it reads nothing, the lookup goes on with the names
+-- that it may be short for; and a fault is an error.
 abbrev pub AnswersName : Store → View → List ℕ → Reading → Option Reference → Type 0
 AnswersName s view name (Is target) (Some r) =
     (target_value r.target ≡ target)
@@ -41,8 +41,8 @@ AnswersName s view name Fault found = ⊥
 AnswersName s view name Absent found = ReturnsHit
     (lookup s view (records_of_file s (view s.packed_path)) (further name) (remote_head name)) found
 
--- Why a lookup of such a name has an error: there was no memory; or, where the name reads a target, a call of files failed. Where it
--- reads a fault, that is one; where it reads nothing, one of the further names may have one.
+-- Why a lookup of such a name has an error: there was no memory; or, where the name reads a target, a call of files failed. Where
+-- it reads a fault, that is one; where it reads nothing, one of the further names may have one.
 abbrev pub FailsAs : (failed : Type 0) → Reading → FindError → Type 0
 FailsAs failed reading Memory = Unit {0}
 FailsAs failed (Is target) error = failed

@@ -11,10 +11,11 @@ use Rattle.gix_ref_store.specs.Store.{files_of}
 use Rattle.gix_ref_store.specs.declared.file.store.Store.{Store}
 
 module _ {F : Type 0} (honest : Type 0) (means : F → Meaning) (faults : F → ℕ) where
-  -- A lookup of a name in the store `start`, which leaves `new`. Where `packed-refs` is well formed or missing, it finds the first of the
-  -- names that the name may be short for that reads something, and `NotFound` says that none does; on any text it finds a loose file of
-  -- one of these names, or a record that begins a line. It fails at the first of them that is not passed, for a reason that applies to
-  -- that one. It changes nothing but the count of faults and the clock, and where it finds something not that count.
+  -- A lookup of a name in the store `start`, which leaves `new`. Where `packed-refs` is well formed or missing, it finds the first
+  -- of the names that the name may be short for that reads something, and `NotFound` says that none does; on any text it finds a
+  -- loose file of one of these names, or a record that begins a line. It fails at the first of them that is not passed, for a
+  -- reason that applies to that one. It changes nothing but the count of faults and the clock, and where it finds something not
+  -- that count.
   pub record FindsIn {R : Type 0} (G : Ghosts R) (start new : Store F) (name : List ℕ)
       (found : Result Reference Missing) : Type 0 where
     pub finds : honest → (records : List Record) → AreRecordsIn means start records →

@@ -37,8 +37,8 @@ module _ {F : Type 0} (honest : Type 0) (means : F → Meaning) (faults : F → 
     pub gives : Yields (NextItem honest means faults) s items last
     pub ends : NextItem honest means faults last None t
 
-  -- These are the items of the listing of a prefix in a store, all of them, while the count of faults went from `before` to `now`. A folder
-  -- that could not be listed is among them only where that rose.
+  -- These are the items of the listing of a prefix in a store, all of them, while the count of faults went from `before` to `now`.
+  -- A folder that could not be listed is among them only where that rose.
   pub record AreItemsIn (store : Store F) (before now : ℕ) (records : List Record) (prefix : List ℕ)
       (items : List (Result Reference Error)) : Type 0 where
     pub listed : List Listed
@@ -47,8 +47,8 @@ module _ {F : Type 0} (honest : Type 0) (means : F → Meaning) (faults : F → 
     pub first : AreFirst honest means faults (settings_of store)
         (view_in means store) before now listed [] items
 
-  -- A listing of the names that a walk found, in the store `old`, which leaves `new`, among the records that `Are` accepts: the items;
-  -- or there was no memory.
+  -- A listing of the names that a walk found, in the store `old`, which leaves `new`, among the records that `Are` accepts: the
+  -- items; or there was no memory.
   abbrev pub ListsAmong : (old new : Store F) → LooseNames → (Are : List Record → Type 0) →
       Result (Vec (Result Reference Error) Global) PrefixError → Type 0
   ListsAmong old new names Are (Ok all) =
@@ -57,8 +57,8 @@ module _ {F : Type 0} (honest : Type 0) (means : F → Meaning) (faults : F → 
       (faults (files_of start)) (faults (files_of new)) records (walked_prefix names) all.items
   ListsAmong old new names Are (Err error) = error ≡ Memory
 
-  -- A listing of a prefix of the store `start`, which leaves `new`, among the records of its `packed-refs`: the items; or why there is
-  -- none.
+  -- A listing of a prefix of the store `start`, which leaves `new`, among the records of its `packed-refs`: the items; or why there
+  -- is none.
   abbrev pub ListsIn : {R : Type 0} (G : Ghosts R) → (start new : Store F) → (prefix : List ℕ) →
       Result (Vec (Result Reference Error) Global) PrefixError → Type 0
   ListsIn G start new prefix (Ok all) =

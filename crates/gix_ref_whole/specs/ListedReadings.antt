@@ -24,7 +24,8 @@ use Rattle.gix_ref_lookup.specs.declared.find.error.ReadError.TheVariants.{File 
 abbrev pub IsAllowed : Store → List ℕ → Type 0
 IsAllowed s name = s.is_prohibited (s.place name) ≡ false
 
--- each file below a folder of the store has a composed name, where the store composes names (`core.precomposeUnicode` of `git config`)
+-- each file below a folder of the store has a composed name, where the store composes names (`core.precomposeUnicode` of `git
+-- config`)
 abbrev pub AreComposed : Settings → View → Type 0
 AreComposed settings view = (front name : List ℕ) → IsFront settings front →
     IsSome (view (front ++ name)) → name_asked settings.precompose_unicode name ≡ name
@@ -36,9 +37,9 @@ pub record IsListable (s : Store) (prefix name : List ℕ) : Type 0 where
   pub below_refs : BeginsWith name (codes "refs/")
   pub allowed : IsAllowed s name
 
--- Why the reference of this name is not given, while the count of faults went from `before` to `now`: its file holds no target, and so it
--- reads a fault; the file could not be read, only where the count rose; its place has the name of a device, and the store prohibits
--- these; or there was no memory.
+-- Why the reference of this name is not given, while the count of faults went from `before` to `now`: its file holds no target, and
+-- so it reads a fault; the file could not be read, only where the count rose; its place has the name of a device, and the store
+-- prohibits these; or there was no memory.
 abbrev pub IsReadingFault : Store → (before now : ℕ) → (name : List ℕ) → Reading → Error → Type 0
 IsReadingFault s before now name reading (ReferenceCreation source path) = (reading ≡ Fault)
     × (path.items ≡ name)
@@ -73,8 +74,8 @@ abbrev pub IsNoFolder : Result Reference Error → Type 0
 IsNoFolder (Err (Traversal source path)) = ⊥
 IsNoFolder other = Unit {0}
 
--- The items of a listing of the names with this prefix, while the count of faults went from `before` to `now`: by ascending names, each
--- name that reads something, and no other, with the target that it reads.
+-- The items of a listing of the names with this prefix, while the count of faults went from `before` to `now`: by ascending names,
+-- each name that reads something, and no other, with the target that it reads.
 pub record ListsReadings (s : Store) (reads : List ℕ → Reading) (before now : ℕ) (prefix : List ℕ)
     (items : List (Result Reference Error)) : Type 0 where
   pub listed : List Listed

@@ -33,7 +33,8 @@ abbrev pub IsPlaceInside : Layout → Path → Type 0
 IsPlaceInside f path = (folder rest : Path) × IsFolderOf f folder
     × (path ≡ below folder (f.namespace ++ rest))
 
--- a log in the namespace: below a folder of the store, `logs/`, the namespace and then more; or so below the folder of a linked worktree
+-- a log in the namespace: below a folder of the store, `logs/`, the namespace and then more; or so below the folder of a linked
+-- worktree
 abbrev pub IsLogInside : Layout → Path → Type 0
 IsLogInside f path =
     ((folder rest : Path) × IsFolderOf f folder
@@ -59,8 +60,8 @@ pub record IsOutside (f : Layout) (Excepted : Path → Type 0) (path : Path) : T
   pub not_packed : packed_refs f ≢ path
   pub not_excepted : Excepted path → ⊥
 
--- From the tree `before` to T all outside of the namespace is as before: each file, but for locks that are excepted, and in `packed-refs` the
--- record of each key.
+-- From the tree `before` to T all outside of the namespace is as before: each file, but for locks that are excepted, and in
+-- `packed-refs` the record of each key.
 pub record OutsideIsAsBefore (f : Layout) (s : Store) (Excepted : Path → Type 0)
     (before T : Tree) : Type 0 where
   pub files : (path : Path) → IsOutside f Excepted path → view_of T path ≡ view_of before path
@@ -83,7 +84,8 @@ abbrev pub KeysLieInTheNamespace : Type 0
 KeysLieInTheNamespace = (f : Layout) (o : Options) (name key : List ℕ) →
     (store_of f o).key name ≡ Some key → IsKeyInside f key
 
--- What an edit puts into `packed-refs`, if it puts a record there, can be read again: its name is a full one, and its ids are of the kind.
+-- What an edit puts into `packed-refs`, if it puts a record there, can be read again: its name is a full one, and its ids are of
+-- the kind.
 abbrev pub PutsReadable : Store → Mode → Kind → Edit → Type 0
 PutsReadable s mode kind e = (key : List ℕ) (r : Record) → e.and_reference ≡ true →
     s.key e.name ≡ Some key → edited_record mode key e e.change None ≡ Some r → IsReadable kind r
@@ -97,8 +99,8 @@ abbrev pub DeletionsPutNothing : Type 0
 DeletionsPutNothing = (s : Store) (kind : Kind) (edits : List Edit) →
     AllPutReadable s DeletionsOnly kind edits
 
--- Where each reference is as before or as edited, as at a stop inside a commit, all outside of the namespace is as before, but for the
--- locks of the transaction. In each mode, where the records that are put can be read again.
+-- Where each reference is as before or as edited, as at a stop inside a commit, all outside of the namespace is as before, but for
+-- the locks of the transaction. In each mode, where the records that are put can be read again.
 abbrev pub EveryStopLeavesTheOutside : Type 0
 EveryStopLeavesTheOutside =
     (f : Layout) (k : Kind) (prohibits : Bool) (mode : Mode) (edits : List RefEdit)
@@ -134,8 +136,8 @@ TheseLocksAreLocks =
     ((q : Path) → is_in locks q ≡ true → IsLock q) →
     OutsideIsAsBefore f s (IsOneOf locks) before T → OutsideIsAsBefore f s IsLock before T
 
--- So a reference whose place and key are outside reads as before: as one of a store in the same common folder with another namespace, or
--- with none.
+-- So a reference whose place and key are outside reads as before: as one of a store in the same common folder with another
+-- namespace, or with none.
 abbrev pub ReadingsOutsideStay : Type 0
 ReadingsOutsideStay =
     (f g : Layout) (o : Options) (before T : Tree) → g.common ≡ f.common →

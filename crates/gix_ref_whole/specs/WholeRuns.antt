@@ -65,9 +65,10 @@ module _ {F : Type 0} (honest : Type 0) (means : F → Meaning) (faults : F → 
   LossesOutside old new = Loses (means (files_of old)) (means (files_of new))
       (IsSameOutside old IsLock)
 
-  -- Edits that were committed in this mode: of the store `old` they made `new`, and these locks stay. They are the split list of those that
-  -- were given, of the composed names where the store composes names; where it does not, and none follows a symbolic reference, they are
-  -- the given ones. Where `packed-refs` was well formed or missing, it is so again, and each reference reads as edited.
+  -- Edits that were committed in this mode: of the store `old` they made `new`, and these locks stay. They are the split list of
+  -- those that were given, of the composed names where the store composes names; where it does not, and none follows a symbolic
+  -- reference, they are the given ones. Where `packed-refs` was well formed or missing, it is so again, and each reference reads as
+  -- edited.
   pub record ReadsEdited (mode : Mode) (old new : Store F) (given : List RefEdit)
       (left : List Path) : Type 0 where
     pub split : List RefEdit
@@ -82,8 +83,8 @@ module _ {F : Type 0} (honest : Type 0) (means : F → Meaning) (faults : F → 
         IsSameOutside old (IsOneOf left) (tree_of means new)
     pub stops : honest → HasGoodRecords means old → StopsOutside mode old new split
 
-  -- And what they did is there after every later loss of power: a store that was at rest before is at rest again, and in each tree that a
-  -- loss of power leaves of its disk each reference reads as edited.
+  -- And what they did is there after every later loss of power: a store that was at rest before is at rest again, and in each tree
+  -- that a loss of power leaves of its disk each reference reads as edited.
   pub record KeepsEdited (mode : Mode) (old new : Store F) (given : List RefEdit)
       (left : List Path) : Type 0 where
     pub made : ReadsEdited mode old new given left
@@ -99,8 +100,8 @@ module _ {F : Type 0} (honest : Type 0) (means : F → Meaning) (faults : F → 
   HasFault G start new = HasRisen (faults (files_of start)) (faults (files_of new))
       ⊎ HasReadFault G.faults
 
-  -- And a lookup after them, in the store `start` that the commit left, says what every lookup says; and of a full name it finds what that
-  -- reads as edited.
+  -- And a lookup after them, in the store `start` that the commit left, says what every lookup says; and of a full name it finds
+  -- what that reads as edited.
   pub record FindsEdited {R : Type 0} (G : Ghosts R) (mode : Mode) (old start new : Store F)
       (given : List RefEdit) (left : List Path) (name : List ℕ)
       (found : Result Reference Missing) : Type 0 where
@@ -111,9 +112,9 @@ module _ {F : Type 0} (honest : Type 0) (means : F → Meaning) (faults : F → 
         IsFoundAs (meaning_of old) (view_in means new) name (HasFault G start new)
         (reads_after old made.split name) found
 
-  -- What the items of a listing of the names with a prefix below `refs/` are, from the store `start` to `new`: just the names that read
-  -- something as edited, each with its target, or why it is not given; unless a folder could not be listed. The files have composed
-  -- names, where the store composes names.
+  -- What the items of a listing of the names with a prefix below `refs/` are, from the store `start` to `new`: just the names that
+  -- read something as edited, each with its target, or why it is not given; unless a folder could not be listed. The files have
+  -- composed names, where the store composes names.
   abbrev pub ListsNames : (old start new : Store F) → (split : List RefEdit) → (prefix : List ℕ) →
       List (Result Reference ItemError) → Type 0
   ListsNames old start new split prefix items =
@@ -122,7 +123,8 @@ module _ {F : Type 0} (honest : Type 0) (means : F → Meaning) (faults : F → 
       ListsReadings (meaning_of old) (reads_after old split) (faults (files_of start))
       (faults (files_of new)) prefix items
 
-  -- And a listing after them, in the store `start` that the commit left, says what every listing says; and it gives the edited references.
+  -- And a listing after them, in the store `start` that the commit left, says what every listing says; and it gives the edited
+  -- references.
   pub record ListsEdited {R : Type 0} (G : Ghosts R) (mode : Mode) (old start new : Store F)
       (given : List RefEdit) (left : List Path) (prefix : List ℕ)
       (items : Result (Vec (Result Reference ItemError) Global) PrefixError) : Type 0 where
@@ -139,12 +141,12 @@ module _ {F T : Type 0} (honest : Type 0) (means : F → Meaning) (faults : F �
   Prepares old mid given packed held = PreparesGiven honest means faults
       (OfFinder claims uses) (ends_of meaning uses) (mode_in uses) old mid given packed held
 
-  -- A commit of edits that were prepared, and what it returned: the edits as they were prepared, each with what was found of it in the
-  -- files before, and `uses`. Of the files before it made the edited ones, and each log gained the line that is due by them, or none; each
-  -- due line could be made. No folder is gone but those in the way of a write and those above what was removed; where a record was put or
-  -- removed each line of `packed-refs` is one; and for each lock that stays a call of files failed. At every stop on the way, and after
-  -- every loss of power, each reference reads as before or as edited; and where loose files are kept no deletion shows first, and updates
-  -- show in order.
+  -- A commit of edits that were prepared, and what it returned: the edits as they were prepared, each with what was found of it in
+  -- the files before, and `uses`. Of the files before it made the edited ones, and each log gained the line that is due by them, or
+  -- none; each due line could be made. No folder is gone but those in the way of a write and those above what was removed; where a
+  -- record was put or removed each line of `packed-refs` is one; and for each lock that stays a call of files failed. At every stop
+  -- on the way, and after every loss of power, each reference reads as before or as edited; and where loose files are kept no
+  -- deletion shows first, and updates show in order.
   pub record HasCommitted (old new : Store F) (committer : Option SignatureRef)
       (given : List RefEdit) (done : Done T) : Type 0 where
     pub mid : Store F
@@ -206,8 +208,8 @@ module _ {F T : Type 0} (honest : Type 0) (means : F → Meaning) (faults : F �
     pub lists : ListsEdited honest means faults G (mode_in uses) old mid new given
         (paths_of done.locks_left.items) prefix items
 
-  -- A commit that failed of edits that were prepared, and the locks that stay. Stops and losses of power leave what they do where it
-  -- succeeds.
+  -- A commit that failed of edits that were prepared, and the locks that stay. Stops and losses of power leave what they do where
+  -- it succeeds.
   pub record HasFailed (old new : Store F) (committer : Option SignatureRef) (given : List RefEdit)
       (error : CommitError) (left : List Path) : Type 0 where
     pub mid : Store F
