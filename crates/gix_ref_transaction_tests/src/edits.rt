@@ -91,7 +91,7 @@ fn random_message(dice: &mut Dice) -> &'static str {
 }
 
 /// An edit of a name.
-fn random_edit(
+pub fn random_edit(
     rt: &impl Abort,
     alloc: Global,
     dice: &mut Dice,

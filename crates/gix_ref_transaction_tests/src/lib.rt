@@ -1,5 +1,5 @@
 //! Tests of whole transactions: random ones beside plain loops over files, and ones that are stopped, fail or lose power.
-//! A test takes two seconds at most as `rt test` builds it; with the checks of `rt try --test` those of `stops` take minutes.
+//! With the checks of `rt try --test` those of `growing` take 40 seconds each on a processor of their own.
 #![tactic(auto)]
 
 #[cfg(test)]
@@ -14,6 +14,8 @@ mod disk;
 mod edits;
 #[cfg(test)]
 mod files;
+#[cfg(test)]
+mod growing;
 #[cfg(test)]
 mod made;
 #[cfg(test)]

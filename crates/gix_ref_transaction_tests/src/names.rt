@@ -147,6 +147,7 @@ pub fn has_usual_log(setting: Setting, name: &'static str) -> bool {
     let own = spot_of(setting, name).own;
     own == "HEAD"
         || own.starts_with("refs/heads/")
+        || own.starts_with("refs/notes/")
         || own.starts_with("refs/remotes/")
         || own.starts_with("refs/worktree/")
 }

@@ -2,7 +2,7 @@
 use crate::causes::Cause;
 use crate::files::{is_blocked, is_taken, put, remove, text};
 use crate::made::{Edit, Expect, To};
-use crate::names::{KNOWN, has_device, is_safe, key, place};
+use crate::names::{has_device, is_safe, key, place};
 use crate::reading::{found, loose, record};
 use crate::stores::{Kept, Packed, Puts};
 use std::alloc::Global;
@@ -121,12 +121,17 @@ fn count_of(edits: &[Edit], name: &str) -> usize {
 
 /// The least name of more than one edit.
 fn doubled(edits: &[Edit]) -> Option<Cause> {
-    for name in KNOWN {
-        if count_of(edits, name) > 1 {
-            return Some(Cause::DoubledName(name));
+    let mut least: Option<&'static str> = None;
+    for edit in edits {
+        let is_less = match least {
+            Some(name) => edit.name < name,
+            None => true,
+        };
+        if is_less && count_of(edits, edit.name) > 1 {
+            least = Some(edit.name);
         }
     }
-    None
+    Some(Cause::DoubledName(least?))
 }
 
 /// Whether an edit of a reference may have a record.

@@ -115,41 +115,40 @@ pub fn is_same(answer: &Answer, want: &Want, edits: &[Edit]) -> bool {
     }
 }
 
-/// The number of files in a folder, whose folders are added to a list.
-fn count_in(
+/// Adds the paths of the files in a folder to one list, and those of its folders to another.
+fn add_paths(
     rt: &impl Abort,
     alloc: Global,
     memory: &mut Memory,
     folder: &str,
+    paths: &mut Vec<String>,
     folders: &mut Vec<String>,
-) -> usize {
+) {
     let entries = memory
         .list(alloc, folder.as_bytes())
         .expect(rt, "a listing")
         .expect(rt, "a folder");
-    let mut count = 0usize;
     for entry in &entries {
+        let name = str::from_utf8(&entry.name).expect(rt, "a name");
+        let path = format!(in alloc; "{folder}/{name}").expect(rt, "memory");
         if entry.is_folder {
-            let name = str::from_utf8(&entry.name).expect(rt, "a name");
-            let below = format!(in alloc; "{folder}/{name}").expect(rt, "memory");
-            folders.push(below).expect(rt, "memory");
+            folders.push(path).expect(rt, "memory");
         } else {
-            count = count.saturating_add(1);
+            paths.push(path).expect(rt, "memory");
         }
     }
-    count
 }
 
-/// The number of files in memory.
-pub fn count(rt: &impl Abort, alloc: Global, memory: &mut Memory) -> usize {
+/// The paths of the files in memory.
+pub fn paths(rt: &impl Abort, alloc: Global, memory: &mut Memory) -> Vec<String> {
     let mut folders = Vec::new(alloc);
-    let mut count = 0usize;
+    let mut paths = Vec::new(alloc);
     let mut folder = String::from_str(alloc, "/r").expect(rt, "memory");
     for _ in 0..100u32 {
-        count = count.saturating_add(count_in(rt, alloc, memory, &folder, &mut folders));
+        add_paths(rt, alloc, memory, &folder, &mut paths, &mut folders);
         match folders.pop() {
             Some(next) => folder = next,
-            None => return count,
+            None => return paths,
         }
     }
     panic!(rt; "so many folders")
@@ -167,7 +166,8 @@ pub fn lost<'f>(memory: &Memory, files: &'f [Held]) -> Option<&'f Held> {
 
 /// Whether memory holds these files and no others.
 pub fn holds(rt: &impl Abort, alloc: Global, memory: &mut Memory, files: &[Held]) -> bool {
-    lost(memory, files).is_none() && (files.is_empty() || count(rt, alloc, memory) == files.len())
+    lost(memory, files).is_none()
+        && (files.is_empty() || paths(rt, alloc, memory).len() == files.len())
 }
 
 /// Who commits.
@@ -190,27 +190,45 @@ fn count_end(tally: &mut Tally, want: &Want) {
     *count = count.saturating_add(1);
 }
 
-/// Compares one transaction of a random store.
-fn compare(rt: &impl Abort, alloc: Global, dice: &mut Dice, puts: Puts, tally: &mut Tally) {
-    let (mut kept, memory) = random_store(rt, alloc, dice);
-    kept.puts = puts;
-    let mut edits = random_edits(rt, alloc, dice, &kept);
+/// Carries edits out in a store and by plain loops, and compares the ends and the texts of the files: what they came to, and the files of the
+/// store, which may be more.
+pub fn compare(
+    rt: &impl Abort,
+    alloc: Global,
+    dice: &mut Dice,
+    kept: &mut Kept,
+    memory: Memory,
+    mut edits: Vec<Edit>,
+) -> (Want, Memory) {
     let who = random_who(dice);
     let given = given(rt, alloc, &edits);
     let mut store = store(rt, alloc, memory, kept.setting);
-    let (answer, locks) = answered(rt, alloc, &mut store, puts, given, who);
+    let (answer, locks) = answered(rt, alloc, &mut store, kept.puts, given, who);
     assert!(rt; locks.is_empty(), "no lock is left");
-    let mut memory = store.into_files();
+    let memory = store.into_files();
     let before = copied(rt, alloc, &kept.files);
-    let want = wanted(rt, alloc, &mut kept, &mut edits, who);
+    let want = wanted(rt, alloc, kept, &mut edits, who);
     assert!(rt;
         is_same(&answer, &want, &edits),
         "{dice:?}: {answer:?} for {want:?}: {before:?} {kept:?} {edits:?}"
     );
+    let lost = lost(&memory, &kept.files);
+    assert!(rt;
+        lost.is_none(),
+        "{dice:?}: {want:?}: {before:?} {kept:?} {edits:?} {lost:?}"
+    );
+    (want, memory)
+}
+
+/// Compares one transaction of a random store.
+fn compare_random(rt: &impl Abort, alloc: Global, dice: &mut Dice, puts: Puts, tally: &mut Tally) {
+    let (mut kept, memory) = random_store(rt, alloc, dice);
+    kept.puts = puts;
+    let edits = random_edits(rt, alloc, dice, &kept);
+    let (want, mut memory) = compare(rt, alloc, dice, &mut kept, memory, edits);
     assert!(rt;
         holds(rt, alloc, &mut memory, &kept.files),
-        "{dice:?}: {want:?}: {before:?} {kept:?} {edits:?} {:?}",
-        lost(&memory, &kept.files)
+        "{dice:?}: {want:?}: {kept:?}"
     );
     count_end(tally, &want);
 }
@@ -224,7 +242,7 @@ fn compare_all(rt: &impl Abort, alloc: Global, start: u32, puts: Puts) {
         done: 0,
     };
     for _ in 0..500u32 {
-        compare(rt, alloc, &mut dice, puts, &mut tally);
+        compare_random(rt, alloc, &mut dice, puts, &mut tally);
     }
     assert!(rt; tally.done > 150, "{tally:?}");
     assert!(rt; tally.failed > 20, "{tally:?}");
