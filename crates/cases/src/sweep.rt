@@ -651,8 +651,32 @@ fn lacked_memory(said: &Said) -> bool {
     }
 }
 
+/// Whether a run reports that there was no memory.
+fn reports_memory(said: &Said) -> bool {
+    said.as_slice().iter().any(|line| is_fault(line.as_slice())
+        && line.as_slice().contains_str(b"memory"))
+}
+
+impl Sweep<'_> {
+    /// Whether a verb that reads prints the same once more. Of two runs only one can lack memory, since one allocation is refused: it reports
+    /// that, and prints nothing else that the other one does not print.
+    fn answers_again(&self, said: &Said) -> Result<bool> {
+        let again = self.disturbed(Plan::Runs)?.said;
+        if *said == again {
+            return Ok(true);
+        }
+        if !reports_memory(said) && !reports_memory(&again) {
+            bail!("two answers, and neither reports a refused allocation")
+        }
+        if other_line(said, &again).is_some() && other_line(&again, said).is_some() {
+            bail!("two answers, of which neither has a part of the other alone")
+        }
+        Ok(false)
+    }
+}
+
 /// Plays the last verb of a case, where an allocation may be refused: whether it did all, if the case asks for that. Where it did not,
-/// each file is as before or as after it, and as before where it lacked memory.
+/// each file is as before or as after it, and as before where it lacked memory. One that reads is played twice.
 pub fn hold_refused(alloc: Global, texts: &Texts, lines: &[String]) -> Result<Option<bool>> {
     if rest_of(lines, "each allocation").is_none() {
         return Ok(None);
@@ -675,6 +699,9 @@ pub fn hold_refused(alloc: Global, texts: &Texts, lines: &[String]) -> Result<Op
     let tree = came.world.tree()?;
     sweep.hold_files(&tree, false)?;
     sweep.hold_locks(&tree, &came.said)?;
+    if matches!(verb.family, Family::Read) {
+        return Ok(Some(sweep.answers_again(&came.said)?));
+    }
     if is_done(&came.said) {
         sweep.hold_all(&after, &tree)?;
         return Ok(Some(true));

@@ -208,7 +208,7 @@ fn copied_store(rt: &impl Abort, alloc: Global, kept: &Kept) -> Kept {
 
 /// Has a call that comes soon fail, or the process stop in it.
 fn plan(dice: &mut Dice, memory: &mut Memory, how: Disturbance) {
-    let call = 1 + u64::from(dice.roll() / 6);
+    let call = u64::from(dice.roll() / 6).saturating_add(1);
     match how {
         Disturbance::Fault => memory.fail_at(call),
         Disturbance::Stop | Disturbance::Loss => memory.stop_at(call, dice.roll() as usize),
