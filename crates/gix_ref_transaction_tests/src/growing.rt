@@ -1,5 +1,5 @@
 //! Random steps over one store that grows to some fifty references, each compared with plain loops over its files: transactions, those that a
-//! fault, a stop or a loss of power disturbs, lookups and listings. With the checks of `rt try --test` four hundred steps take 40 seconds.
+//! fault, a stop or a loss of power disturbs, lookups and listings.
 use crate::dice::Dice;
 use crate::edits::{random_edit, random_name};
 use crate::files::{Held, copied, get, put, text};
@@ -49,6 +49,10 @@ const FOLDERS: &[&[&str]] = &[
     below!("refs/tags/rel/"),
     below!("refs/x/"),
 ];
+
+/// How many steps are taken. With the checks of `rt try --test` four hundred of them take 40 seconds, of the minute that a test has: it is to be
+/// lowered there.
+const STEPS: u32 = 4_000;
 
 /// What disturbs a transaction.
 #[derive(Clone, Copy, Debug, PartialEq, Eq)]
@@ -481,14 +485,14 @@ fn grow(rt: &impl Abort, alloc: Global, start: u32, steps: u32, setting: Setting
 }
 
 #[test]
-fn four_hundred_steps(rt: HostRuntime) {
+fn steps_in_a_git_folder(rt: HostRuntime) {
     let setting = Setting {
         git: "/r",
         space: "",
         mode: WriteReflog::Normal,
         prohibits: true,
     };
-    let tally = grow(&rt, rt.alloc(), 9, 400, setting);
+    let tally = grow(&rt, rt.alloc(), 9, STEPS, setting);
     assert!(rt;
         tally.done > 100 && tally.most > 40 && tally.found > 20,
         "{tally:?}"
@@ -500,14 +504,14 @@ fn four_hundred_steps(rt: HostRuntime) {
 }
 
 #[test]
-fn two_hundred_steps_in_a_namespace_of_a_linked_worktree(rt: HostRuntime) {
+fn steps_in_a_namespace_of_a_linked_worktree(rt: HostRuntime) {
     let setting = Setting {
         git: "/r/worktrees/w",
         space: "refs/namespaces/foo/",
         mode: WriteReflog::Always,
         prohibits: false,
     };
-    let tally = grow(&rt, rt.alloc(), 10, 200, setting);
+    let tally = grow(&rt, rt.alloc(), 10, STEPS / 4, setting);
     assert!(rt;
         tally.done > 50 && tally.most > 25 && tally.found > 5,
         "{tally:?}"
