@@ -126,12 +126,12 @@ fn compare_lookup(
     after: &Kept,
 ) -> bool {
     let partial = PartialNameRef::try_from(name).expect(rt, "a partial name");
-    let target = match store.find(alloc, partial) {
-        Ok(reference) => Some(reference.target),
-        Err(existing::Error::NotFound { .. }) => None,
+    let reference = match store.find(alloc, partial) {
+        Ok(reference) => Some(reference),
+        Err(existing::Error::NotFound { name: _name }) => None,
         Err(error) => panic!(rt; "{name}: {error:?}"),
     };
-    let target = target.as_ref();
+    let target = reference.as_ref().map(|reference| &reference.target);
     assert!(rt;
         is_read(target, sought(rt, alloc, before, name))
             || is_read(target, sought(rt, alloc, after, name)),
