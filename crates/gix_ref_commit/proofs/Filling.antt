@@ -1,9 +1,10 @@
 -- The lock of `packed-refs` gets its text, and nothing else changes.
-use Rattle.std.proofs.Common.{◌≡◌, ◌≢◌, ◌≤◌, inl, inr, ℕ, List, [], ◌∷◌, ◌∙◌, Option, None, Some, Vec, Global, map, refl, sym, ap, subst, arith}
+use Rattle.std.proofs.Common.{◌≡◌, ◌≢◌, inl, inr, ℕ, List, [], ◌∷◌, ◌∙◌, Option, None, Some, Vec, Global, map, refl, sym, ap, subst}
+use Rattle.gix_ref_files.proofs.Meeting.{no_fewer_joins}
 use Rattle.std.specs.Prelude.{bytes_eq}
 use Rattle.gix_ref_files.specs.Disk.{Disk}
 use Rattle.gix_ref_files.specs.DiskCalls.{Untouched}
-use Rattle.gix_ref_files.specs.Files.{Meaning, disk_of, Leaves, Passes}
+use Rattle.gix_ref_files.specs.Files.{Meaning, disk_of, Leaves, Passes, FaultCounts, NoFewer}
 use Rattle.gix_ref_files.specs.Lock.{lock_of}
 use Rattle.gix_ref_files.specs.ReadOnly.{OnlyReads}
 use Rattle.gix_ref_files.specs.Settled.{IsWholeAt}
@@ -64,7 +65,7 @@ nothing_filled : (packed : Option Path) (S T : Tree) → T ≡ S → FillsPacked
 nothing_filled None S T same = same
 nothing_filled (Some path) S T same = inl same
 
-module _ {F : Type 0} (honest : Type 0) (means : F → Meaning) (faults : F → ℕ) where
+module _ {F : Type 0} (honest : Type 0) (means : F → Meaning) (faults : F → FaultCounts) where
   -- a run that only reads fills no lock
   pub fills_none : (packed : Option Path) (a b : F) → OnlyReads honest means faults a b → OnlyFillsPacked honest means faults packed a b
   fills_none packed a b reads = record {
@@ -84,7 +85,7 @@ module _ {F : Type 0} (honest : Type 0) (means : F → Meaning) (faults : F → 
         let same : (means b).tree ≡ (means a).tree = (reads.leaves h).tree in
         let early = untouched_only (map lock_of (packed_places packed)) (means a) (means b) (reads.passes h) locked staying first own here in
         passes_joins early (fills.passes h (subst (IsPackedLockEmpty packed) (sym same) empty) locked staying first own early.disk);
-    no_fewer = omega (arith, reads.no_fewer, fills.no_fewer);
+    no_fewer = no_fewer_joins reads.no_fewer fills.no_fewer;
   }
 
   -- the other way round
@@ -96,11 +97,11 @@ module _ {F : Type 0} (honest : Type 0) (means : F → Meaning) (faults : F → 
     passes = λ h empty locked staying first own here.
         let early = fills.passes h empty locked staying first own here in
         passes_joins early (passes_weaken (reads.passes h) (λ E same. subst (IsAsBefore locked staying first) (sym same) early.disk));
-    no_fewer = omega (arith, fills.no_fewer, reads.no_fewer);
+    no_fewer = no_fewer_joins fills.no_fewer reads.no_fewer;
   }
 
   -- the lock got its text, or not
-  pub fills_here : (path : Path) (a b : F) → (honest → (means a).tree (lock_of path) ≡ Some (File []) → Leaves (means a) (means b) (FillsLock (means a).tree (lock_of path))) → (honest → Passes (means a) (means b) (FillingOn (disk_of (means a)) (lock_of path))) → faults a ≤ faults b →
+  pub fills_here : (path : Path) (a b : F) → (honest → (means a).tree (lock_of path) ≡ Some (File []) → Leaves (means a) (means b) (FillsLock (means a).tree (lock_of path))) → (honest → Passes (means a) (means b) (FillingOn (disk_of (means a)) (lock_of path))) → NoFewer (faults a) (faults b) →
       OnlyFillsPacked honest means faults (Some path) a b
   fills_here path a b fills filling le = record {
     leaves = λ h empty. weaken (fills h (empty_at (means a).tree (lock_of path) empty)) (λ T filled. filled);

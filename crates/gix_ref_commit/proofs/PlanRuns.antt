@@ -1,18 +1,15 @@
 -- A run of a plan, by its entries.
-use Rattle.std.proofs.Common.{◌≡◌, ◌≢◌, ℕ, zero, suc, ◌+◌, ◌<◌, ◌≤◌, Bool, true, false, List, [], ◌∷◌, ◌++◌, refl, sym, ◌∙◌, ap, subst, length, get_or, arith}
-use Rattle.std.specs.Prelude.{◌-◌, ◌^◌, if◌then◌else◌, nat_lt}
+use Rattle.std.proofs.Common.{◌≡◌, ℕ, zero, suc, ◌<◌, List, [], ◌∷◌, ◌++◌, refl, sym, ◌∙◌, ap, subst, length, get_or, arith}
+use Rattle.gix_ref_files.proofs.Meeting.{met_after, more_after, fewer_same}
 use Rattle.std.proofs.lemmas.List.{map-append}
 use Rattle.gix_ref_files.specs.Tree.{Tree}
-use Rattle.gix_ref_files.specs.Files.{HasRisen, count_with, one_more}
+use Rattle.gix_ref_files.specs.Files.{FaultCounts, NoFewer}
 use Rattle.gix_ref_files.specs.Steps.{Step, IsAfter, EndsBy, EndsAt, HasMemory, count_ended, steps_of, step_of}
 use Rattle.gix_ref_files.specs.DiskSteps.{Synced, synced_step, synced_steps}
-use Rattle.gix_ref_files.specs.declared.files.FileError.{FileError}
-use Rattle.gix_ref_files.specs.declared.files.FileError.TheVariants.{Device, NotUtf8, Memory as no_room}
 use Rattle.gix_ref_files.specs.declared.steps.Cause.{Cause}
 use Rattle.gix_ref_files.specs.declared.steps.Cause.TheVariants.{File, Sync, Unexpected, Asked}
 use Rattle.gix_ref_files.specs.declared.steps.Ended.{Ended}
 use Rattle.gix_ref_files.specs.declared.steps.Planned.{Planned}
-use Rattle.gix_ref_lookup.proofs.Opening.{risen}
 use Rattle.gix_ref_commit.specs.Entries.{Entry, entry, entries, bare_steps, steps_in}
 use Rattle.gix_ref_commit.specs.Unfinished.{EndsIn, IsRaised, IsRaisedBy, IsStepAt}
 use Rattle.gix_ref_commit.specs.declared.plan.About.{About}
@@ -81,37 +78,20 @@ ends_in honest plan es ended (AtStep about cause) S T are lt is ends =
           (m.0, subst (λ (l : List Step). IsAfter l S m.0) (bares_of c.before) m.1, subst (λ (why : Cause). EndsBy (step_of c.at.action) why m.0 T) (sym is.1) m.2);
     }
 
--- the count of faults never falls
-up : (n : ℕ) → n ≤ one_more n
-up n = go (nat_lt n (2 ^ 64 - 1))
-  where
-    go : (b : Bool) → n ≤ (if b then n + 1 else n)
-    go true = omega arith
-    go false = omega arith
+-- no fault is forgotten
+pub no_fewer_at_end : (cause : Cause) (a b : FaultCounts) → b ≡ count_ended cause a → NoFewer a b
+no_fewer_at_end (File error) a b is = subst (NoFewer a) (sym is) (more_after error a)
+no_fewer_at_end (Sync error) a b is = subst (NoFewer a) (sym is) (more_after error a)
+no_fewer_at_end Unexpected a b is = fewer_same a b is
+no_fewer_at_end Asked a b is = fewer_same a b is
 
-counts_up : (error : FileError) (a b : ℕ) → b ≡ count_with error a → a ≤ b
-counts_up (Device kind) a b is = subst (λ n. a ≤ n) (sym is) (up a)
-counts_up NotUtf8 a b is = subst (λ n. a ≤ n) (sym is) (up a)
-counts_up no_room a b is = omega (arith, is)
-
-pub no_fewer_at_end : (cause : Cause) (a b : ℕ) → b ≡ count_ended cause a → a ≤ b
-no_fewer_at_end (File error) a b is = counts_up error a b is
-no_fewer_at_end (Sync error) a b is = counts_up error a b is
-no_fewer_at_end Unexpected a b is = omega (arith, is)
-no_fewer_at_end Asked a b is = omega (arith, is)
-
--- and a fault at the step where a run ended has raised it
-raises : (error : FileError) (a b : ℕ) → b ≡ count_with error a → error ≢ no_room → HasRisen a b
-raises (Device kind) a b is other = subst (HasRisen a) (sym is) (risen a)
-raises NotUtf8 a b is other = subst (HasRisen a) (sym is) (risen a)
-raises no_room a b is other = absurd (other refl)
-
-raised_by : (cause : Cause) (a b : ℕ) → b ≡ count_ended cause a → HasMemory cause → IsRaisedBy a b cause
-raised_by (File error) a b is other = (raises error a b is other, other)
-raised_by (Sync error) a b is other = (raises error a b is other, other)
+-- and a fault at the step where a run ended is counted
+raised_by : (cause : Cause) (a b : FaultCounts) → b ≡ count_ended cause a → HasMemory cause → IsRaisedBy a b cause
+raised_by (File error) a b is other = (met_after error a b other is, other)
+raised_by (Sync error) a b is other = (met_after error a b other is, other)
 raised_by Unexpected a b is other = tt
 raised_by Asked a b is other = tt
 
-pub raised_at_end : (plan : List (Planned About)) (ended : Ended) (u : Unfinished) (a b : ℕ) → IsStepAt plan ended u → b ≡ count_ended ended.cause a → HasMemory ended.cause → IsRaised a b u
+pub raised_at_end : (plan : List (Planned About)) (ended : Ended) (u : Unfinished) (a b : FaultCounts) → IsStepAt plan ended u → b ≡ count_ended ended.cause a → HasMemory ended.cause → IsRaised a b u
 raised_at_end plan ended Memory a b at is other = tt
 raised_at_end plan ended (AtStep about cause) a b at is other = subst (IsRaisedBy a b) (sym at.1) (raised_by ended.cause a b is other)

@@ -1,5 +1,6 @@
 -- A folder that could not be listed: before which step, and what the error says.
 use Rattle.std.proofs.Common.{◌≡◌, ◌≢◌, ℕ, zero, suc, ◌<◌, List, [], ◌∷◌, Option, Some, None, length, get_or, refl, sym, ◌∙◌, ap, subst, arith}
+use Rattle.gix_ref_files.specs.Files.{FaultCounts, IsMet}
 use Rattle.gix_ref_name.specs.Names.{full_bytes}
 use Rattle.gix_ref_name.specs.declared.name.FullName.{FullName}
 use Rattle.gix_ref_files.specs.Tree.{Path}
@@ -51,7 +52,7 @@ write_of edits packed (about.Folders at) step (lt, has, is) writes = absurd (wri
 write_of edits packed (about.LogRemoval at) step (lt, (p, is)) writes = absurd (writes (ap written_at is))
 write_of edits packed (about.Removal at) step (lt, (p, is)) writes = absurd (writes (ap written_at is))
 
-module _ (dirs : Dirs) (edits : List Edit) (packed : Option Path) (rewrite : Rewrite) (before now : ℕ) where
+module _ (dirs : Dirs) (edits : List Edit) (packed : Option Path) (rewrite : Rewrite) (before now : FaultCounts) where
   pub all_write : (u : Unfinished) → FailsToList (planned_entries dirs edits packed rewrite) before now u → AllWrite edits u
   all_write no_memory fails = tt
   all_write (AtStep a (Fault fault)) (step, is, fails) =
@@ -66,7 +67,7 @@ module _ (dirs : Dirs) (edits : List Edit) (packed : Option Path) (rewrite : Rew
       IsOfListing edits before now (CreateOrUpdateRefLog error)
   at_line at fault (Append source path) fails (same, is) =
       let write = all_write (AtStep (about.Line at) (Fault fault)) fails in
-      ((fails.2.counted, λ want. fails.2.no_want (sym same ∙ want)), (at, write.0, write.1, is))
+      ((subst (λ e. IsMet e before now) (sym same) fails.2.counted, λ want. fails.2.no_want (sym same ∙ want)), (at, write.0, write.1, is))
   at_line at fault (CreateLeadingDirectories source folder) fails says = absurd says
   at_line at fault MessageWithNewlines fails says = absurd says
   at_line at fault MissingCommitter fails says = absurd says
@@ -85,7 +86,7 @@ module _ (dirs : Dirs) (edits : List Edit) (packed : Option Path) (rewrite : Rew
   at_step (about.Line at) fault (FolderInPlace path) fails says = absurd says
   at_step (about.Line at) fault (PreprocessingFailed source) fails says = absurd says
   at_step (about.Rename at) fault (LockCommit source name) fails (same, is) =
-      ((fails.2.counted, λ want. fails.2.no_want (sym same ∙ want)), (at, all_write (AtStep (about.Rename at) (Fault fault)) fails, is))
+      ((subst (λ e. IsMet e before now) (sym same) fails.2.counted, λ want. fails.2.no_want (sym same ∙ want)), (at, all_write (AtStep (about.Rename at) (Fault fault)) fails, is))
   at_step (about.Rename at) fault (CreateOrUpdateRefLog error) fails says = absurd says
   at_step (about.Rename at) fault (PackedTransactionCommit error) fails says = absurd says
   at_step (about.Rename at) fault (DeleteReference name source) fails says = absurd says

@@ -1,5 +1,6 @@
 -- The search for empty folders.
-use Rattle.std.proofs.Common.{◌≡◌, ◌≢◌, ◌⊎◌, inl, inr, ⊎_elim, ℕ, zero, suc, ◌<◌, ◌≤◌, List, [], ◌∷◌, ◌++◌, length, Bool, true, false, Option, Some, None, IsSome, refl, sym, ◌∙◌, ap, subst, arith, append_assoc, reverse, if◌then◌else◌, Vec, get_or, take, drop, ◌+◌}
+use Rattle.std.proofs.Common.{◌≡◌, ◌≢◌, ◌⊎◌, inl, inr, ⊎_elim, ℕ, zero, suc, ◌<◌, List, [], ◌∷◌, ◌++◌, length, Bool, true, false, Option, Some, None, IsSome, refl, sym, ◌∙◌, ap, subst, arith, append_assoc, reverse, if◌then◌else◌, Vec, get_or, take, drop, ◌+◌}
+use Rattle.gix_ref_files.proofs.Meeting.{no_fewer_starts, met_wider}
 use Rattle.std.specs.Prelude.{◌==◌}
 use Rattle.std.specs.List.{All}
 use Rattle.std.specs.declared.alloc.Global.{Global}
@@ -18,7 +19,7 @@ use Rattle.gix_ref_lookup.specs.CleanPaths.{common_of}
 use Rattle.gix_ref_lookup.specs.declared.folders.Dirs.{Dirs}
 use Rattle.gix_ref_transaction.proofs.Adds.{clash}
 use Rattle.gix_ref_transaction.specs.OwnLocks.{paths_of}
-use Rattle.gix_ref_files.specs.Files.{HasRisen}
+use Rattle.gix_ref_files.specs.Files.{FaultCounts, NoFewer}
 use Rattle.gix_ref_files.specs.Steps.{step_of}
 use Rattle.gix_ref_files.specs.declared.files.FileError.{FileError}
 use Rattle.gix_ref_files.specs.declared.files.FileError.TheVariants.{Device, NotUtf8, Memory as no_memory}
@@ -166,7 +167,7 @@ way_added edits dirs T (xs ∷ folders) [] fs e all way = absurd all
 way_added edits dirs T (xs ∷ folders) (x ∷ plan) fs e all way = (all.0, way_added edits dirs T folders plan fs e all.1 way)
 
 -- A fault that was counted, or memory.
-pub unlisted_for : (planned : Planned About) (before now : ℕ) (fault : FileError) (u : Unfinished) → written_at (step_of planned.action) ≢ None → IsCountedFault before now fault →
+pub unlisted_for : (planned : Planned About) (before now : FaultCounts) (fault : FileError) (u : Unfinished) → written_at (step_of planned.action) ≢ None → IsCountedFault before now fault →
     (fault ≡ no_memory → u ≡ Unwanted) → ((fault ≡ no_memory → ⊥) → u ≡ Step planned.about (Fault fault)) → FailsBefore planned before now u
 unlisted_for planned before now fault u writes counted memory other = by fault refl
   where
@@ -188,18 +189,14 @@ unlisted_for planned before now fault u writes counted memory other = by fault r
     by NotUtf8 is = as_fault (λ m. text (sym is ∙ m))
 
 -- the step of a plan before which the search ended
-pub fails_at : (plan : List (Planned About)) (i before mid now : ℕ) (d : Planned About) (u : Unfinished) → i < length plan → before ≤ mid → FailsBefore (get_or plan i d) mid now u → FailsToList (entries plan) before now u
+pub fails_at : (plan : List (Planned About)) (i : ℕ) (before mid now : FaultCounts) (d : Planned About) (u : Unfinished) → i < length plan → NoFewer before mid → FailsBefore (get_or plan i d) mid now u → FailsToList (entries plan) before now u
 fails_at plan i before mid now d Unwanted lt le fails = tt
 fails_at plan i before mid now d (Step about (Sync fault)) lt le fails = absurd fails
 fails_at plan i before mid now d (Step about Unexpected) lt le fails = absurd fails
 fails_at plan i before mid now d (Step about Asked) lt le fails = absurd fails
 fails_at plan i before mid now d (Step about (Fault fault)) lt le (same, writes, counted, some) =
-    (entry (get_or plan i d), same, record { seen = entries (take i plan); rest = entries (drop (suc i) plan); cut = by plan i lt; writes = writes; counted = wider counted; no_want = some })
+    (entry (get_or plan i d), same, record { seen = entries (take i plan); rest = entries (drop (suc i) plan); cut = by plan i lt; writes = writes; counted = met_wider le (no_fewer_starts now) counted; no_want = some })
   where
-    wider : HasRisen mid now → HasRisen before now
-    wider (inl more) = inl (omega (arith, le, more))
-    wider (inr full) = inr full
-
     by : (p : List (Planned About)) (k : ℕ) → k < length p → entries p ≡ entries (take k p) ++ entry (get_or p k d) ∷ entries (drop (suc k) p)
     by [] k lt = absurd (omega (arith, lt))
     by (x ∷ p) zero lt = refl

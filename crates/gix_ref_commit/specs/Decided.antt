@@ -1,8 +1,8 @@
 -- What a commit has decided of `packed-refs`, and what of it is on the tree before its first write.
-use Rattle.std.specs.Prelude.{◌≡◌, ◌≢◌, ◌≤◌, ℕ, List, true, Option, Some, None, map}
+use Rattle.std.specs.Prelude.{◌≡◌, ◌≢◌, List, true, Option, Some, None, map}
 use Rattle.std.specs.List.{list_any}
 use Rattle.gix_ref_base.specs.PackedRecords.{Record}
-use Rattle.gix_ref_files.specs.Files.{Meaning, disk_of, Leaves}
+use Rattle.gix_ref_files.specs.Files.{Meaning, disk_of, Leaves, FaultCounts, NoFewer}
 use Rattle.gix_ref_files.specs.Lock.{lock_of}
 use Rattle.gix_ref_files.specs.Tree.{Tree, Path, put}
 use Rattle.gix_ref_files.specs.Tree.Content.{File}
@@ -59,7 +59,7 @@ pub record DecidesPacked (honest : Type 0) (settings : Settings) (packed : Optio
 
 -- Why it could not be decided, where the count of faults was `before` and is `now`.
 pub record LeavesUndecided (honest : Type 0) (settings : Settings) (edits : List Edit)
-    (old : Meaning) (before now : ℕ) (error : Error) : Type 0 where
+    (old : Meaning) (before now : FaultCounts) (error : Error) : Type 0 where
   -- of a well-formed one only a fault of files, or want of memory, where no two edits have one place
   pub sound : honest → AreEdits (setting_of settings) (plan_edits edits) →
       (rs : List Record) → ArePackedRecords settings.kind (packed_refs_in settings old) rs →
@@ -71,7 +71,7 @@ pub record LeavesUndecided (honest : Type 0) (settings : Settings) (edits : List
   pub counted : IsCountedRefusal before now error
 
 -- Nothing is written but the lock of `packed-refs`, where that was empty.
-pub record OnlyFillsPacked {F : Type 0} (honest : Type 0) (means : F → Meaning) (faults : F → ℕ)
+pub record OnlyFillsPacked {F : Type 0} (honest : Type 0) (means : F → Meaning) (faults : F → FaultCounts)
     (packed : Option Path) (old new : F) : Type 0 where
   -- every stop leaves the tree as it was, but for some text in that lock
   pub leaves : honest → IsPackedLockEmpty packed (means old).tree →
@@ -80,4 +80,4 @@ pub record OnlyFillsPacked {F : Type 0} (honest : Type 0) (means : F → Meaning
   pub passes : honest → IsPackedLockEmpty packed (means old).tree →
       OnlyLocks (map lock_of (packed_places packed)) (means old) (means new)
   -- no fault is forgotten
-  pub no_fewer : faults old ≤ faults new
+  pub no_fewer : NoFewer (faults old) (faults new)

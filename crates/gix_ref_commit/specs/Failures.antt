@@ -4,7 +4,7 @@ use Rattle.gix_ref_name.specs.Names.{full_bytes}
 use Rattle.gix_ref_name.specs.declared.name.FullName.{FullName}
 use Rattle.gix_ref_files.specs.Disk.{folder_of}
 use Rattle.gix_ref_files.specs.Tree.{Path}
-use Rattle.gix_ref_files.specs.Files.{HasRisen}
+use Rattle.gix_ref_files.specs.Files.{FaultCounts, IsMet}
 use Rattle.gix_ref_files.specs.declared.files.FileError.{FileError}
 use Rattle.gix_ref_files.specs.declared.files.FileError.TheVariants.{Memory as no_want}
 use Rattle.gix_ref_files.specs.declared.steps.Cause.TheVariants.{File, Sync, Unexpected, Asked}
@@ -130,12 +130,12 @@ SaysWhyUnlisted edits no_memory error = ⊥
 SaysWhyUnlisted edits (Step about (File fault)) error = SaysUnlisted edits about fault error
 SaysWhyUnlisted edits (Step about cause) error = ⊥
 
--- a call of files failed, for another reason than a want of memory
-abbrev IsFileFault : (before now : ℕ) → FileError → Type 0
-IsFileFault before now fault = HasRisen before now × (fault ≢ no_want)
+-- this fault of files was counted, and is no want of memory
+abbrev IsFileFault : (before now : FaultCounts) → FileError → Type 0
+IsFileFault before now fault = IsMet fault before now × (fault ≢ no_want)
 
 -- Why no folder was listed: a call of files failed, and the error is that of a write of these edits; or memory was refused.
-abbrev pub IsOfListing : List Edit → (before now : ℕ) → Error → Type 0
+abbrev pub IsOfListing : List Edit → (before now : FaultCounts) → Error → Type 0
 IsOfListing edits before now Memory = Unit {0}
 IsOfListing edits before now (CreateOrUpdateRefLog (Append source path)) =
     IsFileFault before now source × ((at : ℕ) × (at < length edits)

@@ -1,7 +1,7 @@
 -- The run of a plan: that all of it was run, or where and why it ended early.
-use Rattle.std.specs.Prelude.{◌≡◌, ◌≢◌, ◌≤◌, ℕ, List, [], ◌∷◌, ◌++◌, get_or}
+use Rattle.std.specs.Prelude.{◌≡◌, ◌≢◌, List, [], ◌∷◌, ◌++◌, get_or}
 use Rattle.gix_ref_files.specs.Tree.{Tree}
-use Rattle.gix_ref_files.specs.Files.{HasRisen, Meaning, disk_of, Leaves, Passes}
+use Rattle.gix_ref_files.specs.Files.{Meaning, disk_of, Leaves, Passes, FaultCounts, NoFewer, IsMet}
 use Rattle.gix_ref_files.specs.Steps.{IsAfter, IsLeftBy, EndsBy}
 use Rattle.gix_ref_files.specs.DiskSteps.{Synced, IsReachedBy, IsSyncedAfter}
 use Rattle.gix_ref_files.specs.declared.files.FileError.TheVariants.{Memory as no_memory}
@@ -35,14 +35,14 @@ IsStepAt plan ended Memory = ⊥
 IsStepAt plan ended (Step about cause) =
     ((d : Planned About) → (get_or plan ended.at d).about ≡ about) × (cause ≡ ended.cause)
 
--- a fault of files came with a rise of their count, and is no want of memory
-abbrev pub IsRaisedBy : (before now : ℕ) → Cause → Type 0
-IsRaisedBy before now (File error) = HasRisen before now × (error ≢ no_memory)
-IsRaisedBy before now (Sync error) = HasRisen before now × (error ≢ no_memory)
+-- a fault of files was counted, and is no want of memory
+abbrev pub IsRaisedBy : (before now : FaultCounts) → Cause → Type 0
+IsRaisedBy before now (File error) = IsMet error before now × (error ≢ no_memory)
+IsRaisedBy before now (Sync error) = IsMet error before now × (error ≢ no_memory)
 IsRaisedBy before now Unexpected = Unit {0}
 IsRaisedBy before now Asked = Unit {0}
 
-abbrev pub IsRaised : (before now : ℕ) → Unfinished → Type 0
+abbrev pub IsRaised : (before now : FaultCounts) → Unfinished → Type 0
 IsRaised before now Memory = Unit {0}
 IsRaised before now (Step about cause) = IsRaisedBy before now cause
 
@@ -53,7 +53,7 @@ pub record RunsAll (honest : Type 0) (entries : List Entry) (old new : Meaning) 
   -- each with its syncs
   pub synced : honest → IsSyncedAfter (steps_in entries) (disk_of old) (disk_of new)
 
-module _ {F : Type 0} (honest : Type 0) (means : F → Meaning) (faults : F → ℕ) where
+module _ {F : Type 0} (honest : Type 0) (means : F → Meaning) (faults : F → FaultCounts) where
   -- Nothing but these entries was run, in their order, and perhaps not all.
   pub record RunsOnly (entries : List Entry) (old new : F) : Type 0 where
     -- every stop leaves the tree after some of them, with perhaps a beginning of the next
@@ -63,7 +63,7 @@ module _ {F : Type 0} (honest : Type 0) (means : F → Meaning) (faults : F → 
     pub passes : honest → Passes (means old) (means new)
         (IsReachedBy (steps_in entries) (disk_of (means old)))
     -- no fault is forgotten
-    pub no_fewer : faults old ≤ faults new
+    pub no_fewer : NoFewer (faults old) (faults new)
 
   -- Where and why the run of these entries ended early.
   pub record StopsEarly (entries : List Entry) (old new : F)

@@ -1,6 +1,6 @@
 //! Empty folders above the files that a commit removed, which are removed once its locks are gone.
 ghost use Rattle.std.specs.Prelude.{◌≡◌, ◌≤◌, ◌<◌, ◌∷◌, ◌++◌, [], IfOk, OnOk, get_or, length};
-ghost use Rattle.gix_ref_files.specs.Files.{AtEveryStop, OnEveryDisk};
+ghost use Rattle.gix_ref_files.specs.Files.{AtEveryStop, OnEveryDisk, NoFewer};
 ghost use Rattle.gix_ref_transaction.specs.OwnLocks.{paths_of};
 ghost use Rattle.gix_ref_commit.specs.Cleared.{FoldersGo, LosesNoMore, OnlyFolders, all_removed, first_component, kept_of, removed_by};
 
@@ -82,7 +82,7 @@ fn remove_folder<F: Files>(files: &mut F, dirs: &Dirs, path: &[u8], end: usize) 
         (FoldersGo dirs.now (path.now ∷ [])) }
     ensures passes { F.honest → OnlyFolders dirs.now (F.means files.old) (F.means files.new) }
     ensures loses { F.honest → OnEveryDisk F.means files.old files.new LosesNoMore }
-    ensures no_fewer { F.faults files.old ≤ F.faults files.new }
+    ensures no_fewer { NoFewer (F.faults files.old) (F.faults files.new) }
 {
     let folder = &path[..end];
     if leads_to_store(dirs, folder) {
@@ -102,7 +102,7 @@ fn remove_at<F: Files>(files: &mut F, dirs: &Dirs, path: &[u8], end: usize) -> b
         (FoldersGo dirs.now (path.now ∷ [])) }
     ensures passes { F.honest → OnlyFolders dirs.now (F.means files.old) (F.means files.new) }
     ensures loses { F.honest → OnEveryDisk F.means files.old files.new LosesNoMore }
-    ensures no_fewer { F.faults files.old ≤ F.faults files.new }
+    ensures no_fewer { NoFewer (F.faults files.old) (F.faults files.new) }
 {
     if path[end] != b'/' {
         return true;
@@ -116,7 +116,7 @@ fn remove_above<F: Files>(files: &mut F, dirs: &Dirs, path: &[u8])
         (FoldersGo dirs.now (path.now ∷ [])) }
     ensures passes { F.honest → OnlyFolders dirs.now (F.means files.old) (F.means files.new) }
     ensures loses { F.honest → OnEveryDisk F.means files.old files.new LosesNoMore }
-    ensures no_fewer { F.faults files.old ≤ F.faults files.new }
+    ensures no_fewer { NoFewer (F.faults files.old) (F.faults files.new) }
 {
     let top = kept_len(dirs, path).saturating_add(1);
     let mut end = path.len();
@@ -135,7 +135,7 @@ pub fn remove_empty_folders<F: Files>(files: &mut F, dirs: &Dirs, paths: &[Vec<u
         (FoldersGo dirs.now (paths_of paths.now)) }
     ensures passes { F.honest → OnlyFolders dirs.now (F.means files.old) (F.means files.new) }
     ensures loses { F.honest → OnEveryDisk F.means files.old files.new LosesNoMore }
-    ensures no_fewer { F.faults files.old ≤ F.faults files.new }
+    ensures no_fewer { NoFewer (F.faults files.old) (F.faults files.new) }
 {
     for path in paths {
         remove_above(files, dirs, path);

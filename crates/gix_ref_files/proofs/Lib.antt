@@ -1,11 +1,13 @@
 pub mod Between
 pub mod Changes
 pub mod Climbing
+pub mod Counting
 pub mod Entries
 pub mod FolderOf
 pub mod Folders
 pub mod LockLemmas
 pub mod Losing
+pub mod Meeting
 pub mod Moments
 pub mod PathFronts
 pub mod Puts

@@ -1,6 +1,7 @@
 -- What files mean: a disk, a clock, and the disks that were found on the way; and so what a stop and what a loss of power could
 -- have left.
-use Rattle.std.specs.Prelude.{◌≡◌, ◌⊎◌, ℕ, ◌+◌, ◌-◌, ◌<◌, ◌≤◌, ◌^◌, Result, Ok, Err, nat_lt, if◌then◌else◌}
+use Rattle.std.specs.Prelude.{◌≡◌, ◌⊎◌, ℕ, ◌+◌, ◌-◌, ◌<◌, ◌≤◌, ◌^◌, Result, Ok, Err, nat_lt, ◌==◌, if◌then◌else◌}
+use Rattle.gix_ref_files.specs.Kinds.{number_of_kind}
 use Rattle.gix_ref_files.specs.Tree.{Tree}
 use Rattle.gix_ref_files.specs.Disk.{Disk, Unsynced, Lost}
 use Rattle.gix_ref_files.specs.declared.files.FileError.{FileError}
@@ -10,24 +11,60 @@ use Rattle.gix_ref_files.specs.declared.files.FileError.TheVariants.{Device, Not
 abbrev pub one_more : ℕ → ℕ
 one_more n = if nat_lt n (2 ^ 64 - 1) then n + 1 else n
 
--- the count of faults after this one: a fault of the device or a name that is no text is counted
-abbrev pub count_with : FileError → ℕ → ℕ
-count_with (Device kind) n = one_more n
-count_with NotUtf8 n = one_more n
+-- the number of a fault: that of its kind where the device failed, then that of a path that is not UTF-8
+abbrev pub number_of : FileError → ℕ
+number_of (Device kind) = number_of_kind kind
+number_of NotUtf8 = 42
+number_of Memory = 43
+
+-- Counts of faults: how many in all, and how many of each kind.
+pub record FaultCounts : Type 0 where
+  pub total : ℕ
+  pub each : FileError → ℕ
+
+-- no fault
+abbrev pub no_faults : FaultCounts
+no_faults = record { total = 0; each = λ fault. 0 }
+
+-- and this one more
+abbrev pub counted : FileError → FaultCounts → FaultCounts
+counted error n = record {
+  total = one_more n.total;
+  each = λ fault. if number_of fault == number_of error then one_more (n.each fault)
+      else n.each fault;
+}
+
+-- the counts after this fault: one of the device or of a path that is not UTF-8 is counted
+abbrev pub count_with : FileError → FaultCounts → FaultCounts
+count_with (Device kind) n = counted (Device kind) n
+count_with NotUtf8 n = counted NotUtf8 n
 count_with Memory n = n
 
--- the count of faults after a call
-abbrev pub count_after : {T : Type 0} → Result T FileError → ℕ → ℕ
+-- the counts after a call
+abbrev pub count_after : {T : Type 0} → Result T FileError → FaultCounts → FaultCounts
 count_after (Ok value) n = n
 count_after (Err error) n = count_with error n
 
--- the count has risen; the greatest one counts as risen
-abbrev pub HasRisen : ℕ → ℕ → Type 0
-HasRisen before now = (before < now) ⊎ (2 ^ 64 - 1 ≤ now)
+-- one number has risen to another; the greatest one counts as risen
+abbrev pub IsRise : ℕ → ℕ → Type 0
+IsRise before now = (before < now) ⊎ (2 ^ 64 - 1 ≤ now)
 
--- the count of faults has risen by so many at least, or is full
-abbrev pub HasRisenBy : (n before now : ℕ) → Type 0
-HasRisenBy n before now = (before + n ≤ now) ⊎ (2 ^ 64 - 1 ≤ now)
+-- some fault was counted
+abbrev pub HasRisen : FaultCounts → FaultCounts → Type 0
+HasRisen before now = IsRise before.total now.total
+
+-- this fault was counted
+abbrev pub IsMet : FileError → FaultCounts → FaultCounts → Type 0
+IsMet error before now = IsRise (before.each error) (now.each error)
+
+-- so many faults at least were counted; the greatest count counts as so many
+abbrev pub HasRisenBy : (n : ℕ) (before now : FaultCounts) → Type 0
+HasRisenBy n before now = (before.total + n ≤ now.total) ⊎ (2 ^ 64 - 1 ≤ now.total)
+
+-- no fault is forgotten
+pub record NoFewer (before now : FaultCounts) : Type 0 where
+  pub total : before.total ≤ now.total
+  pub each : (fault : FileError) → before.each fault ≤ now.each fault
 
 -- What files mean at one moment.
 pub record Meaning : Type 1 where

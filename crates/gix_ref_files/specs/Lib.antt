@@ -2,7 +2,9 @@ pub mod Calls
 pub mod Disk
 pub mod DiskCalls
 pub mod DiskSteps
+pub mod FaultCounts
 pub mod Files
+pub mod Kinds
 pub mod Lock
 pub mod Losing
 pub mod ReadOnly

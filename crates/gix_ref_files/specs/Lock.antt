@@ -3,7 +3,7 @@ use Rattle.std.specs.Prelude.{◌≡◌, ◌⊎◌, ℕ, zero, suc, List, [], �
 use Rattle.gix_ref_files.specs.Tree.{Tree, Path, is_blocked, fronts, folders_to, with_folders}
 use Rattle.gix_ref_files.specs.Disk.{Disk, created_on, moved_on, with_folders_on}
 use Rattle.gix_ref_files.specs.DiskCalls.{CreatingOn}
-use Rattle.gix_ref_files.specs.Files.{count_with}
+use Rattle.gix_ref_files.specs.Files.{FaultCounts, count_with}
 use Rattle.gix_ref_files.specs.Calls.{Creates, Creating, Renames}
 use Rattle.gix_ref_files.specs.declared.files.Create.{Create}
 use Rattle.gix_ref_files.specs.declared.files.Create.TheVariants.{Made, Standing as FileStanding, Blocked as FileBlocked}
@@ -93,7 +93,7 @@ after_commit before place Moved = moved_on before (lock_of place) place
 after_commit before place (FolderStands lock) = before
 
 -- the count of faults after a call that gives the lock back where it fails
-abbrev pub count_unspent : {T : Type 0} → Result T Unspent → ℕ → ℕ
+abbrev pub count_unspent : {T : Type 0} → Result T Unspent → FaultCounts → FaultCounts
 count_unspent (Ok value) n = n
 count_unspent (Err unspent) n = count_with unspent.error n
 

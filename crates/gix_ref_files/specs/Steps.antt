@@ -1,7 +1,7 @@
 -- Steps on a tree: what they make of it, and what a stop among them could leave.
 use Rattle.std.specs.Prelude.{◌≡◌, ◌≢◌, ◌⊎◌, ℕ, zero, suc, List, [], ◌∷◌, true, false, IsSome, map}
 use Rattle.gix_ref_files.specs.Tree.{Tree, Path, appended, is_file, is_folder, is_blocked}
-use Rattle.gix_ref_files.specs.Files.{count_with}
+use Rattle.gix_ref_files.specs.Files.{FaultCounts, count_with}
 use Rattle.gix_ref_files.specs.Calls.{IsFree, created, Creates, Creating, Appends, Appending, Renames, Renaming, RemovesFile, RemovingFile, MakesFolders, MakingFolders, RemovesFolder, RemovingFolder, is_in_the_way}
 use Rattle.gix_ref_files.specs.declared.files.Create.TheVariants.{Made}
 use Rattle.gix_ref_files.specs.declared.files.Rename.TheVariants.{Moved}
@@ -115,7 +115,7 @@ abbrev pub steps_of : {E : Type 0} → List (Planned E) → List Step
 steps_of plan = map (λ planned. step_of planned.action) plan
 
 -- the count of faults after a step that ended a run
-abbrev pub count_ended : Cause → ℕ → ℕ
+abbrev pub count_ended : Cause → FaultCounts → FaultCounts
 count_ended (File error) n = count_with error n
 count_ended (Sync error) n = count_with error n
 count_ended Unexpected n = n

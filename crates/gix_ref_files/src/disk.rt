@@ -1,18 +1,23 @@
 //! The disk, by std's files. It counts its faults and claims no honesty.
 ghost use Rattle.std.specs.Prelude.{◌≡◌, OnOk, IfErr};
-ghost use Rattle.gix_ref_files.specs.Files.{one_more};
+ghost use Rattle.gix_ref_files.specs.Files.{counted};
+ghost use Rattle.gix_ref_files.specs.FaultCounts.{counts_of};
 ghost use Rattle.gix_ref_files.specs.declared.files.FileError.TheVariants.{Device, NotUtf8};
 
+use crate::faults::Faults;
 use crate::files::{Create, Entry, FileError, Files, Node, ReadAt, Rename};
 use crate::paths;
-use std::alloc::Global;
-use std::fs::{File, OpenOptions};
+use std::alloc::{AllocError, Global};
+use std::fs::{DirEntry, File, OpenOptions};
 use std::io::{ErrorKind, Read, Write};
 use std::os::unix::fs::FileExt;
 use std::{fs, io};
 
 /// The disk. A path is one of the system's, so a relative one begins at the working folder. Symbolic links are
 /// followed, but a listing leaves them out, as it does all that is neither a file nor a folder. As `std::fs`.
+///
+/// A path has to be UTF-8; any other is the fault `NotUtf8`. A listing does not tell names that are not UTF-8, since std's folders
+/// do not: where there are such, it has one file more, named by the byte 0xFF, which no call can open.
 ///
 /// A FIFO, a socket or a device is never opened: it counts as nothing, and as `Standing` for `create_new`. So no call
 /// waits for another program. What a path names is asked before it is opened; another program that puts a FIFO there
@@ -26,7 +31,7 @@ use std::{fs, io};
 #[derive(Drop)]
 pub struct Disk {
     rt: HostRuntime,
-    faults: u64,
+    faults: Faults,
     syncs: bool,
     made: Option<MadeFile>,
     folder: Option<Vec<u8>>,
@@ -44,28 +49,28 @@ struct MadeFile {
 pub struct DiskReader {
     file: File,
     len: u64,
-    faults: u64,
+    faults: Faults,
 }
 
 /// Counts a fault of the device, and returns it.
-fn fault(faults: &mut u64, kind: ErrorKind) -> FileError
+fn fault(faults: &mut Faults, kind: ErrorKind) -> FileError
     ensures error { result ≡ Device kind }
-    ensures counted { faults.new ≡ one_more faults.old }
+    ensures counted { counts_of faults.new ≡ counted (Device kind) (counts_of faults.old) }
 {
-    *faults = faults.saturating_add(1);
+    faults.add_device(kind);
     FileError::Device(kind)
 }
 
 /// The path as text. A path that is not UTF-8 is a fault, and is counted.
-fn text_of<'p>(faults: &mut u64, path: &'p [u8]) -> Result<&'p str, FileError>
-    ensures text { OnOk result (faults.new ≡ faults.old) }
+fn text_of<'p>(faults: &mut Faults, path: &'p [u8]) -> Result<&'p str, FileError>
+    ensures text { OnOk result (counts_of faults.new ≡ counts_of faults.old) }
     ensures counted { IfErr result (λ error. (error ≡ NotUtf8)
-        × (faults.new ≡ one_more faults.old)) }
+        × (counts_of faults.new ≡ counted NotUtf8 (counts_of faults.old))) }
 {
     match std::str::from_utf8(path) {
         Ok(path) => Ok(path),
         Err(_) => {
-            *faults = faults.saturating_add(1);
+            faults.add_not_utf8();
             Err(FileError::NotUtf8)
         }
     }
@@ -81,7 +86,7 @@ impl Disk {
     pub fn new(rt: HostRuntime) -> Self {
         Disk {
             rt,
-            faults: 0,
+            faults: Faults::none(),
             syncs: true,
             made: None,
             folder: None,
@@ -99,7 +104,7 @@ impl Disk {
     pub fn without_syncs(rt: HostRuntime) -> Self {
         Disk {
             rt,
-            faults: 0,
+            faults: Faults::none(),
             syncs: false,
             made: None,
             folder: None,
@@ -129,7 +134,7 @@ impl Disk {
 
     /// Makes a file whose folder was known and is gone, and the folder first.
     fn make_again(&mut self, path: &str) -> io::Result<File>
-        ensures { self.new.faults ≡ self.old.faults }
+        ensures { counts_of self.new.faults ≡ counts_of self.old.faults }
     {
         if let Some(folder) = self.folder.take() {
             fs::create_dir_all(&self.rt, std::str::from_utf8(&folder).unwrap_or(""))?;
@@ -137,16 +142,22 @@ impl Disk {
         make_file(&self.rt, path)
     }
 
-    /// Syncs a file or a folder, whichever is asked for; false where there is no such thing.
+    /// Syncs a file or a folder, whichever is asked for, after a look; false where there is no such thing.
     fn sync(&mut self, path: &[u8], what: Node) -> Result<bool, FileError>
-        ensures count { self.new.faults ≡ count_after result self.old.faults }
+        ensures count { counts_of self.new.faults ≡ count_after result (counts_of self.old.faults) }
         ensures memory { IsErrOf result FileError.Memory → ⊥ }
     {
-        if !self.syncs {
-            return Ok(true);
-        }
         let path = text_of(&mut self.faults, path)?;
-        match sync_at(&self.rt, path, what) {
+        let synced = sync_at(&self.rt, path, what);
+        self.synced(synced)
+    }
+
+    /// Whether a sync was done; false where there is no such thing. Another error is counted.
+    fn synced(&mut self, synced: io::Result<bool>) -> Result<bool, FileError>
+        ensures count { counts_of self.new.faults ≡ count_after result (counts_of self.old.faults) }
+        ensures memory { IsErrOf result FileError.Memory → ⊥ }
+    {
+        match synced {
             Ok(synced) => Ok(synced),
             Err(error) => match error.kind() {
                 ErrorKind::NotFound | ErrorKind::NotADirectory => Ok(false),
@@ -165,7 +176,7 @@ impl ReadAt for DiskReader {
 
     ghost size = { λ reader. reader.len };
 
-    ghost faults = { λ reader. reader.faults };
+    ghost faults = { λ reader. counts_of reader.faults };
 
     fn len(&self) -> u64 {
         self.len
@@ -188,7 +199,7 @@ impl Files for Disk {
 
     ghost means = { λ disk. no_meaning };
 
-    ghost faults = { λ disk. disk.faults };
+    ghost faults = { λ disk. counts_of disk.faults };
 
     ghost tree_is_left = { λ disk t honest le. absurd honest };
 
@@ -254,10 +265,6 @@ impl Files for Disk {
             Err(error) => match error.kind() {
                 ErrorKind::NotFound | ErrorKind::NotADirectory => Ok(None),
                 ErrorKind::OutOfMemory => Err(FileError::Memory),
-                ErrorKind::InvalidFilename => {
-                    self.faults = self.faults.saturating_add(1);
-                    Err(FileError::NotUtf8)
-                }
                 kind => Err(fault(&mut self.faults, kind)),
             },
         }
@@ -365,9 +372,20 @@ impl Files for Disk {
         }
     }
 
-    /// Four system calls, as `sync_file`; none for a disk `without_syncs`.
+    /// Three system calls: open, `fsync` and close; none for a disk `without_syncs`. The slash at the end of what is opened has the
+    /// system refuse all that is no folder.
     fn sync_folder(&mut self, path: &[u8]) -> Result<bool, FileError> {
-        self.sync(path, Node::Folder)
+        if !self.syncs {
+            return Ok(true);
+        }
+        match with_slash(self.rt.alloc(), path) {
+            Ok(folder) => {
+                let folder = text_of(&mut self.faults, &folder)?;
+                let synced = sync_open(&self.rt, folder);
+                self.synced(synced)
+            }
+            Err(_) => self.sync(path, Node::Folder),
+        }
     }
 
     /// One system call.
@@ -429,7 +447,7 @@ fn open_file(rt: &HostRuntime, path: &str) -> io::Result<Option<DiskReader>> {
     Ok(Some(DiskReader {
         file,
         len,
-        faults: 0,
+        faults: Faults::none(),
     }))
 }
 
@@ -471,11 +489,24 @@ fn kept(alloc: Global, path: &[u8], file: File) -> Option<MadeFile> {
     Some(MadeFile { path, file })
 }
 
+/// The path with a slash after it.
+fn with_slash(alloc: Global, path: &[u8]) -> Result<Vec<u8>, AllocError> {
+    let mut slashed = Vec::with_capacity(alloc, path.len() + 1)?;
+    slashed.extend_from_slice(path)?;
+    slashed.push(b'/')?;
+    Ok(slashed)
+}
+
 /// Syncs what is at a path; false where it is something else than what is asked for.
 fn sync_at(rt: &HostRuntime, path: &str, what: Node) -> io::Result<bool> {
     if node_of(&fs::metadata(rt, path)?) != what {
         return Ok(false);
     }
+    sync_open(rt, path)
+}
+
+/// Opens what is at a path and syncs it.
+fn sync_open(rt: &HostRuntime, path: &str) -> io::Result<bool> {
     File::open(rt, path)?.sync_all()?;
     Ok(true)
 }
@@ -506,16 +537,41 @@ fn move_file(rt: &HostRuntime, from: &str, to: &str) -> io::Result<Rename> {
     }
 }
 
+/// The name in a listing of all entries whose names are not UTF-8: a byte that is in no UTF-8.
+const NOT_UTF8: &[u8] = b"\xff";
+
+/// Lists a folder. Entries whose names are not UTF-8 are one file, `NOT_UTF8`.
 fn list_in(rt: &HostRuntime, alloc: Global, path: &str) -> io::Result<Vec<Entry>> {
     let mut entries = Vec::new(alloc);
+    let mut has_other_names = false;
     for entry in fs::read_dir(rt, path)? {
-        let entry = entry?;
-        let kind = entry.file_type()?;
-        if kind.is_dir() || kind.is_file() {
-            let name = entry.file_name().as_bytes().to_vec(alloc)?;
-            let is_folder = kind.is_dir();
-            entries.push(Entry { name, is_folder })?;
+        match entry {
+            Ok(entry) => add_entry(alloc, &entry, &mut entries)?,
+            Err(error) if error.kind() == ErrorKind::InvalidFilename => has_other_names = true,
+            Err(error) => return Err(error),
         }
     }
+    if has_other_names {
+        let name = NOT_UTF8.to_vec(alloc)?;
+        entries.push(Entry {
+            name,
+            is_folder: false,
+        })?;
+    }
     Ok(entries)
+}
+
+/// Adds an entry of a folder to a listing, if it is a file or a folder.
+fn add_entry(
+    alloc: Global,
+    entry: &DirEntry<HostRuntime>,
+    entries: &mut Vec<Entry>,
+) -> io::Result<()> {
+    let kind = entry.file_type()?;
+    if kind.is_dir() || kind.is_file() {
+        let name = entry.file_name().as_bytes().to_vec(alloc)?;
+        let is_folder = kind.is_dir();
+        entries.push(Entry { name, is_folder })?;
+    }
+    Ok(())
 }

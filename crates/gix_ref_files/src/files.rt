@@ -73,7 +73,7 @@ pub struct Entry {
 /// A file that is open for reading at any place. As `FileExt` of `std::os::unix::fs`.
 pub trait ReadAt {
     ghost use Rattle.std.specs.Prelude.{List};
-    ghost use Rattle.gix_ref_files.specs.Files.{count_after};
+    ghost use Rattle.gix_ref_files.specs.Files.{FaultCounts, count_after};
     ghost use Rattle.gix_ref_files.specs.Calls.{IsRead};
 
     /// Reads return the bytes.
@@ -85,8 +85,8 @@ pub trait ReadAt {
     /// How many bytes there are, as the reader learned when it was opened.
     ghost size: { Self → ℕ };
 
-    /// How many faults this reader met.
-    ghost faults: { Self → ℕ };
+    /// The faults that this reader met.
+    ghost faults: { Self → FaultCounts };
 
     /// The number of bytes, known since the file was opened. As `Metadata::len`.
     fn len(&self) -> u64
@@ -120,7 +120,7 @@ pub trait Files {
     ghost use Rattle.gix_ref_files.specs.Tree.{Tree, IsShaped, node_at, bytes_of, is_file, is_folder};
     ghost use Rattle.gix_ref_files.specs.Disk.{Disk, file_synced, folder_synced};
     ghost use Rattle.gix_ref_files.specs.DiskCalls.{Untouched, after_create, CreatingOn, after_folders, MakingFoldersOn, after_append, AppendingOn, after_rename, RenamingOn, after_removal, RemovingFileOn, RemovingFolderOn, Syncs, SyncingOn};
-    ghost use Rattle.gix_ref_files.specs.Files.{Meaning, disk_of, left_since, AtEveryStop, Adds, OnEveryDisk, AddsDisks, count_after, DiskBecomes};
+    ghost use Rattle.gix_ref_files.specs.Files.{Meaning, disk_of, left_since, AtEveryStop, Adds, OnEveryDisk, AddsDisks, FaultCounts, count_after, DiskBecomes};
     ghost use Rattle.gix_ref_files.specs.Calls.{Unchanged, emptied, Opens, Creates, Creating, MakesFolders, MakingFolders, Appends, Appending, Renames, Renaming, RemovesFile, RemovingFile, RemovesFolder, RemovingFolder, Lists};
 
     /// A file of these, open for reading.
@@ -132,8 +132,8 @@ pub trait Files {
     /// The disk, the clock, and the disks that a stop or a loss of power could have found.
     ghost means: { Self → Meaning };
 
-    /// How many faults there were.
-    ghost faults: { Self → ℕ };
+    /// The faults that there were.
+    ghost faults: { Self → FaultCounts };
 
     /// Returns what is at a path. As `fs::metadata`.
     ///

@@ -2,6 +2,7 @@
 #![tactic(auto)]
 
 pub mod disk;
+pub mod faults;
 pub mod files;
 pub mod lock;
 pub mod paths;

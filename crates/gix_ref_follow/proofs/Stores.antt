@@ -2,7 +2,7 @@
 use Rattle.std.proofs.Common.{◌≡◌, inl, inr, ℕ, Bool, ◌&&◌, List, [], ◌∷◌, sym, ◌∙◌, ap, subst}
 use Rattle.gix_ref_base.specs.PackedRecords.{Record}
 use Rattle.gix_ref_name.specs.Names.{full_bytes}
-use Rattle.gix_ref_files.specs.Files.{Meaning}
+use Rattle.gix_ref_files.specs.Files.{Meaning, FaultCounts}
 use Rattle.gix_ref_files.specs.Tree.{Tree}
 use Rattle.gix_ref_files.specs.declared.files.ReadAt.{Ghosts}
 use Rattle.gix_ref_files.proofs.Moments.{joins, weaken}
@@ -33,7 +33,7 @@ fails_wider Passed Passed' Fails Fails' (n ∷ names) p f (inl here) = inl (f n 
 fails_wider Passed Passed' Fails Fails' (n ∷ names) p f (inr later) = inr (p n later.0, fails_wider Passed Passed' Fails Fails' names p f later.1)
 
 -- a lookup that fails after others did not is one that fails at first
-pub fails_at_first : {R : Type 0} {G : Ghosts R} (honest : Type 0) (settings : Settings) (T T' : Tree) (r r' : Records R G) (before before' now : ℕ) (names : List (List ℕ)) (error : FindError) →
+pub fails_at_first : {R : Type 0} {G : Ghosts R} (honest : Type 0) (settings : Settings) (T T' : Tree) (r r' : Records R G) (before before' now : FaultCounts) (names : List (List ℕ)) (error : FindError) →
     (honest → T' ≡ T) → before' ≡ before → (honest → AreStillAsked settings.kind (packed_refs_at settings T) r r') →
     FailsAmong honest settings T' r' before' now names error → FailsAmong honest settings T r before now names error
 fails_at_first {R} {G} honest settings T T' r r' before before' now names error same count still =
@@ -107,7 +107,7 @@ module _ {F R : Type 0} {G : Ghosts R} (honest : Type 0) (means : F → Meaning)
         ),
       )
 
-  pub misses_on : (faults : F → ℕ) (new : Store F) (name : List ℕ) (error : Missing) → faults (stores.files_of mid) ≡ faults (stores.files_of first) →
+  pub misses_on : (faults : F → FaultCounts) (new : Store F) (name : List ℕ) (error : Missing) → faults (stores.files_of mid) ≡ faults (stores.files_of first) →
       MissesIn honest means faults asks mid new r' name error → MissesIn honest means faults asks first new r name error
   misses_on faults new name (NotFound n) count why = why
   misses_on faults new name (Find error) count (inl memory) = inl memory
@@ -115,7 +115,7 @@ module _ {F R : Type 0} {G : Ghosts R} (honest : Type 0) (means : F → Meaning)
       (fails_at_first honest (settings_of first) T T' r r' (faults (stores.files_of first)) (faults (stores.files_of mid)) (faults (stores.files_of new)) (asked_names (name_asked (composes_in asks first) name)) error same count still
       (subst (λ (s : Settings). FailsAmong honest s T' r' (faults (stores.files_of mid)) (faults (stores.files_of new)) (asked_names (name_asked (s.precompose_unicode && asks) name)) error) settled why))
 
-  pub not_followed_on : (faults : F → ℕ) (new : Store F) (at : Reference) (error : Error) → faults (stores.files_of mid) ≡ faults (stores.files_of first) →
+  pub not_followed_on : (faults : F → FaultCounts) (new : Store F) (at : Reference) (error : Error) → faults (stores.files_of mid) ≡ faults (stores.files_of first) →
       IsNotFollowed honest means faults asks mid new r' at error → IsNotFollowed honest means faults asks first new r at error
   not_followed_on faults new at (Follow error) count why = (why.0, why.1, misses_on faults new why.0 error count why.2)
   not_followed_on faults new at (Cycle path) count why = why ∙ same_place first mid (full_bytes at.name) looked.same

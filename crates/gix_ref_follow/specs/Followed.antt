@@ -6,7 +6,7 @@ use Rattle.gix_ref_base.specs.PackedRecords.{Record}
 use Rattle.gix_ref_base.specs.Targets.{TargetValue, target_value}
 use Rattle.gix_ref_base.specs.Targets.TargetValue.{object_id, symbolic_name}
 use Rattle.gix_ref_name.specs.declared.name.FullName.{FullName}
-use Rattle.gix_ref_files.specs.Files.{Meaning}
+use Rattle.gix_ref_files.specs.Files.{Meaning, FaultCounts}
 use Rattle.gix_ref_files.specs.declared.files.ReadAt.{Ghosts}
 use Rattle.gix_ref_records.specs.declared.raw.Reference.{Reference}
 use Rattle.gix_ref_lookup.specs.Lookups.{IsSound}
@@ -101,7 +101,7 @@ module _ {F R : Type 0} {G : Ghosts R} (means : F → Meaning) where
       × HitsIn means asks_records store asked name (Some next)
 
 module _ {F R : Type 0} {G : Ghosts R} (honest : Type 0) (means : F → Meaning)
-    (faults : F → ℕ) where
+    (faults : F → FaultCounts) where
   -- why the lookup of a target fails
   abbrev pub StepFails : (asks_records : Bool) → (old new : Store F) → Records R G → TargetValue →
       Option (Result Reference Missing) → Type 0

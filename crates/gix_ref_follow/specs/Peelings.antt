@@ -4,7 +4,7 @@ use Rattle.gix_ref_hash.specs.declared.hash.ObjectId.{ObjectId}
 use Rattle.gix_ref_name.specs.Names.{full_bytes}
 use Rattle.gix_ref_base.specs.Targets.{target_value}
 use Rattle.gix_ref_base.specs.Targets.TargetValue.{object_id}
-use Rattle.gix_ref_files.specs.Files.{Meaning}
+use Rattle.gix_ref_files.specs.Files.{Meaning, FaultCounts}
 use Rattle.gix_ref_files.specs.declared.files.ReadAt.{Ghosts}
 use Rattle.gix_ref_object.specs.Objects.{Stored}
 use Rattle.gix_ref_object.specs.Peeling as tags
@@ -90,7 +90,7 @@ IsOfTags name (NotFound id of) = full_bytes of ≡ name
 IsOfTags name other = Unit {0}
 
 module _ {F R : Type 0} {G : Ghosts R} (honest : Type 0) (means : F → Meaning)
-    (faults : F → ℕ) where
+    (faults : F → FaultCounts) where
   -- why a reference is not peeled: it is not followed; or it was, and the tags of its object are not peeled
   abbrev pub IsNotPeeled : (asks_records : Bool) → (old new : Store F) → Records R G → Reference →
       Error → Type 0

@@ -6,7 +6,7 @@ use Rattle.std.specs.Prelude.{is_some}
 use Rattle.gix_ref_hash.specs.Bytes.{NoByte}
 use Rattle.gix_ref_edits.specs.RefEdits.{message_of}
 use Rattle.gix_ref_files.specs.Disk.{folder_of}
-use Rattle.gix_ref_files.specs.Files.{HasRisen}
+use Rattle.gix_ref_files.specs.Files.{FaultCounts, IsMet}
 use Rattle.gix_ref_files.specs.Tree.{Path, fronts}
 use Rattle.gix_ref_files.specs.declared.files.FileError.TheVariants.{Memory as no_memory}
 use Rattle.gix_ref_log.specs.LogLines.{CanWriteLine}
@@ -76,13 +76,13 @@ abbrev pub IsRefusal : LogRules → View → List AskedEdit → Refusal → Type
 IsRefusal r files edits (CreateOrUpdateRefLog error) = FirstFails r files edits error
 IsRefusal r files edits Memory = Unit {0}
 
--- a fault of files is reported only where the count of faults rose, and never for want of memory; no append is reported
-abbrev pub IsCountedError : (before now : ℕ) → Error → Type 0
-IsCountedError before now (CreateLeadingDirectories (Some fault) folder) = HasRisen before now
+-- a fault of files that is reported was counted, and is never a want of memory; no append is reported
+abbrev pub IsCountedError : (before now : FaultCounts) → Error → Type 0
+IsCountedError before now (CreateLeadingDirectories (Some fault) folder) = IsMet fault before now
     × (fault ≡ no_memory → ⊥)
 IsCountedError before now (Append source path) = ⊥
 IsCountedError before now error = Unit {0}
 
-abbrev pub IsCountedCause : (before now : ℕ) → Refusal → Type 0
+abbrev pub IsCountedCause : (before now : FaultCounts) → Refusal → Type 0
 IsCountedCause before now (CreateOrUpdateRefLog error) = IsCountedError before now error
 IsCountedCause before now Memory = Unit {0}

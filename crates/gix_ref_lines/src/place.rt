@@ -2,7 +2,7 @@
 ghost use Rattle.std.specs.Prelude.{◌≡◌, ◌||◌, ℕ, IfOk, IfErr, is_some};
 ghost use Rattle.std.specs.List.{list_any};
 ghost use Rattle.gix_ref_files.specs.ReadOnly.{OnlyReads};
-ghost use Rattle.gix_ref_files.specs.Files.{count_with};
+ghost use Rattle.gix_ref_files.specs.Files.{count_with, FaultCounts};
 ghost use Rattle.gix_ref_files.specs.Tree.{fronts, is_blocked, node_at};
 ghost use Rattle.gix_ref_theory.specs.OnRealTrees.{contents};
 ghost use Rattle.gix_ref_lines.specs.LineCauses.{IsCountedCause};
@@ -32,7 +32,7 @@ pub struct Place {
 fn fault_at(alloc: Global, path: &[u8], fault: FileError) -> Error
     requires { fault ≡ FileError.Memory → ⊥ }
     ensures at { IsFaultAt path.now result }
-    ensures counted { (before now : ℕ) → now ≡ count_with fault before →
+    ensures counted { (before now : FaultCounts) → now ≡ count_with fault before →
         IsCountedCause before now result }
 {
     match folder(path).to_vec(alloc) {

@@ -1,5 +1,6 @@
 -- What the listing of one folder tells of the names in it.
-use Rattle.std.proofs.Common.{◌≡◌, ◌≢◌, ◌⊎◌, inl, inr, ⊎_elim, ℕ, ◌<◌, Bool, true, false, ◌&&◌, ◌||◌, ◌==◌, if◌then◌else◌, List, [], ◌∷◌, ◌++◌, length, refl, sym, ◌∙◌, ap, subst, append_assoc, append-nil, Option, Some, None, is_some, IsSome, nat_lt, ◌^◌, ◌-◌, ◌+◌, arith, le_refl, drop, take}
+use Rattle.std.proofs.Common.{◌≡◌, ◌≢◌, ◌⊎◌, inl, inr, ⊎_elim, ℕ, ◌<◌, Bool, true, false, ◌&&◌, ◌||◌, ◌==◌, if◌then◌else◌, List, [], ◌∷◌, ◌++◌, length, refl, sym, ◌∙◌, ap, subst, append_assoc, append-nil, Option, Some, None, is_some, IsSome, ◌+◌, drop, take}
+use Rattle.gix_ref_files.proofs.Meeting.{no_fewer_starts, more_after, met_wider}
 use Rattle.std.specs.Option.{option_map}
 use Rattle.std.specs.List.{All, list_all}
 use Rattle.std.specs.Prelude.{Vec, slice_index_or, ◌≤◌}
@@ -15,15 +16,14 @@ use Rattle.gix_ref_base.specs.Locations.{cut_at_slash}
 use Rattle.gix_ref_files.specs.Tree.{Tree, Path, Content, IsShaped, is_folder, fronts, fronts_after}
 use Rattle.gix_ref_files.specs.Tree.Content.{File, Folder}
 use Rattle.gix_ref_files.specs.Calls.{ListsFolder, IsEntryOf, IsEntryName, entry_name}
-use Rattle.gix_ref_files.specs.Files.{HasRisen, Leaves, Meaning, count_with, one_more}
+use Rattle.gix_ref_files.specs.Files.{Leaves, Meaning, count_with, FaultCounts, NoFewer}
 use Rattle.gix_ref_files.specs.Calls.{Unchanged}
 use Rattle.gix_ref_files.proofs.Moments.{joins}
 use Rattle.gix_ref_files.specs.declared.files.Entry.{Entry as ListedEntry}
 use Rattle.gix_ref_files.specs.declared.files.FileError.{FileError}
-use Rattle.gix_ref_files.specs.declared.files.FileError.TheVariants.{Device, NotUtf8, Memory}
 use Rattle.gix_ref_theory.specs.OnRealTrees.{view_of, file_of}
-use Rattle.gix_ref_lookup.proofs.Opening.{risen}
-use Rattle.gix_ref_listing.specs.Walks.{FoundEntry, Holds, IsFileOf, IsTaken, IsFolderPath, IsBelow, IsListedName, IsLooseName, IsRootPath}
+use Rattle.gix_ref_listing.specs.declared.found.Found.TheVariants.{File as FoundFile, Unlisted}
+use Rattle.gix_ref_listing.specs.Walks.{FoundEntry, Holds, IsFileOf, IsTaken, IsFolderPath, IsBelow, IsListedName, IsLooseName, IsRootPath, IsFileOrMet, IsAnyMet}
 use Rattle.gix_ref_listing.specs.declared.walk.Root.{Root}
 use Rattle.gix_ref_lookup.specs.Lookups.{Among}
 
@@ -78,12 +78,6 @@ entries_there root T folder path entries is listing = λ k d below not_folder.
     let entry = slice_index_or entries k d in
     let tells = listing.there k d below in
     subst (λ p. IsSome (file_of (T p))) (sym (path_below root.path.now folder path (entry_name entry) is)) (a_file (T (path ++ 47 ∷ entry_name entry)) entry.is_folder tells.0 tells.1 not_folder)
-
--- a fault of files raises their count
-pub fault_rises : (error : FileError) (before now : ℕ) → error ≢ Memory → now ≡ count_with error before → HasRisen before now
-fault_rises (Device kind) before now other is = subst (HasRisen before) (sym is) (risen before)
-fault_rises NotUtf8 before now other is = subst (HasRisen before) (sym is) (risen before)
-fault_rises Memory before now other is = absurd (other refl)
 
 -- a name has a byte behind a folder, and what is before a slash there is a component
 behind_folder : (folder rest : List ℕ) → IsFolderPath folder → IsPartialName (folder ++ rest) → IsPath rest
@@ -174,31 +168,24 @@ path_of_folder front folder (start, some, is) (inr (inner, ends)) = (front ++ in
         some_front [] some none = some refl
         some_front (x ∷ s) some none = absurd (cc)
 
-up : (n : ℕ) → n ≤ one_more n
-up n = go (nat_lt n (2 ^ 64 - 1))
+-- no fault is forgotten
+pub counts_up : (error : FileError) (before now : FaultCounts) → now ≡ count_with error before → NoFewer before now
+counts_up error before now is = subst (NoFewer before) (sym is) (more_after error before)
+
+-- a fault was counted, over more calls
+pub any_from : (a b c : FaultCounts) → NoFewer a b → IsAnyMet b c → IsAnyMet a c
+any_from a b c before (error, met) = (error, met_wider before (no_fewer_starts c) met)
+
+pub any_on : (a b c : FaultCounts) → IsAnyMet a b → NoFewer b c → IsAnyMet a c
+any_on a b c (error, met) later = (error, met_wider (no_fewer_starts a) later met)
+
+-- what was found stays so, over more calls
+pub met_on : (a b c : FaultCounts) (es : List FoundEntry) → NoFewer b c → All (IsFileOrMet a b) es → All (IsFileOrMet a c) es
+met_on a b c es later all = λ k d below. by (slice_index_or es k d) (all k d below)
   where
-    go : (b : Bool) → n ≤ (if b then n + 1 else n)
-    go true = omega arith
-    go false = le_refl n
-
--- the count of faults never falls
-pub counts_up : (error : FileError) (before now : ℕ) → now ≡ count_with error before → before ≤ now
-counts_up (Device kind) before now is = subst (λ n. before ≤ n) (sym is) (up before)
-counts_up NotUtf8 before now is = subst (λ n. before ≤ n) (sym is) (up before)
-counts_up Memory before now is = subst (λ n. before ≤ n) (sym is) (le_refl before)
-
--- the count has risen, over more calls
-pub risen_from : (a b c : ℕ) → a ≤ b → HasRisen b c → HasRisen a c
-risen_from a b c before (inl more) = inl (omega arith)
-risen_from a b c before (inr most) = inr most
-
-pub risen_on : (a b c : ℕ) → HasRisen a b → b ≤ c → HasRisen a c
-risen_on a b c (inl more) later = inl (omega arith)
-risen_on a b c (inr most) later = inr (omega arith)
-
--- each is a file, or a fault came, over more calls
-pub files_still : {Old Mid New : Type 0} (a b c : ℕ) → a ≤ b → b ≤ c → (Old → Mid ⊎ HasRisen a b) → (Mid → New ⊎ HasRisen b c) → Old → New ⊎ HasRisen a c
-files_still a b c before later first second old = ⊎_elim (λ mid. ⊎_elim (λ new. inl new) (λ risen_later. inr (risen_from a b c before risen_later)) (second mid)) (λ risen_first. inr (risen_on a b c risen_first later)) (first old)
+    by : (e : FoundEntry) → IsFileOrMet a b e → IsFileOrMet a c e
+    by (key, FoundFile name path) is = tt
+    by (key, Unlisted path error) met = met_wider (no_fewer_starts a) later met
 
 -- nothing changed, and then nothing more
 pub unchanged_on : (old mid new : Meaning) → Leaves old mid (Unchanged old.tree) → Leaves mid new (Unchanged mid.tree) → Leaves old new (Unchanged old.tree)

@@ -1,5 +1,6 @@
 -- A name that is asked for once more, since its file is gone.
 use Rattle.std.proofs.Common.{◌≡◌, ℕ, List, inl, inr, refl, sym, subst, Option, Some, None, Result, Ok, Err}
+use Rattle.gix_ref_files.specs.Files.{FaultCounts}
 use Rattle.std.specs.Prelude.{IfOk, IfNone, MatchResult}
 use Rattle.gix_ref_hash.specs.declared.hash.Kind.{Kind}
 use Rattle.gix_ref_name.specs.Names.{full_bytes}
@@ -42,7 +43,7 @@ no_record settings rs name key (Some found) keyed are = tt
 -- ---- why a file gives no target
 
 -- the fault of the reason
-pub unread_of : (honest : Type 0) (kind : Kind) (s : Store) (view : View) (before now : ℕ) (name at : List ℕ) (e : LookupError) (error : Error) → error ≡ of_reading e →
+pub unread_of : (honest : Type 0) (kind : Kind) (s : Store) (view : View) (before now : FaultCounts) (name at : List ℕ) (e : LookupError) (error : Error) → error ≡ of_reading e →
     IsNotReadAt honest kind s view before now name at e → IsUnread honest kind s view before now name at error
 unread_of honest kind s view before now name at (looking.ReadFileContents (file_error source) path) error is why = subst (IsUnread honest kind s view before now name at) (sym is) why
 unread_of honest kind s view before now name at (looking.ReadFileContents DeviceName path) error is why = subst (IsUnread honest kind s view before now name at) (sym is) why
@@ -55,7 +56,7 @@ unread_of honest kind s view before now name at (looking.PackedOpen e) error is 
 -- ---- the same of files that were only looked at since
 
 module _ (honest : Type 0) (settings : Settings) (view view' : View) (same : honest → view' ≡ view) where
-  unread_from : (before now : ℕ) (name at : List ℕ) (error : Error) → IsUnread honest settings.kind (meaning_in settings) view' before now name at error → IsUnread honest settings.kind (meaning_in settings) view before now name at error
+  unread_from : (before now : FaultCounts) (name at : List ℕ) (error : Error) → IsUnread honest settings.kind (meaning_in settings) view' before now name at error → IsUnread honest settings.kind (meaning_in settings) view before now name at error
   unread_from before now name at (ReadFileContents (file_error source) path) is = is
   unread_from before now name at (ReadFileContents DeviceName path) is = is
   unread_from before now name at (ReferenceCreation source path) is = (is.0, λ h. subst (λ (v : View). IsUndecodable settings.kind (v at) source) (same h) (is.1 h))
@@ -63,7 +64,7 @@ module _ (honest : Type 0) (settings : Settings) (view view' : View) (same : hon
   unread_from before now name at (Traversal source path) is = absurd is
   unread_from before now name at (PackedReference line number) is = absurd is
 
-  file_from : (before now : ℕ) (name : FullName) (at : List ℕ) (item : Result Reference Error) → IsFileItem honest settings view' before now name at item → IsFileItem honest settings view before now name at item
+  file_from : (before now : FaultCounts) (name : FullName) (at : List ℕ) (item : Result Reference Error) → IsFileItem honest settings view' before now name at item → IsFileItem honest settings view before now name at item
   file_from before now name at (Ok r) is = (is.0, λ h. subst (λ (v : View). IsLooseTarget (meaning_in settings) (v at) (Some r.target)) (same h) (is.1 h), is.2, is.3)
   file_from before now name at (Err e) is = unread_from before now (full_bytes name) at e is
 
@@ -73,8 +74,8 @@ module _ (honest : Type 0) (settings : Settings) (view view' : View) (same : hon
   packed_from name (Err e) (inl unread) = inl unread
   packed_from name (Err e) (inr (none, gone)) = inr (λ h. subst (λ (v : View). HasNoRecord settings v (full_bytes name)) (same h) (none h), gone)
 
-  pub asked_from : (before before' now : ℕ) (name : FullName) (item : Result Reference Error) → before' ≡ before → IsAskedAgain honest settings view' before' now name item → IsAskedAgain honest settings view before now name item
+  pub asked_from : (before before' now : FaultCounts) (name : FullName) (item : Result Reference Error) → before' ≡ before → IsAskedAgain honest settings view' before' now name item → IsAskedAgain honest settings view before now name item
   asked_from before before' now name item count (inl file) =
-      inl (subst (λ (n : ℕ). IsFileItem honest settings view n now name ((meaning_in settings).place (full_bytes name)) item) count (file_from before' now name ((meaning_in settings).place (full_bytes name)) item file))
+      inl (subst (λ (n : FaultCounts). IsFileItem honest settings view n now name ((meaning_in settings).place (full_bytes name)) item) count (file_from before' now name ((meaning_in settings).place (full_bytes name)) item file))
   asked_from before before' now name item count (inr (none, allowed, packed)) =
       inr (λ h. subst (λ (v : View). v ((meaning_in settings).place (full_bytes name)) ≡ None) (same h) (none h), allowed, packed_from name item packed)

@@ -4,6 +4,7 @@ pub mod GoneFiles
 pub mod Listing
 pub mod MergeLemmas
 pub mod MergedListings
+pub mod OwedLemmas
 pub mod OwnLemmas
 pub mod OwnListings
 pub mod PlainListings

@@ -1,5 +1,7 @@
 -- A listing of a store.
 use Rattle.std.proofs.Common.{◌≡◌, ℕ, List, [], ◌∷◌, sym, ◌∙◌, ap, is_some, Some}
+use Rattle.gix_ref_files.proofs.Meeting.{no_fewer_starts, met_wider}
+use Rattle.gix_ref_files.specs.Files.{FaultCounts, NoFewer}
 use Rattle.std.specs.Map.{keys_of}
 use Rattle.std.specs.List.{All, AllByRecursion}
 use Rattle.std.specs.List.Sorted.{IsStrictlySortedBy}
@@ -10,12 +12,13 @@ use Rattle.gix_ref_records.specs.RecordGrammar.{Below, Ascending}
 use Rattle.gix_ref_records.specs.Prefixes.{records_prefixed}
 use Rattle.gix_ref_theory.specs.Views.{View}
 use Rattle.gix_ref_lookup.specs.declared.settings.Settings.{Settings}
-use Rattle.gix_ref_listing.specs.Walks.{Holds, FoundEntry, IsFile}
+use Rattle.gix_ref_listing.specs.declared.found.Found.TheVariants.{File, Unlisted}
+use Rattle.gix_ref_listing.specs.Walks.{Holds, FoundEntry, IsFileOrMet}
 use Rattle.gix_ref_listing.specs.OwnRecords.{Own, own_records}
-use Rattle.gix_ref_listing.specs.Listings.{merged_listing}
-use Rattle.gix_ref_listing.specs.Listings.Listed.{InPacked}
+use Rattle.gix_ref_listing.specs.Listings.{Listed, merged_listing}
+use Rattle.gix_ref_listing.specs.Listings.Listed.{Walked, InPacked}
 use Rattle.gix_ref_listing.specs.LooseListings.{IsFoundIn, IsLooseListed}
-use Rattle.gix_ref_listing.specs.WholeListings.{IsListing, IsInStore, IsPackedListed, IsNameItem, key_in}
+use Rattle.gix_ref_listing.specs.WholeListings.{IsListing, IsInStore, IsPackedListed, key_in, IsNameOrMet}
 use Rattle.gix_ref_listing.proofs.WalkLemmas.{key_cmp}
 use Rattle.gix_ref_listing.proofs.MergedListings.{FoundRises, all_merged, merged_rises, loose_merged, packed_merged}
 use Rattle.gix_ref_listing.proofs.OwnListings.{prefixed_rise, prefixed_there, prefixed_are}
@@ -59,10 +62,21 @@ module _ (settings : Settings) (view : View) (records held : List Record) (prefi
         (own_records settings (records_prefixed (key_in settings prefix) held)) (prefixed_are settings held prefix up));
   }
 
-any_own : (owns : List Own) → AllByRecursion (λ (o : Own). IsNameItem (InPacked o)) owns
-any_own [] = _
-any_own (o ∷ owns) = (_, any_own owns)
+module _ (before now : FaultCounts) where
+  any_own : (owns : List Own) → AllByRecursion (λ (o : Own). IsNameOrMet before now (InPacked o)) owns
+  any_own [] = _
+  any_own (o ∷ owns) = (_, any_own owns)
 
--- where what was found are files, all are names
-pub all_names : (es : List FoundEntry) (owns : List Own) → All IsFile es → AllByRecursion IsNameItem (merged_listing es owns)
-all_names es owns files = all_merged IsNameItem es owns (by_recursion IsFile es files) (any_own owns)
+  -- where what was found are files, or folders whose faults were counted, so are all that are listed
+  pub all_names : (es : List FoundEntry) (owns : List Own) → All (IsFileOrMet before now) es → AllByRecursion (IsNameOrMet before now) (merged_listing es owns)
+  all_names es owns files = all_merged (IsNameOrMet before now) es owns (by_recursion (IsFileOrMet before now) es files) (any_own owns)
+
+-- and so over more calls
+pub names_on : (a b c : FaultCounts) (listed : List Listed) → NoFewer b c → AllByRecursion (IsNameOrMet a b) listed → AllByRecursion (IsNameOrMet a c) listed
+names_on a b c [] later all = tt
+names_on a b c (one ∷ listed) later all = (by one all.0, names_on a b c listed later all.1)
+  where
+    by : (l : Listed) → IsNameOrMet a b l → IsNameOrMet a c l
+    by (Walked (key, File name path)) is = tt
+    by (Walked (key, Unlisted path error)) met = met_wider (no_fewer_starts a) later met
+    by (InPacked own) is = tt

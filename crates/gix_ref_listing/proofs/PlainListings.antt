@@ -3,13 +3,17 @@ use Rattle.std.proofs.Common.{◌≡◌, ℕ, List, [], ◌∷◌, refl, sym, �
 use Rattle.std.specs.List.{All}
 use Rattle.std.specs.Prelude.{IfSome, IfNone, slice_index_or}
 use Rattle.gix_ref_base.specs.PackedRecords.{Record}
-use Rattle.gix_ref_files.specs.Files.{Meaning}
+use Rattle.gix_ref_files.specs.Files.{Meaning, FaultCounts}
 use Rattle.gix_ref_packed.specs.declared.packed.iter.error.Error.{Error as LineError}
 use Rattle.gix_ref_records.specs.declared.raw.Reference.{Reference}
+use Rattle.gix_ref_theory.specs.OnRealTrees.{view_of}
 use Rattle.gix_ref_theory.specs.Views.{View}
 use Rattle.gix_ref_lookup.specs.declared.settings.Settings.{Settings}
 use Rattle.gix_ref_listing.specs.PlainSettings.{plain}
 use Rattle.gix_ref_listing.specs.Walks.{FoundEntry}
+use Rattle.gix_ref_name.specs.Names.{full_bytes, full_ref_bytes}
+use Rattle.gix_ref_packed.specs.declared.packed.iter.Iter.{Iter}
+use Rattle.gix_ref_listing.specs.OwedNames.{Text, AreAllGiven, OwesOthers, OwesAfter, OwesNames, PaysItem}
 use Rattle.gix_ref_listing.specs.OwnRecords.{Own, own_of, own_name, own_records, with_own, AheadOf, AreAhead}
 use Rattle.gix_ref_listing.specs.Listings.{Listed, merged_listing, TakesRecord, IsNoRecord}
 use Rattle.gix_ref_listing.specs.Listings.Listed.{Walked, InPacked}
@@ -47,12 +51,51 @@ module _ (s : Settings) where
       by (Some (Ok own)) (rs, yet, whole) = (rs, yet, whole ∙ ap (λ os. own_of own ∷ os) (sym (same_own rs)))
       by (Some (Err e)) bad = bad
 
+  -- ---- what is owed over any text
+
+  given_to_plain : (text : Text) (names : List (List ℕ)) → AreAllGiven s text names → AreAllGiven (plain s) text names
+  given_to_plain text names given = λ name due. given name (record { of = due.of; asked = due.asked; own = same_name due.of.name ∙ due.own })
+
+  given_of_plain : (text : Text) (names : List (List ℕ)) → AreAllGiven (plain s) text names → AreAllGiven s text names
+  given_of_plain text names given = λ name due. given name (record { of = due.of; asked = due.asked; own = sym (same_name due.of.name) ∙ due.own })
+
+  others_to_plain : (text : Text) (names : List (List ℕ)) (records : Option Iter) → OwesOthers s text names records → OwesOthers (plain s) text names records
+  others_to_plain text names None owes = given_to_plain text names owes
+  others_to_plain text names (Some it) (given, named, owes) = (given, λ r has name own. named r has name (same_name r.name ∙ own), owes)
+
+  others_of_plain : (text : Text) (names : List (List ℕ)) (records : Option Iter) → OwesOthers (plain s) text names records → OwesOthers s text names records
+  others_of_plain text names None owes = given_of_plain text names owes
+  others_of_plain text names (Some it) (given, named, owes) = (given, λ r has name own. named r has name (sym (same_name r.name) ∙ own), owes)
+
+  own_to_plain : (text : Text) (names : List (List ℕ)) (first : Option (Result OwnRecord LineError)) (records : Option Iter) → OwesAfter s text names first records → OwesAfter (plain s) text names first records
+  own_to_plain text names None records owes = given_to_plain text names owes
+  own_to_plain text names (Some (Ok own)) records owes = others_to_plain text (full_ref_bytes own.name ∷ names) records owes
+  own_to_plain text names (Some (Err e)) records owes = tt
+
+  own_of_plain : (text : Text) (names : List (List ℕ)) (first : Option (Result OwnRecord LineError)) (records : Option Iter) → OwesAfter (plain s) text names first records → OwesAfter s text names first records
+  own_of_plain text names None records owes = given_of_plain text names owes
+  own_of_plain text names (Some (Ok own)) records owes = others_of_plain text (full_ref_bytes own.name ∷ names) records owes
+  own_of_plain text names (Some (Err e)) records owes = tt
+
+  pub owes_to_plain : (text : Text) (names : List (List ℕ)) (m : Merge) → OwesNames s text names m → OwesNames (plain s) text names m
+  owes_to_plain text names m owes = record { found = owes.found; packed = own_to_plain text names m.packed.first m.packed.records owes.packed }
+
+  pub owes_of_plain : (text : Text) (names : List (List ℕ)) (m : Merge) → OwesNames (plain s) text names m → OwesNames s text names m
+  owes_of_plain text names m owes = record { found = owes.found; packed = own_of_plain text names m.packed.first m.packed.records owes.packed }
+
+  pub pays_plain : (text : Text) (names : List (List ℕ)) (r : Option (Result Reference Error)) (t : Merge) → PaysItem s text names r t → PaysItem (plain s) text names r t
+  pays_plain text names None t pays = given_to_plain text names pays
+  pays_plain text names (Some (Ok r)) t pays = owes_to_plain text (full_bytes r.name ∷ names) t pays
+  pays_plain text names (Some (Err e)) t pays = tt
+
   -- a record that is lent
   pub lends_plain : (old new : Merge) (result : Option OwnRecord) →
-      IfSome result (λ own. (owns : List Own) → AreAhead s old.packed owns → TakesRecord s (merged_listing old.found.entries owns) own new) → IfSome result (λ own. IsDrained old → ⊥) →
+      IfSome result (λ own. (owns : List Own) → AreAhead s old.packed owns → TakesRecord s (merged_listing old.found.entries owns) own new) →
+      IfSome result (λ own. (text : Text) (names : List (List ℕ)) → OwesNames s text names old → OwesNames s text (full_ref_bytes own.name ∷ names) new) → IfSome result (λ own. IsDrained old → ⊥) →
       IfSome result (GivesRecord (plain s) old new)
-  lends_plain old new None takes goes_on = _
-  lends_plain old new (Some own) takes goes_on = record {
+  lends_plain old new None takes pays goes_on = _
+  lends_plain old new (Some own) takes pays goes_on = record {
+    pays = λ text names owes. owes_to_plain text (full_ref_bytes own.name ∷ names) new (pays text names (owes_of_plain text names old owes));
     gives = λ listed yet.
         let before = of_plain old listed yet in
         let took = takes before.0 before.1 in
@@ -67,7 +110,7 @@ module _ (s : Settings) where
   none_plain old None none = λ listed yet. let before = of_plain old listed yet in subst IsNoRecord (sym before.2) (none before.0 before.1)
 
   -- an item
-  pub item_plain : (honest : Type 0) (view : View) (before now : ℕ) (one : Listed) (item : Result Reference Error) → IsGivenItem honest s view before now one item → IsGivenItem honest (plain s) view before now one item
+  pub item_plain : (honest : Type 0) (view : View) (before now : FaultCounts) (one : Listed) (item : Result Reference Error) → IsGivenItem honest s view before now one item → IsGivenItem honest (plain s) view before now one item
   item_plain honest view before now (Walked (key, File name path)) (Ok r) is = is
   item_plain honest view before now (Walked (key, File name path)) (Err e) is = is
   item_plain honest view before now (Walked (key, Unlisted path e)) (Ok r) is = is
@@ -104,8 +147,8 @@ module _ (s : Settings) where
   pub all_plain : (view : View) (prefix : List ℕ) (es : List FoundEntry) → All (IsFoundIn s view prefix) es → All (IsFoundIn (plain s) view prefix) es
   all_plain view prefix es all = λ k d below. found_plain view prefix (slice_index_or es k d) (all k d below)
 
-module _ {F : Type 0} (honest : Type 0) (means : F → Meaning) (faults : F → ℕ) (s : Settings) where
+module _ {F : Type 0} (honest : Type 0) (means : F → Meaning) (faults : F → FaultCounts) (s : Settings) where
   -- giving an item
   pub gives_plain : (before now : F) (listed : List Listed) (r : Option (Result Reference Error)) (t : Merge) → GivesItem honest means faults s before now listed r t → GivesItem honest means faults (plain s) before now listed r t
   gives_plain before now listed None t (none, yet) = (none, to_plain s t [] yet)
-  gives_plain before now listed (Some item) t (one, more, is, yet, given) = (one, more, is, to_plain s t more yet, item_plain s honest _ _ _ one item given)
+  gives_plain before now listed (Some item) t (one, more, is, yet, given) = (one, more, is, to_plain s t more yet, item_plain s honest (view_of (means before).tree) (faults before) (faults now) one item given)

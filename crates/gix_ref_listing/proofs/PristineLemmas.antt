@@ -1,9 +1,10 @@
 -- What is said of a store by what its files are read as.
-use Rattle.std.proofs.Common.{◌≡◌, ⊎_elim, ℕ, ◌<◌, zero, suc, arith, Bool, true, false, List, [], ◌∷◌, refl, sym, ◌∙◌, ap, subst, Option, Some, None, Result, Ok, Err}
+use Rattle.std.proofs.Common.{◌≡◌, ◌⊎◌, inl, inr, ⊎_elim, ℕ, ◌<◌, zero, suc, arith, Bool, true, false, List, [], ◌∷◌, refl, sym, ◌∙◌, ap, subst, Option, Some, None, Result, Ok, Err}
+use Rattle.gix_ref_files.specs.Files.{FaultCounts}
 use Rattle.std.specs.Prelude.{IfOk}
 use Rattle.std.specs.List.{All}
 use Rattle.std.specs.declared.alloc.AllocError.{AllocError}
-use Rattle.std.proofs.lemmas.List.Elements.{All-head, All-tail}
+use Rattle.std.proofs.lemmas.List.Elements.{All-cons, All-head, All-tail}
 use Rattle.gix_ref_grammar.specs.NameGrammar.{IsPartialName, partial_error}
 use Rattle.gix_ref_theory.specs.Readings.{reading_of_loose}
 use Rattle.gix_ref_theory.specs.Readings.Reading.{Is, Fault}
@@ -17,7 +18,7 @@ use Rattle.gix_ref_lookup.proofs.LooseLemmas.{refused_none}
 use Rattle.gix_ref_listing.specs.PlainSettings.{plain}
 use Rattle.gix_ref_listing.specs.LooseListings.{IsFoundIn, IsFileListed, IsLooseListed}
 use Rattle.gix_ref_listing.specs.PristineStores.{Says, ReadsNone, IsReadableFile, IsUnreadableFile, IsFoundFile, HasLoose, HasNoLoose}
-use Rattle.gix_ref_listing.specs.Walks.{Holds, FoundEntry, IsFile}
+use Rattle.gix_ref_listing.specs.Walks.{Holds, FoundEntry, IsFile, IsFileOrMet, IsAnyMet}
 use Rattle.gix_ref_listing.specs.declared.found.Found.TheVariants.{File, Unlisted}
 use Rattle.gix_ref_listing.proofs.PlainListings.{found_plain, loose_of_plain}
 
@@ -58,6 +59,17 @@ says_too (Err e) this other unknown h = h
 pub found_file : (e : FoundEntry) → IsFile e → IsFoundFile e.1
 found_file (key, File name path) is = is
 found_file (key, Unlisted path error) is = is
+
+-- all that was found are files, or a fault was counted
+pub files_or_met : (before now : FaultCounts) (es : List FoundEntry) → All (IsFileOrMet before now) es → All IsFile es ⊎ IsAnyMet before now
+files_or_met before now [] all = inl (λ k d below. absurd (omega (arith, below)))
+files_or_met before now (e ∷ es) all = ⊎_elim
+    (λ files. by e (All-head (IsFileOrMet before now) e es all) files)
+    (λ met. inr met) (files_or_met before now es (All-tail (IsFileOrMet before now) e es all))
+  where
+    by : (f : FoundEntry) → IsFileOrMet before now f → All IsFile es → All IsFile (f ∷ es) ⊎ IsAnyMet before now
+    by (key, File name path) is files = inl (All-cons IsFile (key, File name path) es tt files)
+    by (key, Unlisted path error) met files = inr (error, met)
 
 module _ (s : Settings) (view : View) (prefix : List ℕ) where
   -- a file that was found and can be read is a loose reference that can be read

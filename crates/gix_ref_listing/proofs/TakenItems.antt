@@ -1,7 +1,7 @@
 -- What was taken of a listing, as its next item.
-use Rattle.std.proofs.Common.{◌≡◌, ℕ, List, refl, sym, subst, Some, Result, Ok, Err}
+use Rattle.std.proofs.Common.{◌≡◌, List, refl, sym, subst, Some, Result, Ok, Err}
 use Rattle.std.specs.Prelude.{OnOk}
-use Rattle.gix_ref_files.specs.Files.{Meaning}
+use Rattle.gix_ref_files.specs.Files.{Meaning, FaultCounts}
 use Rattle.gix_ref_theory.specs.OnRealTrees.{view_of}
 use Rattle.gix_ref_records.specs.declared.raw.Reference.{Reference}
 use Rattle.gix_ref_lookup.specs.declared.settings.Settings.{Settings}
@@ -17,11 +17,11 @@ use Rattle.gix_ref_listing.specs.declared.merge.Taken.{Taken}
 use Rattle.gix_ref_listing.specs.declared.merge.Taken.TheVariants as taking
 
 -- no fault was counted where the item is a reference
-pub counts_none : (before now : ℕ) (item : Result Reference Error) → OnOk item (now ≡ before) → CountsNone before now (Some item)
+pub counts_none : (before now : FaultCounts) (item : Result Reference Error) → OnOk item (now ≡ before) → CountsNone before now (Some item)
 counts_none before now (Ok r) same = same
 counts_none before now (Err e) same = tt
 
-module _ {F : Type 0} (honest : Type 0) (means : F → Meaning) (faults : F → ℕ) (settings : Settings) (before now : F) where
+module _ {F : Type 0} (honest : Type 0) (means : F → Meaning) (faults : F → FaultCounts) (settings : Settings) (before now : F) where
   pub gives_taken : (listed : List Listed) (taken : Taken) (item : Result Reference Error) (t : Merge) → TakesListed settings listed (Some taken) t →
       IsTakenItem honest settings (view_of (means before).tree) (faults before) (faults now) taken item → GivesItem honest means faults settings before now listed (Some item) t
   gives_taken listed (taking.Walked found) item t (e, is_one, owns, ahead, is) of = (

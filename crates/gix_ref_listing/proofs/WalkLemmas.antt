@@ -1,5 +1,6 @@
 -- What a walk keeps, and where it goes.
 use Rattle.std.proofs.Common.{◌≡◌, ◌⊎◌, inl, inr, ⊎_elim, ℕ, Bool, true, false, cond, List, [], ◌∷◌, ◌++◌, length, refl, sym, ◌∙◌, ap, subst, append_assoc, codes, Some, is_some, ◌||◌, arith, append-nil, ◌<◌, ◌+◌, ◌≢◌}
+use Rattle.gix_ref_files.specs.Files.{FaultCounts, IsMet}
 use Rattle.std.specs.List.{All}
 use Rattle.std.proofs.Common.{ne_eqb, IsTrue}
 use Rattle.std.specs.Map.{lookup}
@@ -26,7 +27,7 @@ use Rattle.gix_ref_files.specs.declared.files.Entry.{Entry as ListedEntry}
 use Rattle.gix_ref_files.specs.declared.files.FileError.{FileError}
 use Rattle.gix_ref_files.specs.declared.files.FileError.TheVariants.{Memory as no_memory}
 use Rattle.gix_ref_theory.specs.Views.{View}
-use Rattle.gix_ref_listing.specs.Walks.{IsFolderPath, FoundEntry, Holds, IsThereOr, IsFile, IsFileOfName, StaysFound, IsTaken, IsBelow}
+use Rattle.gix_ref_listing.specs.Walks.{IsFolderPath, FoundEntry, Holds, IsThereOr, IsFileOrMet, IsFileOfName, StaysFound, IsTaken, IsBelow}
 use Rattle.gix_ref_listing.specs.declared.found.Found.{Found}
 use Rattle.gix_ref_listing.specs.declared.found.Found.TheVariants.{File, Unlisted}
 use Rattle.gix_ref_listing.specs.declared.walk.Root.{Root}
@@ -152,6 +153,9 @@ module _ (es new : List FoundEntry) (key path : Vec ℕ Global) (error : FileErr
       subst (All (IsThereOr others root view)) (sym is)
       (all_insert key_cmp (IsThereOr others root view) key (Unlisted path error) es all (inr (other, at)) (λ e same. inr (other, at ∙ ap (λ k. root.path.now ++ k) (same_key key e.0 same))))
 
+  pub unlisted_met : (before now : FaultCounts) → IsMet error before now → All (IsFileOrMet before now) es → All (IsFileOrMet before now) new
+  unlisted_met before now met all = subst (All (IsFileOrMet before now)) (sym is) (all_insert key_cmp (IsFileOrMet before now) key (Unlisted path error) es all met (λ e same. met))
+
 -- a file is found, where nothing was found under its name
 module _ (key : Vec ℕ Global) (of : FullName) (path : Vec ℕ Global) where
   absent_step : (name : List ℕ) (e : FoundEntry) (es rest : List FoundEntry) (o : Ordering) → is_some (cond (is_eq o) (Some e.1) (lookup (is_at (key_cmp key)) es)) ≡ false →
@@ -176,8 +180,8 @@ module _ (key : Vec ℕ Global) (of : FullName) (path : Vec ℕ Global) where
         subst (All (IsThereOr others root view)) (sym is)
         (all_insert key_cmp (IsThereOr others root view) key (File of path) es all (inr (named, there)) (λ e same. let k = same_key key e.0 same in inr (named ∙ k, subst (λ n. IsFileOfName root view n path.items) k there)))
 
-    pub file_is_file : All IsFile es → All IsFile new
-    file_is_file all = subst (All IsFile) (sym is) (all_insert key_cmp IsFile key (File of path) es all _ (λ e same. _))
+    pub file_is_file : (before now : FaultCounts) → All (IsFileOrMet before now) es → All (IsFileOrMet before now) new
+    file_is_file before now all = subst (All (IsFileOrMet before now)) (sym is) (all_insert key_cmp (IsFileOrMet before now) key (File of path) es all _ (λ e same. _))
 
 -- and where something was found there, the name is held
 pub known_holds : (es : List FoundEntry) (key : Vec ℕ Global) → is_some (lookup (is_at (key_cmp key)) es) ≡ true → Among (Holds key.items) es

@@ -1,6 +1,7 @@
 -- A file that a walk found, and that is gone when its item is read: its name is asked for once more (`git pack-refs` removes the
 -- loose file of a reference once `packed-refs` has its record).
 use Rattle.std.specs.Prelude.{◌≡◌, ◌⊎◌, ℕ, List, Option, None, Result, Ok, Err, false}
+use Rattle.gix_ref_files.specs.Files.{FaultCounts}
 use Rattle.gix_ref_hash.specs.declared.hash.Kind.{Kind}
 use Rattle.gix_ref_name.specs.Names.{full_bytes}
 use Rattle.gix_ref_name.specs.declared.name.FullName.{FullName}
@@ -77,7 +78,7 @@ IsPackedAgain honest settings view name (Err error) =
     × IsGone (s.place (full_bytes name)) error)
 
 -- A name that is asked for once more, as an item: by the file at its own place; or none is there, and by its record.
-abbrev pub IsAskedAgain : (honest : Type 0) → Settings → View → (before now : ℕ) → FullName →
+abbrev pub IsAskedAgain : (honest : Type 0) → Settings → View → (before now : FaultCounts) → FullName →
     Result Reference Error → Type 0
 IsAskedAgain honest settings view before now name item =
     let s = meaning_in settings in
@@ -87,28 +88,28 @@ IsAskedAgain honest settings view before now name item =
     × IsPackedAgain honest settings view name item)
 
 -- The file that was found is gone, which it is not in files that keep their meaning: the item is what its name reads then.
-abbrev pub IsGoneItem : (honest : Type 0) → Settings → View → (before now : ℕ) → Found →
+abbrev pub IsGoneItem : (honest : Type 0) → Settings → View → (before now : FaultCounts) → Found →
     Result Reference Error → Type 0
 IsGoneItem honest settings view before now (File name path) item =
     (honest → view path.items ≡ None) × IsAskedAgain honest settings view before now name item
 IsGoneItem honest settings view before now (Unlisted path source) item = ⊥
 
 -- what was found as it is read: as an item; or its file is gone
-abbrev pub IsFoundOrGone : (honest : Type 0) → Settings → View → (before now : ℕ) → Found →
+abbrev pub IsFoundOrGone : (honest : Type 0) → Settings → View → (before now : FaultCounts) → Found →
     Result Reference Error → Type 0
 IsFoundOrGone honest settings view before now found item =
     IsFoundItem honest settings view before now found item
     ⊎ IsGoneItem honest settings view before now found item
 
 -- one of a listing as it is read
-abbrev pub IsGivenItem : (honest : Type 0) → Settings → View → (before now : ℕ) → Listed →
+abbrev pub IsGivenItem : (honest : Type 0) → Settings → View → (before now : FaultCounts) → Listed →
     Result Reference Error → Type 0
 IsGivenItem honest settings view before now (Walked e) item =
     IsFoundOrGone honest settings view before now e.1 item
 IsGivenItem honest settings view before now (InPacked own) item = IsRecordItem own item
 
 -- what was taken as an item
-abbrev pub IsTakenItem : (honest : Type 0) → Settings → View → (before now : ℕ) → Taken →
+abbrev pub IsTakenItem : (honest : Type 0) → Settings → View → (before now : FaultCounts) → Taken →
     Result Reference Error → Type 0
 IsTakenItem honest settings view before now (taking.Walked found) item =
     IsFoundOrGone honest settings view before now found item

@@ -4,7 +4,7 @@ use Rattle.gix_ref_hash.specs.declared.hash.Kind.{Kind}
 use Rattle.gix_ref_name.specs.Names.{full_bytes}
 use Rattle.gix_ref_name.specs.declared.name.FullName.{FullName}
 use Rattle.gix_ref_base.specs.Targets.{target_value}
-use Rattle.gix_ref_files.specs.Files.{HasRisen}
+use Rattle.gix_ref_files.specs.Files.{FaultCounts, IsMet}
 use Rattle.gix_ref_files.specs.declared.files.FileError.TheVariants.{Memory as no_memory}
 use Rattle.gix_ref_theory.specs.Readings.{Store, reading_of_record}
 use Rattle.gix_ref_theory.specs.Readings.Reading.{Is}
@@ -43,12 +43,12 @@ IsOfLine (bad_header line) (PackedReference text n) = (text.items ≡ line.now) 
 IsOfLine line Memory = Unit {0}
 IsOfLine line other = ⊥
 
--- Why the file of a name gives no target: it could not be read, only where the count of faults rose; its path has the name of a
+-- Why the file of a name gives no target: it could not be read, by this fault, which was counted; its path has the name of a
 -- device, and the store prohibits these; it holds none, with the reason; no memory.
-abbrev pub IsUnread : (honest : Type 0) → Kind → Store → View → (before now : ℕ) →
+abbrev pub IsUnread : (honest : Type 0) → Kind → Store → View → (before now : FaultCounts) →
     (name path : List ℕ) → Error → Type 0
 IsUnread honest kind s view before now name at (ReadFileContents (file_error source) path) =
-    HasRisen before now × (source ≢ no_memory) × (path.items ≡ at)
+    IsMet source before now × (source ≢ no_memory) × (path.items ≡ at)
 IsUnread honest kind s view before now name at (ReadFileContents DeviceName path) =
     (s.is_prohibited at ≡ true) × (path.items ≡ at)
 IsUnread honest kind s view before now name at (ReferenceCreation source path) = (path.items ≡ name)
@@ -57,7 +57,7 @@ IsUnread honest kind s view before now name at Memory = Unit {0}
 IsUnread honest kind s view before now name at other = ⊥
 
 -- The file at a path as the item of a name: its target, or why it has none.
-abbrev pub IsFileItem : (honest : Type 0) → Settings → View → (before now : ℕ) → FullName →
+abbrev pub IsFileItem : (honest : Type 0) → Settings → View → (before now : FaultCounts) → FullName →
     (path : List ℕ) → Result Reference Error → Type 0
 IsFileItem honest settings view before now name path (Ok r) =
     (r.name ≡ name)
@@ -68,7 +68,7 @@ IsFileItem honest settings view before now name path (Err error) =
     IsUnread honest settings.kind (meaning_in settings) view before now (full_bytes name) path error
 
 -- What was found as an item: the file of a name; or a folder that could not be listed as that fault.
-abbrev pub IsFoundItem : (honest : Type 0) → Settings → View → (before now : ℕ) → Found →
+abbrev pub IsFoundItem : (honest : Type 0) → Settings → View → (before now : FaultCounts) → Found →
     Result Reference Error → Type 0
 IsFoundItem honest settings view before now (File name path) item =
     IsFileItem honest settings view before now name path.items item
@@ -84,7 +84,7 @@ IsRecordItem own (Ok r) =
 IsRecordItem own (Err error) = error ≡ Memory
 
 -- one of a listing as an item
-abbrev pub IsItem : (honest : Type 0) → Settings → View → (before now : ℕ) → Listed →
+abbrev pub IsItem : (honest : Type 0) → Settings → View → (before now : FaultCounts) → Listed →
     Result Reference Error → Type 0
 IsItem honest settings view before now (Walked e) item =
     IsFoundItem honest settings view before now e.1 item

@@ -3,6 +3,7 @@ pub mod GoneFiles
 pub mod Items
 pub mod Listings
 pub mod LooseListings
+pub mod OwedNames
 pub mod OwnRecords
 pub mod PlainSettings
 pub mod PrefixedRecords

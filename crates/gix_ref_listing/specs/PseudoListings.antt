@@ -1,9 +1,9 @@
 -- The listing of pseudo references: `HEAD`, `FETCH_HEAD`, `ORIG_HEAD` and the like (`git for-each-ref --include-root-refs`).
-use Rattle.std.specs.Prelude.{◌≡◌, ◌≢◌, ◌⊎◌, ◌&&◌, ℕ, List, [], ◌∷◌, ◌++◌, Bool, true, not, codes, nat_eq}
+use Rattle.std.specs.Prelude.{◌≡◌, ◌≢◌, ◌&&◌, ℕ, List, [], ◌∷◌, ◌++◌, Bool, true, not, codes, nat_eq}
 use Rattle.std.specs.List.{AllByRecursion, ends_with, list_any}
 use Rattle.gix_ref_hash.specs.Bytes.{is_slash}
 use Rattle.gix_ref_name.specs.Names.{full_bytes}
-use Rattle.gix_ref_files.specs.Files.{HasRisen}
+use Rattle.gix_ref_files.specs.Files.{FaultCounts}
 use Rattle.gix_ref_files.specs.declared.files.FileError.TheVariants as faulty
 use Rattle.gix_ref_theory.specs.Views.{View}
 use Rattle.gix_ref_lookup.specs.StoreLayout.{folders_of}
@@ -12,7 +12,7 @@ use Rattle.gix_ref_listing.specs.Walks.{FoundEntry}
 use Rattle.gix_ref_listing.specs.LooseListings.{front_in, LooseIn, IsFileListed}
 use Rattle.gix_ref_listing.specs.Listings.{Listed}
 use Rattle.gix_ref_listing.specs.Listings.Listed.{Walked, InPacked}
-use Rattle.gix_ref_listing.specs.WholeListings.{Rises, IsLooseOf, IsNameItem}
+use Rattle.gix_ref_listing.specs.WholeListings.{Rises, IsLooseOf, IsNameOrMet}
 use Rattle.gix_ref_listing.specs.Steps.{AreYet}
 use Rattle.gix_ref_listing.specs.declared.found.Found.TheVariants.{File, Unlisted}
 use Rattle.gix_ref_listing.specs.declared.merge.Merge.{Merge}
@@ -62,9 +62,9 @@ pub record IsPseudoListing (settings : Settings) (view : View) (listed : List Li
   pub only : AllByRecursion (IsPseudoItem settings view) listed
 
 -- What is yet to come is that listing. A folder is in it only where the count of faults rose.
-pub record ListsPseudo (settings : Settings) (view : View) (before now : ℕ)
+pub record ListsPseudo (settings : Settings) (view : View) (before now : FaultCounts)
     (m : Merge) : Type 0 where
   pub listed : List Listed
   pub is : IsPseudoListing settings view listed
-  pub names : AllByRecursion IsNameItem listed ⊎ HasRisen before now
+  pub names : AllByRecursion (IsNameOrMet before now) listed
   pub yet : AreYet settings m listed

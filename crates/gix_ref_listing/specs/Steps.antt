@@ -1,10 +1,12 @@
 -- One item of a listing after the other.
-use Rattle.std.specs.Prelude.{◌≡◌, ◌≤◌, ℕ, List, [], ◌∷◌, Option, Some, None, Result, Ok, Err}
-use Rattle.gix_ref_files.specs.Files.{Meaning, Leaves}
+use Rattle.std.specs.Prelude.{◌≡◌, ℕ, List, [], ◌∷◌, Option, Some, None, Result, Ok, Err}
+use Rattle.gix_ref_files.specs.Files.{Meaning, Leaves, FaultCounts, NoFewer}
 use Rattle.gix_ref_files.specs.Calls.{Unchanged}
 use Rattle.gix_ref_theory.specs.OnRealTrees.{view_of}
+use Rattle.gix_ref_name.specs.Names.{full_ref_bytes}
 use Rattle.gix_ref_records.specs.declared.raw.Reference.{Reference}
 use Rattle.gix_ref_lookup.specs.declared.settings.Settings.{Settings}
+use Rattle.gix_ref_listing.specs.OwedNames.{Text, OwesNames, PaysItem}
 use Rattle.gix_ref_listing.specs.OwnRecords.{Own, own_of, AreAhead}
 use Rattle.gix_ref_listing.specs.Listings.{Listed, merged_listing}
 use Rattle.gix_ref_listing.specs.Listings.Listed.{InPacked}
@@ -26,15 +28,17 @@ AreYet settings m listed = (owns : List Own) × AreAhead settings m.packed owns
 pub record GivesRecord (settings : Settings) (s t : Merge) (own : OwnRecord) : Type 0 where
   pub gives : (listed : List Listed) → AreYet settings s listed → (more : List Listed)
       × (listed ≡ InPacked (own_of own) ∷ more) × AreYet settings t more
+  pub pays : (text : Text) (names : List (List ℕ)) → OwesNames settings text names s →
+      OwesNames settings text (full_ref_bytes own.name ∷ names) t
   pub goes_on : IsDrained s → ⊥
 
 -- no fault was counted, unless the item is a fault
-abbrev pub CountsNone : (before now : ℕ) → Option (Result Reference Error) → Type 0
+abbrev pub CountsNone : (before now : FaultCounts) → Option (Result Reference Error) → Type 0
 CountsNone before now None = now ≡ before
 CountsNone before now (Some (Ok r)) = now ≡ before
 CountsNone before now (Some (Err e)) = Unit {0}
 
-module _ {F : Type 0} (honest : Type 0) (means : F → Meaning) (faults : F → ℕ) where
+module _ {F : Type 0} (honest : Type 0) (means : F → Meaning) (faults : F → FaultCounts) where
   -- the item is the first of these, and the rest is yet to come; or none is left
   abbrev pub GivesItem : Settings → (before now : F) → List Listed →
       Option (Result Reference Error) → Merge → Type 0
@@ -50,7 +54,10 @@ module _ {F : Type 0} (honest : Type 0) (means : F → Meaning) (faults : F → 
       (r : Option (Result Reference Error)) (t : Merge) : Type 0 where
     pub gives : (listed : List Listed) → AreYet settings s listed →
         GivesItem settings before now listed r t
-    pub rises : faults before ≤ faults now
+    -- over any text: each name that is due is given, or a fault
+    pub pays : (text : Text) (names : List (List ℕ)) → OwesNames settings text names s →
+        PaysItem settings text names r t
+    pub rises : NoFewer (faults before) (faults now)
     pub counts : CountsNone (faults before) (faults now) r
     pub leaves : honest → Leaves (means before) (means now) (Unchanged (means before).tree)
     pub ends : r ≡ None → IsDrained t

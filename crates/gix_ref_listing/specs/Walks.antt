@@ -1,10 +1,12 @@
 -- What a walk of a folder finds: the files of names, and the folders that could not be listed.
 use Rattle.std.specs.Prelude.{◌≡◌, ◌≢◌, ◌⊎◌, ℕ, List, [], ◌∷◌, ◌++◌, Vec, IsSome, true, false, codes}
+use Rattle.gix_ref_files.specs.Files.{FaultCounts, IsMet}
 use Rattle.std.specs.declared.alloc.Global.{Global}
 use Rattle.gix_ref_hash.specs.Bytes.{BeginsWith, NoByte}
 use Rattle.gix_ref_grammar.specs.NameGrammar.{IsPartialName}
 use Rattle.gix_ref_name.specs.Names.{full_bytes}
 use Rattle.gix_ref_files.specs.declared.files.Entry.{Entry as ListedEntry}
+use Rattle.gix_ref_files.specs.declared.files.FileError.{FileError}
 use Rattle.gix_ref_files.specs.declared.files.FileError.TheVariants as faulty
 use Rattle.gix_ref_theory.specs.Views.{View}
 use Rattle.gix_ref_lookup.specs.Lookups.{meaning_in, name_asked, Among}
@@ -58,6 +60,15 @@ IsThere root view (key, Unlisted path error) = (error ≢ faulty.Memory)
 -- it is one of these, or it is there
 abbrev pub IsThereOr : List FoundEntry → Root → View → FoundEntry → Type 0
 IsThereOr others root view e = Among (λ o. o ≡ e) others ⊎ IsThere root view e
+
+-- some fault was counted
+abbrev pub IsAnyMet : (before now : FaultCounts) → Type 0
+IsAnyMet before now = (error : FileError) × IsMet error before now
+
+-- it is a file, or a folder that could not be listed by a fault that was counted
+abbrev pub IsFileOrMet : (before now : FaultCounts) → FoundEntry → Type 0
+IsFileOrMet before now (key, File name path) = Unit {0}
+IsFileOrMet before now (key, Unlisted path error) = IsMet error before now
 
 -- it is a file
 abbrev pub IsFile : FoundEntry → Type 0

@@ -1,11 +1,11 @@
 -- What a whole listing is: each name with a loose file or a record, once, by ascending bytes.
-use Rattle.std.specs.Prelude.{◌≡◌, ◌⊎◌, ◌++◌, ℕ, List, [], ◌∷◌, Option, Some, None, IsSome}
+use Rattle.std.specs.Prelude.{◌≡◌, ◌++◌, ℕ, List, [], ◌∷◌, Option, Some, None, IsSome}
 use denote.Ref.{Bor}
 use Rattle.std.specs.List.{All, AllByRecursion}
 use Rattle.gix_ref_hash.specs.Bytes.{BeginsWith}
 use Rattle.gix_ref_grammar.specs.NameGrammar.{IsPartialName}
 use Rattle.gix_ref_base.specs.PackedRecords.{Record, record_named}
-use Rattle.gix_ref_files.specs.Files.{HasRisen}
+use Rattle.gix_ref_files.specs.Files.{FaultCounts}
 use Rattle.gix_ref_records.specs.RecordGrammar.{Below, Ascending, Rising, Records}
 use Rattle.gix_ref_hash.specs.declared.hash.Kind.{Kind}
 use Rattle.gix_ref_records.specs.Prefixes.{records_prefixed}
@@ -16,7 +16,7 @@ use Rattle.gix_ref_theory.specs.Views.{View}
 use Rattle.gix_ref_lookup.specs.Lookups.{meaning_in, Among}
 use Rattle.gix_ref_lookup.specs.StoreLayout.{namespace_text}
 use Rattle.gix_ref_lookup.specs.declared.settings.Settings.{Settings}
-use Rattle.gix_ref_listing.specs.Walks.{Holds, IsFile}
+use Rattle.gix_ref_listing.specs.Walks.{Holds, IsFile, IsFileOrMet}
 use Rattle.gix_ref_listing.specs.OwnRecords.{YetOf}
 use Rattle.gix_ref_listing.specs.Steps.{AreYet}
 use Rattle.gix_ref_listing.specs.declared.list.LooseNames.{LooseNames}
@@ -100,24 +100,29 @@ pub record IsAskedOf (prefix : List ℕ) (records : List Record) (it : Option It
   pub named : (name : List ℕ) → record_named name held ≡ record_named name records
   pub yet : YetOf it (records_prefixed prefix held)
 
+-- no folder, or one that could not be listed by a fault that was counted
+abbrev pub IsNameOrMet : (before now : FaultCounts) → Listed → Type 0
+IsNameOrMet before now (Walked e) = IsFileOrMet before now e
+IsNameOrMet before now (InPacked own) = Unit {0}
+
 -- no folder
 abbrev pub IsNameItem : Listed → Type 0
 IsNameItem (Walked e) = IsFile e
 IsNameItem (InPacked own) = Unit {0}
 
--- What is yet to come is the listing. A folder is in it only where the count of faults rose.
+-- What is yet to come is the listing. A folder is in it only with a fault that was counted.
 pub record ListsAll (settings : Settings) (view : View) (records : List Record) (prefix : List ℕ)
-    (before now : ℕ) (m : Merge) : Type 0 where
+    (before now : FaultCounts) (m : Merge) : Type 0 where
   pub listed : List Listed
   pub is : IsListing settings view records prefix listed
-  pub names : AllByRecursion IsNameItem listed ⊎ HasRisen before now
+  pub names : AllByRecursion (IsNameOrMet before now) listed
   pub yet : AreYet settings m listed
 
 -- What a walk of the folders of a store found of a prefix while the count of faults went from `before` to `now`: each loose
--- reference, unless a folder above it could not be listed, which is found only where that count rose; and nothing else.
-pub record IsWalkOf (settings : Settings) (view : View) (before now : ℕ)
+-- reference, unless a folder above it could not be listed, which is found with a fault that was counted; and nothing else.
+pub record IsWalkOf (settings : Settings) (view : View) (before now : FaultCounts)
     (names : LooseNames) : Type 0 where
   pub finds : (name : List ℕ) → IsLooseListed settings view names.prefix.items name →
       Among (Holds name) names.found.entries
-  pub files : All IsFile names.found.entries ⊎ HasRisen before now
+  pub files : All (IsFileOrMet before now) names.found.entries
   pub there : All (IsFoundIn settings view names.prefix.items) names.found.entries

@@ -1,11 +1,14 @@
 //! The listing of a prefix.
-ghost use Rattle.std.specs.Prelude.{◌≡◌, ◌++◌, ℕ, List, IfOk, IfErr};
+ghost use Rattle.std.specs.Prelude.{◌≡◌, ◌++◌, ℕ, List, [], IfOk, IfErr};
+ghost use Rattle.gix_ref_files.specs.Files.{FaultCounts};
 ghost use Rattle.gix_ref_base.specs.PackedRecords.{Record};
 ghost use Rattle.gix_ref_theory.specs.OnRealTrees.{contents};
 ghost use Rattle.gix_ref_theory.specs.Views.{View};
 ghost use Rattle.gix_ref_lookup.specs.StoreLayout.{namespace_text};
 ghost use Rattle.gix_ref_lookup.specs.Looks.{OnlyLooks};
+ghost use Rattle.gix_ref_listing.specs.OwedNames.{Text, IsTextFor, OwesOthers, OwesNames};
 ghost use Rattle.gix_ref_listing.specs.PlainSettings.{plain};
+ghost use Rattle.gix_ref_lookup.specs.declared.settings.Settings.{Settings as ListingOf};
 ghost use Rattle.gix_ref_listing.specs.WholeListings.{AreHeldOf, IsAskedOf, IsWalkOf, ListsAll, key_in};
 ghost use Rattle.gix_ref_listing.specs.declared.prefix.Error.TheVariants.{Memory};
 
@@ -28,9 +31,12 @@ fn records_of<'p>(
     prefix: &[u8],
     packed: Option<&'p Buffer>,
 ) -> Result<Option<Iter<'p>>, AllocError>
-    ensures { (records : List Record) → AreHeldOf
+    ensures asked { (records : List Record) → AreHeldOf
         (namespace_text namespace.now ++ prefix.now) packed.entry records →
         IfOk result (IsAskedOf (namespace_text namespace.now ++ prefix.now) records) }
+    ensures owes { (settings : ListingOf) → (text : Text) →
+        IsTextFor (namespace_text namespace.now ++ prefix.now) packed.entry text →
+        IfOk result (OwesOthers settings text []) }
 {
     match packed {
         Some(buffer) => {
@@ -79,10 +85,14 @@ pub fn merge_walked<'p>(
     names: LooseNames,
     packed: Option<&'p Buffer>,
 ) -> Result<Merge<'p>, Error>
-    ensures lists { (view : View) (before now : ℕ) (records : List Record) →
+    ensures lists { (view : View) (before now : FaultCounts) (records : List Record) →
         IsWalkOf (plain settings.entry) view before now names →
         AreHeldOf (key_in settings.entry names.prefix.items) packed.entry records → IfOk result
         (ListsAll (plain settings.entry) view records names.prefix.items before now) }
+    ensures owes { (view : View) (before now : FaultCounts) (text : Text) →
+        IsWalkOf (plain settings.entry) view before now names →
+        IsTextFor (key_in settings.entry names.prefix.items) packed.entry text →
+        IfOk result (OwesNames (plain settings.entry) text []) }
     ensures memory { IfErr result (λ error. error ≡ Memory) }
 {
     let LooseNames { found, prefix } = names;
@@ -107,6 +117,9 @@ pub fn list<'p, F: Files>(
         AreHeldOf (key_in settings.entry prefix.now) packed.entry records →
         IfOk result (ListsAll (plain settings.entry) (contents F.means files.old) records prefix.now
         (F.faults files.old) (F.faults files.new)) }
+    ensures owes { F.honest → (text : Text) →
+        IsTextFor (key_in settings.entry prefix.now) packed.entry text →
+        IfOk result (OwesNames (plain settings.entry) text []) }
     ensures looks { OnlyLooks F.honest F.means F.faults files.old files.new }
     ensures memory { IfErr result (λ error. error ≡ Memory) }
 {

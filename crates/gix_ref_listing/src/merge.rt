@@ -24,9 +24,11 @@ pub struct Merge<'p> {
 }
 
 impl<'p> Merge<'p> {
-    ghost use Rattle.std.specs.Prelude.{◌≡◌, ◌≤◌, ◌+◌, List, IfNone, IfSome, None};
+    ghost use Rattle.std.specs.Prelude.{◌≡◌, ◌≤◌, ◌+◌, ◌∷◌, ℕ, List, IfNone, IfSome, None};
+    ghost use Rattle.gix_ref_name.specs.Names.{full_ref_bytes};
     ghost use Rattle.std.specs.Option.{option_len};
     ghost use Rattle.gix_ref_listing.specs.OwnRecords.{Own, AreAhead};
+    ghost use Rattle.gix_ref_listing.specs.OwedNames.{Text, OwesNames, PaysTaken};
     ghost use Rattle.gix_ref_listing.specs.Listings.{merged_listing, order_of, TakesFirst, TakesListed, TakesRecord, IsNoRecord, merge_left};
     ghost use Rattle.gix_ref_listing.specs.Steps.{IsDrained};
 
@@ -60,6 +62,9 @@ impl<'p> Merge<'p> {
         ensures takes { (owns : List Own) → AreAhead settings.entry self.old.packed owns →
             TakesListed settings.entry
             (merged_listing self.old.found.entries owns) result self.new }
+        ensures pays { (text : Text) (names : List (List ℕ)) →
+            OwesNames settings.entry text names self.old →
+            PaysTaken settings.entry text names result self.new }
         ensures left { option_len result + merge_left self.new ≤ merge_left self.old }
         ensures ends { IfNone result (IsDrained self.new) }
         ensures stays_ended { IsDrained self.old → result ≡ None }
@@ -83,6 +88,9 @@ impl<'p> Merge<'p> {
         ensures takes { IfSome result (λ own. (owns : List Own) →
             AreAhead settings.entry self.old.packed owns →
             TakesRecord settings.entry (merged_listing self.old.found.entries owns) own self.new) }
+        ensures pays { IfSome result (λ own. (text : Text) (names : List (List ℕ)) →
+            OwesNames settings.entry text names self.old →
+            OwesNames settings.entry text (full_ref_bytes own.name ∷ names) self.new) }
         ensures none { IfNone result ((owns : List Own) → AreAhead settings.entry self.old.packed
             owns → IsNoRecord (merged_listing self.old.found.entries owns)) }
         ensures goes_on { IfSome result (λ _. IsDrained self.old → ⊥) }

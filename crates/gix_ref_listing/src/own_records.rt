@@ -1,5 +1,5 @@
 //! The records of `packed-refs` that a listing gives, with their names.
-ghost use Rattle.std.specs.Prelude.{◌≡◌, ◌≤◌, ◌+◌, ◌++◌, ℕ, List, MatchOption};
+ghost use Rattle.std.specs.Prelude.{◌≡◌, ◌≤◌, ◌+◌, ◌++◌, ℕ, List, Some, MatchOption};
 ghost use Rattle.std.specs.Option.{option_map, option_len};
 ghost use Rattle.gix_ref_name.specs.Names.{full_ref_bytes};
 ghost use Rattle.gix_ref_grammar.specs.NameGrammar.{IsPartialName};
@@ -9,6 +9,7 @@ ghost use Rattle.gix_ref_packed.specs.YetToGive.{IsYet};
 ghost use Rattle.gix_ref_lookup.specs.Lookups.{meaning_in};
 ghost use Rattle.gix_ref_theory.specs.Edits.{is_key};
 ghost use Rattle.gix_ref_listing.specs.OwnRecords.{own_name, own_records, records_left, GivesOwn};
+ghost use Rattle.gix_ref_listing.specs.OwedNames.{Text, OwesOthers, OwesAfter};
 
 use gix_ref_base::layout::packed_key;
 use gix_ref_hash::bytes::strip_front;
@@ -89,6 +90,9 @@ fn next_own<'p>(
 ) -> Option<Result<OwnRecord<'p>, Error<'p>>>
     ensures gives { (rs : List Record) → IsYet records.old rs →
         GivesOwn settings.entry rs result records.new }
+    ensures owes { (text : Text) (names : List (List ℕ)) →
+        OwesOthers settings.entry text names (Some records.old) →
+        OwesAfter settings.entry text names result (Some records.new) }
     ensures left { option_len result + records_left records.new ≤ records_left records.old }
 {
     while let Some(item) = records.next() {
@@ -111,15 +115,19 @@ pub struct OwnRecords<'p> {
 }
 
 impl<'p> OwnRecords<'p> {
-    ghost use Rattle.std.specs.Prelude.{◌≡◌, ◌≤◌, ◌+◌, [], List, IfNone, IfSome, None, Some, Ok};
+    ghost use Rattle.std.specs.Prelude.{◌≡◌, ◌≤◌, ◌+◌, [], ◌∷◌, ℕ, List, IfNone, IfSome, None, Some, Ok};
     ghost use Rattle.std.specs.Option.{option_len};
     ghost use Rattle.gix_ref_base.specs.PackedRecords.{Record};
     ghost use Rattle.gix_ref_listing.specs.OwnRecords.{own_records, Own, YetOf, AreAhead, TakesOwn, ahead_left, records_left_of};
+    ghost use Rattle.gix_ref_listing.specs.OwedNames.{Text, OwesOthers, OwesOwn, PaysOwn};
 
     /// Those of the records that the iterator is yet to give, if there is one.
     pub fn of(settings: Settings<'_>, records: Option<Iter<'p>>) -> OwnRecords<'p>
-        ensures { (rs : List Record) → YetOf records.entry rs →
+        ensures ahead { (rs : List Record) → YetOf records.entry rs →
             AreAhead settings.entry result (own_records settings.entry rs) }
+        ensures owes { (text : Text) (names : List (List ℕ)) →
+            OwesOthers settings.entry text names records.entry →
+            OwesOwn settings.entry text names result }
     {
         let mut own = OwnRecords {
             records,
@@ -133,6 +141,9 @@ impl<'p> OwnRecords<'p> {
     fn load(&mut self, settings: Settings<'_>)
         ensures ahead { (rs : List Record) → YetOf self.old.records rs →
             AreAhead settings.entry self.new (own_records settings.entry rs) }
+        ensures owes { (text : Text) (names : List (List ℕ)) →
+            OwesOthers settings.entry text names self.old.records →
+            OwesOwn settings.entry text names self.new }
         ensures left { ahead_left self.new ≤ records_left_of self.old.records }
     {
         self.first = match &mut self.records {
@@ -145,7 +156,11 @@ impl<'p> OwnRecords<'p> {
     pub fn take(&mut self, settings: Settings<'_>) -> Option<Result<OwnRecord<'p>, Error<'p>>>
         ensures takes { (owns : List Own) → AreAhead settings.entry self.old owns →
             TakesOwn settings.entry owns result self.new }
+        ensures pays { (text : Text) (names : List (List ℕ)) →
+            OwesOwn settings.entry text names self.old →
+            PaysOwn settings.entry text names result self.new }
         ensures left { option_len result + ahead_left self.new ≤ ahead_left self.old }
+        ensures first { result ≡ self.old.first }
         ensures was { IfNone result (self.old.first ≡ None) }
         ensures ends { IfNone result (self.new.first ≡ None) }
         ensures stays_ended { self.old.first ≡ None → result ≡ None }
@@ -162,6 +177,9 @@ impl<'p> OwnRecords<'p> {
     pub fn take_record(&mut self, settings: Settings<'_>) -> Option<OwnRecord<'p>>
         ensures takes { IfSome result (λ own. (owns : List Own) → AreAhead settings.entry self.old
             owns → TakesOwn settings.entry owns (Some (Ok own)) self.new) }
+        ensures pays { IfSome result (λ own. (text : Text) (names : List (List ℕ)) →
+            OwesOwn settings.entry text names self.old →
+            OwesOwn settings.entry text (full_ref_bytes own.name ∷ names) self.new) }
         ensures was { IfSome result (λ own. self.old.first ≡ Some (Ok own)) }
         ensures none { IfNone result ((owns : List Own) →
             AreAhead settings.entry self.old owns → owns ≡ []) }

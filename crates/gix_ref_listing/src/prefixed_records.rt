@@ -1,14 +1,16 @@
 //! The records of a prefix, read from `packed-refs`.
 ghost use Rattle.std.specs.Prelude.{◌≡◌, ℕ, List, IfOk, IfErr, OnOk, is_some};
 ghost use Rattle.gix_ref_base.specs.PackedRecords.{Record};
-ghost use Rattle.gix_ref_files.specs.Files.{AtEveryStop};
+ghost use Rattle.gix_ref_files.specs.Files.{AtEveryStop, FaultCounts};
 ghost use Rattle.gix_ref_files.specs.Calls.{Unchanged};
 ghost use Rattle.gix_ref_files.specs.Tree.{is_file};
 ghost use Rattle.gix_ref_hash.specs.declared.hash.Kind.{Kind};
 ghost use Rattle.gix_ref_packed.specs.Buffers.{HoldsRecords, IsRefusedBytes, IsRefusedFile, buffer_kind, buffer_text};
+ghost use Rattle.gix_ref_records.specs.Prefixes.{NamesAscend};
+ghost use Rattle.gix_ref_packed.specs.FilePrefixes.{HoldsAsked};
 ghost use Rattle.gix_ref_packed.specs.OpenFiles.{CountsRefusal, packed_file_kind, packed_file_text};
 ghost use Rattle.gix_ref_lookup.specs.Lookups.{ArePackedRecords, meaning_in, packed_refs_in};
-ghost use Rattle.gix_ref_listing.specs.PrefixedRecords.{IsHeldFor, of_part};
+ghost use Rattle.gix_ref_listing.specs.PrefixedRecords.{HoldsAskedOf, IsHeldFor, of_part};
 ghost use Rattle.gix_ref_listing.specs.WholeListings.{HoldsFor, key_in};
 
 use crate::store_walk::text_of;
@@ -42,9 +44,14 @@ fn read_part<R: ReadAt + Drop>(
     ensures holds { R.honest → (records : List Record) →
         HoldsRecords (packed_file_kind file) records (packed_file_text file) →
         IfOk result (λ b. HoldsFor (buffer_kind b) key.now records (buffer_text b)) }
+    ensures kind { R.honest → IfOk result (λ b. buffer_kind b ≡ packed_file_kind file) }
+    ensures asked { R.honest → NamesAscend (packed_file_kind file) (packed_file_text file) →
+        IfOk result (λ b. HoldsAsked (packed_file_kind file) (packed_file_text file) key.now
+        (buffer_text b)) }
     ensures refused { R.honest → (kind : Kind) (bytes : List ℕ) →
         IfErr result (IsRefusedBytes kind bytes) }
-    ensures failed { R.honest → (count : ℕ) → IfErr result (CountsRefusal R.faults count count) }
+    ensures failed { R.honest → (count : FaultCounts) →
+        IfErr result (CountsRefusal R.faults count count) }
 {
     match file.into_prefixed(alloc, key) {
         Ok(buffer) => Ok(buffer),
@@ -63,6 +70,8 @@ pub fn open_prefixed<F: Files>(
     ensures holds { F.honest → (records : List Record) → ArePackedRecords settings.entry.kind
         (packed_refs_in settings.entry (F.means files.old)) records →
         IfOk result (λ found. IsHeldFor (key_in settings.entry prefix.now) found records) }
+    ensures asked { F.honest → IfOk result (HoldsAskedOf settings.entry.kind
+        (packed_refs_in settings.entry (F.means files.old)) (key_in settings.entry prefix.now)) }
     ensures there { F.honest → IfOk result (λ found. is_some found
         ≡ is_file ((F.means files.old).tree (meaning_in settings.entry).packed_path)) }
     ensures refused { F.honest → IfErr result (IsRefusedFile settings.entry.kind

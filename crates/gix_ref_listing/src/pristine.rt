@@ -8,7 +8,7 @@ ghost use Rattle.gix_ref_files.specs.Files.{HasRisen};
 ghost use Rattle.gix_ref_theory.specs.OnRealTrees.{contents};
 ghost use Rattle.gix_ref_listing.specs.PlainSettings.{plain};
 ghost use Rattle.gix_ref_listing.specs.PristineStores.{Says, IsReading, IsReadableFile, IsUnreadableFile, ReadsAt, ReadsNone, HasOtherHead, HasLoose, HasNoLoose, HasReferences, HasNoReferences, IsFoundFile, IsPristine, IsInUse, has_packed_refs, head_path};
-ghost use Rattle.gix_ref_listing.specs.Walks.{IsFile};
+ghost use Rattle.gix_ref_listing.specs.Walks.{IsFile, IsAnyMet};
 ghost use Rattle.gix_ref_listing.specs.declared.pristine.Reading.TheVariants.{Fault};
 ghost use Rattle.gix_ref_lookup.specs.Lookups.{Among};
 ghost use Rattle.gix_ref_lookup.specs.Looks.{OnlyLooks};
@@ -46,7 +46,7 @@ fn reading_at<F: Files>(
     ensures reads { F.honest →
         IfOk result (IsReading (plain settings.entry) (contents F.means files.old) path.items) }
     ensures fault { IfOk result (λ reading. reading ≡ Fault →
-        HasRisen (F.faults files.old) (F.faults files.new)) }
+        IsAnyMet (F.faults files.old) (F.faults files.new)) }
     ensures looks { OnlyLooks F.honest F.means F.faults files.old files.new }
 {
     match read_at(alloc, files, settings, name, path) {
@@ -84,7 +84,7 @@ fn head_points_to<F: Files>(
         (symbolic_name (full_ref_bytes name.entry))) (F.honest → HasOtherHead (plain settings.entry)
         (contents F.means files.old) (full_ref_bytes name.entry))
         ((F.honest → ReadsNone (plain settings.entry) (contents F.means files.old)
-        (head_path (plain settings.entry))) ⊎ HasRisen (F.faults files.old) (F.faults files.new))) }
+        (head_path (plain settings.entry))) ⊎ IsAnyMet (F.faults files.old) (F.faults files.new))) }
     ensures looks { OnlyLooks F.honest F.means F.faults files.old files.new }
 {
     let Some(head) = FullNameRef::from_path(b"HEAD") else {
@@ -106,7 +106,7 @@ fn has_packed_refs<F: Files>(
 ) -> Result<Option<bool>, AllocError>
     ensures says { IfOk result (Says (F.honest → has_packed_refs (plain settings.entry)
         (F.means files.old).tree ≡ true) (F.honest → has_packed_refs (plain settings.entry)
-        (F.means files.old).tree ≡ false) (HasRisen (F.faults files.old) (F.faults files.new))) }
+        (F.means files.old).tree ≡ false) (IsAnyMet (F.faults files.old) (F.faults files.new))) }
     ensures looks { OnlyLooks F.honest F.means F.faults files.old files.new }
 {
     let path = settings.packed_refs_path(alloc)?;
@@ -128,7 +128,7 @@ fn is_readable<F: Files>(
     ensures says { IfOk result (Says ((other ≡ true) ⊎ (F.honest →
         IsReadableFile (plain settings.entry) (contents F.means files.old) found)) ((other ≡ false)
         × (F.honest → IsUnreadableFile (plain settings.entry) (contents F.means files.old) found))
-        (IsFoundFile found → HasRisen (F.faults files.old) (F.faults files.new))) }
+        (IsFoundFile found → IsAnyMet (F.faults files.old) (F.faults files.new))) }
     ensures looks { OnlyLooks F.honest F.means F.faults files.old files.new }
 {
     match found {
@@ -155,7 +155,7 @@ fn any_readable<F: Files>(
     ensures says { IfOk result (Says (F.honest → Among (λ e. IsReadableFile (plain settings.entry)
         (contents F.means files.old) e.1) found.entries) (F.honest → All (λ e. IsUnreadableFile
         (plain settings.entry) (contents F.means files.old) e.1) found.entries)
-        (All IsFile found.entries → HasRisen (F.faults files.old) (F.faults files.new))) }
+        (All IsFile found.entries → IsAnyMet (F.faults files.old) (F.faults files.new))) }
     ensures looks { OnlyLooks F.honest F.means F.faults files.old files.new }
 {
     let mut any = false;
@@ -178,7 +178,7 @@ fn has_loose<F: Files>(
     ensures says { IfOk result
         (Says (F.honest → HasLoose (plain settings.entry) (contents F.means files.old) prefix.now)
         (F.honest → HasNoLoose (plain settings.entry) (contents F.means files.old) prefix.now)
-        (HasRisen (F.faults files.old) (F.faults files.new))) }
+        (IsAnyMet (F.faults files.old) (F.faults files.new))) }
     ensures looks { OnlyLooks F.honest F.means F.faults files.old files.new }
 {
     let Ok(found) = walk_store(alloc, files, settings, prefix) else {
@@ -196,7 +196,7 @@ fn has_references<F: Files>(
 ) -> Result<Option<bool>, AllocError>
     ensures says { IfOk result (Says (F.honest → HasReferences (plain settings.entry)
         (F.means files.old).tree prefix.now) (F.honest → HasNoReferences (plain settings.entry)
-        (F.means files.old).tree prefix.now) (HasRisen (F.faults files.old) (F.faults files.new))) }
+        (F.means files.old).tree prefix.now) (IsAnyMet (F.faults files.old) (F.faults files.new))) }
     ensures looks { OnlyLooks F.honest F.means F.faults files.old files.new }
 {
     match has_packed_refs(alloc, files, settings)? {
@@ -219,7 +219,7 @@ pub fn is_pristine<F: Files>(
         (F.means files.old).tree prefix.now (full_ref_bytes name.entry)) (F.honest → IsInUse
         (plain settings.entry) (F.means files.old).tree prefix.now (full_ref_bytes name.entry))
         ((F.honest → ReadsNone (plain settings.entry) (contents F.means files.old)
-        (head_path (plain settings.entry))) ⊎ HasRisen (F.faults files.old) (F.faults files.new))) }
+        (head_path (plain settings.entry))) ⊎ IsAnyMet (F.faults files.old) (F.faults files.new))) }
     ensures looks { OnlyLooks F.honest F.means F.faults files.old files.new }
 {
     match head_points_to(alloc, files, settings, name)? {

@@ -7,7 +7,7 @@ ghost use Rattle.gix_ref_files.specs.declared.files.FileError.TheVariants.{Memor
 ghost use Rattle.gix_ref_theory.specs.OnRealTrees.{contents};
 ghost use Rattle.gix_ref_listing.specs.PlainSettings.{plain};
 ghost use Rattle.gix_ref_listing.specs.PseudoListings.{is_head_file, is_kept, IsPseudoListed, IsPseudoFound, ListsPseudo};
-ghost use Rattle.gix_ref_listing.specs.Walks.{Holds, IsFile};
+ghost use Rattle.gix_ref_listing.specs.Walks.{Holds, IsFile, IsFileOrMet};
 ghost use Rattle.gix_ref_listing.specs.declared.prefix.Error.TheVariants.{Memory};
 ghost use Rattle.gix_ref_lookup.specs.Lookups.{Among};
 ghost use Rattle.gix_ref_lookup.specs.Looks.{OnlyLooks};
@@ -56,8 +56,8 @@ fn walk_pseudo<F: Files>(
 ) -> Result<FoundByKey, FileError>
     ensures finds { F.honest → IfOk result (λ found. (name : List ℕ) → IsPseudoListed settings.entry
         (contents F.means files.old) name → Among (Holds name) found.entries) }
-    ensures files { IfOk result (λ found. All IsFile found.entries
-        ⊎ HasRisen (F.faults files.old) (F.faults files.new)) }
+    ensures files { IfOk result (λ found. All (IsFileOrMet (F.faults files.old)
+        (F.faults files.new)) found.entries) }
     ensures there { F.honest → IfOk result
         (λ found. All (IsPseudoFound settings.entry (contents F.means files.old)) found.entries) }
     ensures looks { OnlyLooks F.honest F.means F.faults files.old files.new }

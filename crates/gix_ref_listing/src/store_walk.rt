@@ -2,11 +2,11 @@
 ghost use Rattle.std.specs.Prelude.{◌≡◌, ◌≢◌, ◌⊎◌, [], List, ℕ, IfOk, IfErr, OnOk};
 ghost use Rattle.std.specs.List.{All};
 ghost use Rattle.gix_ref_base.specs.Layout.{below};
-ghost use Rattle.gix_ref_files.specs.Files.{HasRisen};
+ghost use Rattle.gix_ref_files.specs.Files.{HasRisen, FaultCounts, NoFewer};
 ghost use Rattle.gix_ref_files.specs.declared.files.FileError.TheVariants.{Memory};
 ghost use Rattle.gix_ref_theory.specs.OnRealTrees.{contents};
 ghost use Rattle.gix_ref_lookup.specs.StoreLayout.{namespace_text};
-ghost use Rattle.gix_ref_listing.specs.Walks.{Holds, IsFile, IsFolderPath, IsRootPath, StaysFound};
+ghost use Rattle.gix_ref_listing.specs.Walks.{Holds, IsFile, IsFolderPath, IsRootPath, StaysFound, IsFileOrMet};
 ghost use Rattle.gix_ref_listing.specs.LooseListings.{IsFront, IsLooseListed, IsFoundIn, LooseIn};
 ghost use Rattle.gix_ref_lookup.specs.Lookups.{Among};
 ghost use Rattle.gix_ref_lookup.specs.Looks.{OnlyLooks};
@@ -65,8 +65,9 @@ fn walk_in<F: Files>(
         LooseIn settings.entry (contents F.means files.old) prefix.now
         (below folder.now (namespace_text settings.entry.namespace.now)) name →
         Among (Holds name) found.new.entries) }
-    ensures files { OnOk result (All IsFile found.old.entries → All IsFile found.new.entries
-        ⊎ HasRisen (F.faults files.old) (F.faults files.new)) }
+    ensures files { OnOk result ((start : FaultCounts) → NoFewer start (F.faults files.old) →
+        All (IsFileOrMet start (F.faults files.old)) found.old.entries →
+        All (IsFileOrMet start (F.faults files.new)) found.new.entries) }
     ensures there { F.honest → OnOk result
         (All (IsFoundIn settings.entry (contents F.means files.old) prefix.now) found.old.entries →
         All (IsFoundIn settings.entry (contents F.means files.old) prefix.now) found.new.entries) }
@@ -96,8 +97,8 @@ pub fn walk_store<F: Files>(
 ) -> Result<FoundByKey, FileError>
     ensures finds { F.honest → IfOk result (λ found. (name : List ℕ) → IsLooseListed settings.entry
         (contents F.means files.old) prefix.now name → Among (Holds name) found.entries) }
-    ensures files { IfOk result (λ found. All IsFile found.entries
-        ⊎ HasRisen (F.faults files.old) (F.faults files.new)) }
+    ensures files { IfOk result (λ found. All (IsFileOrMet (F.faults files.old)
+        (F.faults files.new)) found.entries) }
     ensures there { F.honest → IfOk result (λ found. All
         (IsFoundIn settings.entry (contents F.means files.old) prefix.now) found.entries) }
     ensures looks { OnlyLooks F.honest F.means F.faults files.old files.new }

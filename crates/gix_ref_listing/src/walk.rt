@@ -5,13 +5,13 @@ ghost use Rattle.std.specs.List.{All};
 ghost use Rattle.gix_ref_hash.specs.Bytes.{BeginsWith, NoByte};
 ghost use Rattle.gix_ref_grammar.specs.NameGrammar.{IsPartialName};
 ghost use Rattle.gix_ref_name.specs.Names.{full_bytes, full_ref_bytes};
-ghost use Rattle.gix_ref_files.specs.Files.{HasRisen};
+ghost use Rattle.gix_ref_files.specs.Files.{HasRisen, FaultCounts, NoFewer, IsMet};
 ghost use Rattle.gix_ref_files.specs.declared.files.FileError.TheVariants.{Memory};
 ghost use Rattle.gix_ref_theory.specs.OnRealTrees.{contents};
 ghost use Rattle.gix_ref_theory.specs.Views.{View};
 ghost use Rattle.gix_ref_lookup.specs.Lookups.{name_asked, Among};
 ghost use Rattle.gix_ref_lookup.specs.Looks.{OnlyLooks};
-ghost use Rattle.gix_ref_listing.specs.Walks.{FoundEntry, IsListedName, IsThereOr, IsOwnName, IsLooseName, Holds, IsFile, IsFileOf, IsTaken, StaysFound, IsFolderPath, IsInnerPath, IsBelow, IsRootPath, Reaches};
+ghost use Rattle.gix_ref_listing.specs.Walks.{FoundEntry, IsListedName, IsThereOr, IsOwnName, IsLooseName, Holds, IsFile, IsFileOf, IsTaken, StaysFound, IsFolderPath, IsInnerPath, IsBelow, IsRootPath, Reaches, IsFileOrMet};
 
 use crate::found::{Found, FoundByKey};
 use gix_ref_files::files::{Entry, FileError, Files};
@@ -138,6 +138,9 @@ fn keep_unlisted(
     ensures there { (others : List FoundEntry) (root : Root) (view : View) →
         All (IsThereOr others root view) found.old.entries → error ≢ Memory → path.items ++ 47 ∷ []
         ≡ root.path.now ++ folder.now → All (IsThereOr others root view) found.new.entries }
+    ensures files { (before now : FaultCounts) → IsMet error before now →
+        All (IsFileOrMet before now) found.old.entries →
+        All (IsFileOrMet before now) found.new.entries }
 {
     let source = error;
     found.insert(folder.to_vec(alloc)?, Found::Unlisted { path, source })?;
@@ -179,7 +182,8 @@ impl Root<'_> {
         ensures stays { StaysFound found.old.entries found.new.entries }
         ensures holds { OnOk result (IsListedName self.entry disk.now →
             Among (Holds disk.now) found.new.entries) }
-        ensures files { All IsFile found.old.entries → All IsFile found.new.entries }
+        ensures files { (before now : FaultCounts) → All (IsFileOrMet before now) found.old.entries →
+            All (IsFileOrMet before now) found.new.entries }
         ensures there { (others : List FoundEntry) (view : View) →
             All (IsThereOr others self.entry view) found.old.entries →
             IsSome (view (self.entry.path.now ++ disk.now)) →
@@ -238,7 +242,8 @@ impl Root<'_> {
             (IsTaken self.entry folder.now found.new.entries next.new.items entry.now) }
         ensures paths { All (λ f. IsInnerPath f.items) next.old.items →
             All (λ f. IsInnerPath f.items) next.new.items }
-        ensures files { All IsFile found.old.entries → All IsFile found.new.entries }
+        ensures files { (before now : FaultCounts) → All (IsFileOrMet before now) found.old.entries →
+            All (IsFileOrMet before now) found.new.entries }
         ensures there { (others : List FoundEntry) (view : View) →
             All (IsThereOr others self.entry view) found.old.entries → IsFileOf self.entry view
             folder.now entry.now → All (IsThereOr others self.entry view) found.new.entries }
@@ -266,7 +271,9 @@ impl Root<'_> {
             (All (IsTaken self.entry folder.now found.new.entries next.new.items) entries.now) }
         ensures paths { OnOk result (All (λ f. IsInnerPath f.items) next.old.items →
             All (λ f. IsInnerPath f.items) next.new.items) }
-        ensures files { OnOk result (All IsFile found.old.entries → All IsFile found.new.entries) }
+        ensures files { OnOk result ((before now : FaultCounts) →
+            All (IsFileOrMet before now) found.old.entries →
+            All (IsFileOrMet before now) found.new.entries) }
         ensures there { OnOk result ((others : List FoundEntry) (view : View) →
             All (IsThereOr others self.entry view) found.old.entries → All (IsFileOf self.entry view
             folder.now) entries.now → All (IsThereOr others self.entry view) found.new.entries) }
@@ -296,8 +303,9 @@ impl Root<'_> {
             (λ name. BeginsWith name folder.now) found.new.entries next.new.items) }
         ensures paths { OnOk result (All (λ f. IsInnerPath f.items) next.old.items →
             All (λ f. IsInnerPath f.items) next.new.items) }
-        ensures files { OnOk result (All IsFile found.old.entries → All IsFile found.new.entries
-            ⊎ HasRisen (F.faults files.old) (F.faults files.new)) }
+        ensures files { OnOk result ((start : FaultCounts) → NoFewer start (F.faults files.old) →
+            All (IsFileOrMet start (F.faults files.old)) found.old.entries →
+            All (IsFileOrMet start (F.faults files.new)) found.new.entries) }
         ensures there { F.honest → IfOk result
             (λ _. IsFolderPath folder.now → (others : List FoundEntry) →
             All (IsThereOr others self.entry (contents F.means files.old)) found.old.entries →
@@ -336,8 +344,9 @@ impl Root<'_> {
         ensures reaches { F.honest → IfOk result (λ next. Reaches self.entry
             (contents F.means files.old) (IsBelow folders.now) found.new.entries next.items) }
         ensures paths { IfOk result (λ next. All (λ f. IsInnerPath f.items) next.items) }
-        ensures files { OnOk result (All IsFile found.old.entries → All IsFile found.new.entries
-            ⊎ HasRisen (F.faults files.old) (F.faults files.new)) }
+        ensures files { OnOk result ((start : FaultCounts) → NoFewer start (F.faults files.old) →
+            All (IsFileOrMet start (F.faults files.old)) found.old.entries →
+            All (IsFileOrMet start (F.faults files.new)) found.new.entries) }
         ensures there { F.honest → OnOk result ((others : List FoundEntry) →
             All (IsThereOr others self.entry (contents F.means files.old)) found.old.entries →
             All (IsThereOr others self.entry (contents F.means files.old)) found.new.entries) }
@@ -364,8 +373,9 @@ impl Root<'_> {
         ensures stays { OnOk result (StaysFound found.old.entries found.new.entries) }
         ensures finds { F.honest → OnOk result ((name : List ℕ) → IsLooseName self.entry
             (contents F.means files.old) name → Among (Holds name) found.new.entries) }
-        ensures files { OnOk result (All IsFile found.old.entries → All IsFile found.new.entries
-            ⊎ HasRisen (F.faults files.old) (F.faults files.new)) }
+        ensures files { OnOk result ((start : FaultCounts) → NoFewer start (F.faults files.old) →
+            All (IsFileOrMet start (F.faults files.old)) found.old.entries →
+            All (IsFileOrMet start (F.faults files.new)) found.new.entries) }
         ensures there { F.honest → OnOk result ((others : List FoundEntry) →
             All (IsThereOr others self.entry (contents F.means files.old)) found.old.entries →
             All (IsThereOr others self.entry (contents F.means files.old)) found.new.entries) }

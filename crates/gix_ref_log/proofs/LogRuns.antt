@@ -1,5 +1,6 @@
 -- Whole runs backwards.
 use Rattle.std.proofs.Common.{◌≡◌, ℕ, ◌+◌, true, List, [], ◌∷◌, refl, sym, ◌∙◌, ap, subst, Some, None, Result, Ok, Err}
+use Rattle.gix_ref_files.specs.Files.{FaultCounts}
 use Rattle.std.specs.Iterator.{Yields}
 use Rattle.std.specs.Iterator.Runs.{YieldsRun, EachRunFrom}
 use Rattle.gix_ref_log.specs.declared.log.line.Line.{Line}
@@ -23,9 +24,9 @@ ended (Err BufferTooSmall) rest h = let e = h.0 in cc
 ended (Err Memory) rest h = let e = h.1.4 in cc
 ended (Err (Io e)) rest h = h.0 refl
 
-module _ {F : Type 0} (honest : Type 0) (bytes : F → List ℕ) (faults : F → ℕ) where
+module _ {F : Type 0} (honest : Type 0) (bytes : F → List ℕ) (faults : F → FaultCounts) where
   -- the count of faults over a run
-  pub faults_law : (xs : List (Result Line ReverseError)) (s t : Reverse F) (n : ℕ) → faults s.reader ≡ n → Yields (NextStep honest bytes faults) s xs t → faults t.reader ≡ faults_after n xs
+  pub faults_law : (xs : List (Result Line ReverseError)) (s t : Reverse F) (n : FaultCounts) → faults s.reader ≡ n → Yields (NextStep honest bytes faults) s xs t → faults t.reader ≡ faults_after n xs
   faults_law [] s t n is y = ap (λ (x : Reverse F). faults x.reader) (sym y) ∙ is
   faults_law (x ∷ xs) s t n is y = faults_law xs y.0 t (count_of (Some x) n) (y.1.counts ∙ ap (count_of (Some x)) is) y.2
 
@@ -46,7 +47,7 @@ module _ {F : Type 0} (honest : Type 0) (bytes : F → List ℕ) (faults : F →
   unfolding YieldsRun
   each_ends s p seen from = let gave = p.gave.0 in ends_law p.items p.from gave.0 gave.1
 
-module _ {F : Type 0} (honest : Type 0) (bytes : F → List ℕ) (faults : F → ℕ) (ho : honest) where
+module _ {F : Type 0} (honest : Type 0) (bytes : F → List ℕ) (faults : F → FaultCounts) (ho : honest) where
   nothing : (xs : List (Result Line ReverseError)) (s t : Reverse F) → IsTied bytes s → items_left bytes s ≡ [] → Yields (NextStep honest bytes faults) s xs t → xs ≡ []
   nothing [] s t tied none y = refl
   nothing (x ∷ xs) s t tied none y =

@@ -1,7 +1,7 @@
 -- The items of a log: forward, and newest first through a buffer.
 use Rattle.std.specs.Prelude.{ℕ, ◌+◌, ◌-◌, ◌≡◌, ◌≢◌, ◌==◌, ◌&&◌, nat_lt, nat_le, List, [], ◌∷◌, length, reverse, slice_index, if◌then◌else◌, Option, Some, None, Result, Ok, Err, ⊤}
 use Rattle.bstr.specs.Text.{lines_of, without_terminator}
-use Rattle.gix_ref_files.specs.Files.{one_more}
+use Rattle.gix_ref_files.specs.Files.{FaultCounts, count_with}
 use Rattle.gix_ref_files.specs.declared.files.FileError.TheVariants as faults_of
 use Rattle.gix_ref_log.specs.LogLines.{LogLine, IsLine, NoLine, IsReadAs, line_ref_parts}
 use Rattle.gix_ref_log.specs.declared.log.line.Line.{Line}
@@ -87,16 +87,16 @@ EndsAtError (Err BufferTooSmall ∷ rs) = rs ≡ []
 EndsAtError (Err Memory ∷ rs) = rs ≡ []
 EndsAtError (Err (Io e) ∷ rs) = (rs ≡ []) × (e ≢ faults_of.Memory)
 
--- the reader's count of faults after an item: `Io` is one more
-abbrev pub count_of : Option (Result Line ReverseError) → ℕ → ℕ
+-- the faults that a reader met, after an item: `Io` is one more
+abbrev pub count_of : Option (Result Line ReverseError) → FaultCounts → FaultCounts
 count_of None faults = faults
 count_of (Some (Ok l)) faults = faults
 count_of (Some (Err (Decode e))) faults = faults
 count_of (Some (Err BufferTooSmall)) faults = faults
 count_of (Some (Err Memory)) faults = faults
-count_of (Some (Err (Io e))) faults = one_more faults
+count_of (Some (Err (Io e))) faults = count_with e faults
 
 -- and after a run
-abbrev pub faults_after : ℕ → List (Result Line ReverseError) → ℕ
+abbrev pub faults_after : FaultCounts → List (Result Line ReverseError) → FaultCounts
 faults_after faults [] = faults
 faults_after faults (r ∷ rs) = faults_after (count_of (Some r) faults) rs

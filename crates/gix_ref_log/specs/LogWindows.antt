@@ -1,6 +1,6 @@
 -- What a window on a log is to give.
 use Rattle.std.specs.Prelude.{ℕ, ◌+◌, ◌-◌, ◌≡◌, ◌≢◌, Bool, true, false, slice_index, ◌≤◌, ◌<◌, ◌^◌, List, [], ◌∷◌, ◌++◌, length, take, drop, Option, Result, None, IsErrOf}
-use Rattle.gix_ref_files.specs.Files.{count_after}
+use Rattle.gix_ref_files.specs.Files.{count_after, FaultCounts}
 use Rattle.gix_ref_files.specs.declared.files.FileError.{FileError}
 use Rattle.gix_ref_files.specs.declared.files.FileError.TheVariants as faulty
 use Rattle.gix_ref_log.specs.LogStages.{tail_of, IsDoneAfter}
@@ -85,14 +85,14 @@ module _ {F : Type 0} (bytes : F → List ℕ) where
   KeepsWindow s t = IsLogWindow (bytes s.reader) s.buf.now s.pos s.end →
       IsLogWindow (bytes s.reader) t.buf.now t.pos t.end
 
-module _ {F : Type 0} (faults : F → ℕ) where
+module _ {F : Type 0} (faults : F → FaultCounts) where
   -- the reader counts a fault that comes; it is never `Memory`
   pub record CountsReaderFault {T : Type 0} (r : Result T FileError)
       (s t : Reverse F) : Type 0 where
     pub count : faults t.reader ≡ count_after r (faults s.reader)
     pub memory : IsErrOf r faulty.Memory → ⊥
 
-module _ {F : Type 0} (honest : Type 0) (bytes : F → List ℕ) (faults : F → ℕ) where
+module _ {F : Type 0} (honest : Type 0) (bytes : F → List ℕ) (faults : F → FaultCounts) where
   -- what one call of `next` does
   pub record NextStep (s : Reverse F) (r : Option (Result Line ReverseError))
       (t : Reverse F) : Type 0 where

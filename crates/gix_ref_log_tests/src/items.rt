@@ -1,6 +1,7 @@
 //! The items of logs from either end.
 use crate::made::{ONES, ZEROS, joined};
 use crate::reader::{Counted, Tally};
+use gix_ref_files::faults::Faults;
 use gix_ref_files::files::FileError;
 use gix_ref_log::log::iter::{EmptyBuffer, ReverseError, decode, forward, reverse};
 use std::alloc::Global;
@@ -52,7 +53,7 @@ pub fn read(rt: &impl Abort, alloc: Global, log: &[u8], room: usize, tally: &Tal
     let reader = Counted {
         text: log,
         tally,
-        faults: 0,
+        faults: Faults::none(),
     };
     let mut lines = reverse(alloc, reader, buf.as_mut_slice()).expect(rt, "room");
     for _ in 0..1000000 {
@@ -117,7 +118,7 @@ fn an_empty_buffer(rt: HostRuntime) {
     let reader = Counted {
         text: b"a",
         tally: &tally,
-        faults: 0,
+        faults: Faults::none(),
     };
     assert!(rt;
         matches!(reverse(rt.alloc(), reader, &mut []), Err(EmptyBuffer)),
@@ -132,7 +133,7 @@ fn faults_take_no_memory(rt: HostRuntime) {
     let reader = Counted {
         text: b"a\nbb\n",
         tally: &tally,
-        faults: 0,
+        faults: Faults::none(),
     };
     let mut buf = [0u8; 3];
     let mut lines = reverse(rt.alloc(), reader, &mut buf).expect(&rt, "room");
@@ -216,7 +217,7 @@ fn ten_lines_of_a_long_log(rt: HostRuntime) {
     let reader = Counted {
         text: &log,
         tally: &tally,
-        faults: 0,
+        faults: Faults::none(),
     };
     let mut lines = reverse(alloc, reader, &mut buf).expect(&rt, "room");
     for _ in 0..10 {

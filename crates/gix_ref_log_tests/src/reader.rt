@@ -1,6 +1,8 @@
 //! A reader of bytes in memory whose nth read fails, and which counts what is read.
 ghost use Rattle.std.specs.Prelude.{length};
+ghost use Rattle.gix_ref_files.specs.FaultCounts.{counts_of};
 
+use gix_ref_files::faults::Faults;
 use gix_ref_files::files::{FileError, ReadAt};
 use std::cell::Cell;
 use std::io::ErrorKind;
@@ -31,7 +33,7 @@ impl Tally {
 pub struct Counted<'a> {
     pub text: &'a [u8],
     pub tally: &'a Tally,
-    pub faults: u64,
+    pub faults: Faults,
 }
 
 impl<'a> ReadAt for Counted<'a> {
@@ -41,7 +43,7 @@ impl<'a> ReadAt for Counted<'a> {
 
     ghost size = { λ s. length s.text.now };
 
-    ghost faults = { λ s. s.faults };
+    ghost faults = { λ s. counts_of s.faults };
 
     fn len(&self) -> u64 {
         self.text.len() as u64
@@ -54,7 +56,7 @@ impl<'a> ReadAt for Counted<'a> {
         self.tally.bytes.set(bytes);
         let (from, len) = (place as usize, buf.len());
         if reads == self.tally.fails_at || from > self.text.len() || self.text.len() - from < len {
-            self.faults = self.faults.saturating_add(1);
+            self.faults.add_device(ErrorKind::Other);
             return Err(FileError::Device(ErrorKind::Other));
         }
         buf.copy_from_slice(&self.text[from..from + len]);

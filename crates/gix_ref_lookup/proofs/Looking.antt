@@ -1,5 +1,5 @@
 -- One candidate of a lookup more.
-use Rattle.std.proofs.Common.{◌≡◌, ◌⊎◌, inl, inr, ℕ, zero, suc, ◌+◌, ◌<◌, List, [], ◌∷◌, ◌++◌, Option, Some, None, if◌then◌else◌, length, map, drop, get_or, arith, Bor, refl, sym, ◌∙◌, ap, subst}
+use Rattle.std.proofs.Common.{◌≡◌, inl, inr, ℕ, zero, suc, ◌+◌, ◌<◌, List, [], ◌∷◌, ◌++◌, Option, Some, None, if◌then◌else◌, length, map, drop, get_or, arith, Bor, refl, sym, ◌∙◌, ap, subst}
 use Rattle.std.proofs.lemmas.List.{drop_more, get_or-map, length-map}
 use Rattle.gix_ref_base.specs.PackedRecords.{Record}
 use Rattle.gix_ref_theory.specs.Views.{View}
@@ -7,7 +7,7 @@ use Rattle.gix_ref_theory.specs.Readings.{Store, Reading, reading_among}
 use Rattle.gix_ref_theory.specs.Readings.Reading.{Is, Absent, Fault}
 use Rattle.gix_ref_theory.specs.Lookups.{Hit, first_hit, hit, is_there}
 use Rattle.gix_ref_records.specs.declared.raw.Reference.{Reference}
-use Rattle.gix_ref_lookup.specs.Lookups.{ReturnsHit, IsCandidate, FailsAt, Among, IsPassed, AreAsked, IsNotRead, CandidateFails, IsHit, IsLooseTarget, AreHonest, AreStillAsked, IsSearched, OfSearched, OfKey, meaning_in}
+use Rattle.gix_ref_lookup.specs.Lookups.{ReturnsHit, IsCandidate, FailsAt, Among, IsPassed, AreAsked, IsNotRead, CandidateFails, IsFaultOf, IsHit, IsLooseTarget, AreHonest, AreStillAsked, IsSearched, OfSearched, OfKey, meaning_in}
 use Rattle.std.specs.Prelude.{option_to_list}
 use Rattle.gix_ref_lookup.specs.LooseFiles.{IsUndecodable}
 use Rattle.gix_ref_lookup.specs.StoreLayout.{namespace_text}
@@ -19,11 +19,10 @@ use Rattle.gix_ref_lookup.specs.declared.find.error.ReadError.TheVariants.{File,
 use Rattle.gix_ref_lookup.proofs.Opening.{searched_wider, hit_wider, not_packed_wider}
 use Rattle.gix_ref_hash.specs.declared.hash.Kind.{Kind}
 use Rattle.gix_ref_files.specs.Tree.{Tree}
-use Rattle.gix_ref_files.specs.Files.{HasRisen}
+use Rattle.gix_ref_files.specs.Files.{FaultCounts, IsMet}
 use Rattle.gix_ref_files.specs.declared.files.ReadAt.{Ghosts}
 use Rattle.gix_ref_theory.specs.OnRealTrees.{view_of}
 use Rattle.gix_ref_records.specs.Positions.{CannotRead}
-use Rattle.gix_ref_packed.specs.OpenFiles.{HasReadFault}
 use Rattle.gix_ref_packed.specs.Buffers.{IsRefusedFile}
 
 abbrev pub packed_refs_at : Settings → Tree → Option (List ℕ)
@@ -68,9 +67,9 @@ pub fails_later : (Passed Fails : List ℕ → Type 0) (names : List (List ℕ))
 fails_later Passed Fails names i n next passed later = subst (FailsAt Passed Fails) next (inr (passed, later))
 
 -- why a candidate failed after others were passed is why the lookup fails
-not_read_from : (honest : Type 0) (kind : Kind) (s : Store) (T T' : Tree) (before before' now : ℕ) (name : List ℕ) (error : Error) → (honest → T' ≡ T) → before' ≡ before →
+not_read_from : (honest : Type 0) (kind : Kind) (s : Store) (T T' : Tree) (before before' now : FaultCounts) (name : List ℕ) (error : Error) → (honest → T' ≡ T) → before' ≡ before →
     IsNotRead honest kind s (view_of T') before' now name error → IsNotRead honest kind s (view_of T) before now name error
-not_read_from honest kind s T T' before before' now name (ReadFileContents (File source) path) same count why = (subst (λ b. HasRisen b now) count why.0, why.1, why.2)
+not_read_from honest kind s T T' before before' now name (ReadFileContents (File source) path) same count why = (subst (λ b. IsMet source b now) count why.0, why.1, why.2)
 not_read_from honest kind s T T' before before' now name (ReadFileContents DeviceName path) same count why = why
 not_read_from honest kind s T T' before before' now name (ReferenceCreation source path) same count why =
     (why.0, λ h. subst (λ (U : Tree). IsUndecodable kind (view_of U (s.place name)) source) (same h) (why.1 h))
@@ -87,16 +86,16 @@ module _ {R : Type 0} {G : Ghosts R} (honest : Type 0) (settings : Settings) (T 
   back : honest → (k : Kind) (text : List ℕ) → IsSearched settings.kind (packed_refs_at settings T') r' k text → IsSearched settings.kind (packed_refs_at settings T) r k text
   back h k text is = searched h k text (subst (λ (U : Tree). IsSearched settings.kind (packed_refs_at settings U) r' k text) (same h) is)
 
-  pub fails_from : (before before' now : ℕ) (name : List ℕ) (error : Error) → before' ≡ before →
+  pub fails_from : (before before' now : FaultCounts) (name : List ℕ) (error : Error) → before' ≡ before →
       CandidateFails honest settings T' r' before' now name error → CandidateFails honest settings T r before now name error
   fails_from before before' now name error count (inl loose) = inl (not_read_from honest settings.kind s T T' before before' now name error same count loose)
   fails_from before before' now name error count (inr packed) = inr (
     λ h. subst (λ (U : Tree). view_of U (s.place name) ≡ None) (same h) (packed.0 h),
-    not_packed_wider (honest × AreHonest r') (honest × AreHonest r) (HasRisen before' now ⊎ HasReadFault G.faults) (HasRisen before now ⊎ HasReadFault G.faults)
+    not_packed_wider (honest × AreHonest r') (honest × AreHonest r) (IsFaultOf G.faults before' now) (IsFaultOf G.faults before now)
         (OfKey s name (λ key. OfSearched settings.kind (packed_refs_at settings T') r' (λ k text. CannotRead k text key)))
         (OfKey s name (λ key. OfSearched settings.kind (packed_refs_at settings T) r (λ k text. CannotRead k text key)))
         (IsRefusedFile settings.kind (T' s.packed_path)) (IsRefusedFile settings.kind (T s.packed_path)) error
-        (λ h. (h.0, readers h.0 h.1)) (λ f. subst (λ b. HasRisen b now ⊎ HasReadFault G.faults) count f)
+        (λ h. (h.0, readers h.0 h.1)) (λ e f. subst (λ b. IsFaultOf G.faults b now e) count f)
         (λ h bad. (bad.0, bad.1, searched_wider settings.kind (packed_refs_at settings T') (packed_refs_at settings T) r' r (λ k text. CannotRead k text bad.0) (back h.0) bad.2))
         (λ h e refused. subst (λ (U : Tree). IsRefusedFile settings.kind (U s.packed_path) e) (same h.0) refused) packed.1,
   )

@@ -1,5 +1,5 @@
 -- What an opened `packed-refs` holds.
-use Rattle.std.proofs.Common.{◌≡◌, ◌≢◌, ◌⊎◌, inl, inr, ℕ, ◌+◌, ◌-◌, ◌^◌, nat_lt, Bool, if◌then◌else◌, List, Option, Some, None, [], ◌∷◌, length, Result, Ok, Err, IfOk, IfErr, IfSome, true, false, refl, sym, ◌∙◌, ap, subst, arith}
+use Rattle.std.proofs.Common.{◌≡◌, ◌≢◌, inl, inr, ℕ, List, Option, Some, None, [], ◌∷◌, length, Result, Ok, Err, IfOk, IfErr, IfSome, true, refl, sym, ◌∙◌, ap, subst, arith}
 use Rattle.gix_ref_hash.specs.declared.hash.Kind.{Kind}
 use Rattle.gix_ref_base.specs.PackedRecords.{Record}
 use Rattle.gix_ref_files.specs.Tree.{Content, is_file, bytes_of}
@@ -14,9 +14,8 @@ use Rattle.gix_ref_records.specs.Positions.{CannotRead}
 use Rattle.gix_ref_packed.specs.declared.packed.sorted_file.FindError.{FindError}
 use Rattle.gix_ref_packed.specs.declared.packed.sorted_file.FindError.TheVariants.{Read, Parse}
 use Rattle.gix_ref_packed.specs.declared.packed.sorted_file.ReadError.TheVariants as reading
-use Rattle.std.proofs.lemmas.Bool.{ltb-false}
 use Rattle.gix_ref_packed.proofs.WellFormedLemmas.{opened_file_holds}
-use Rattle.gix_ref_lookup.specs.Lookups.{ArePackedRecords, IsSearched, OfSearched, IsHitOfKey, IsRecordIn, IsNotPacked, IsFaultOrMemory, of_opening, as_found}
+use Rattle.gix_ref_lookup.specs.Lookups.{ArePackedRecords, IsSearched, OfSearched, IsHitOfKey, IsRecordIn, IsFaultOf, IsNotPacked, IsFaultOrMemory, of_opening, as_found}
 use Rattle.gix_ref_lookup.specs.declared.find.records.Records.{Records as Asked}
 use Rattle.gix_ref_records.specs.declared.raw.Reference.{Reference}
 use Rattle.gix_ref_records.specs.OpenedText.{Fronts, PackedText}
@@ -31,7 +30,9 @@ use Rattle.gix_ref_packed.specs.declared.packed.find.Error.TheVariants as parse
 use Rattle.gix_ref_records.specs.declared.packed.window.Found.{Found}
 use Rattle.gix_ref_packed.specs.declared.packed.buffer.open.Error.{Error as OpenError}
 use Rattle.gix_ref_packed.specs.declared.packed.buffer.open.Error.TheVariants.{Iter, HeaderParsing, Io, Memory as open_memory}
-use Rattle.gix_ref_files.specs.Files.{HasRisen, one_more}
+use Rattle.gix_ref_files.specs.Files.{FaultCounts, IsMet}
+use Rattle.gix_ref_files.specs.declared.files.FileError.{FileError}
+use Rattle.gix_ref_files.proofs.Meeting.{met_now}
 
 -- an opened file of these records holds them
 pub holds_packed : {R : Type 0} {G : Ghosts R} (kind : Kind) (content : Option Content) (records : List Record) (p : PackedFile R G) →
@@ -41,25 +42,18 @@ holds_packed kind (Some (File bytes)) records p are a_file opened = opened_file_
 holds_packed kind (Some Folder) records p are a_file opened = absurd (cc)
 holds_packed kind None records p are a_file opened = absurd (cc)
 
-pub risen : (n : ℕ) → HasRisen n (one_more n)
-risen n = go (nat_lt n (2 ^ 64 - 1)) refl
-  where
-    go : (b : Bool) → nat_lt n (2 ^ 64 - 1) ≡ b → HasRisen n (if b then n + 1 else n)
-    go true below = inl (omega arith)
-    go false above = inr (ltb-false n (2 ^ 64 - 1) above)
-
 -- what opening was refused for is what the lookup says
-pub not_opened : {R : Type 0} (honest : Type 0) (faults : R → ℕ) (kind : Kind) (content : Option Content) (before now : ℕ) (error : OpenError) →
+pub not_opened : {R : Type 0} (honest : Type 0) (faults : R → FaultCounts) (kind : Kind) (content : Option Content) (before now : FaultCounts) (error : OpenError) →
     (honest → IsRefusedFile kind content error) → CountsRefusal faults before now error →
-    IsNotPacked honest (HasRisen before now ⊎ HasReadFault faults) ⊥ (IsRefusedFile kind content) (of_opening error)
+    IsNotPacked honest (IsFaultOf faults before now) ⊥ (IsRefusedFile kind content) (of_opening error)
 not_opened honest faults kind content before now open_memory refused counts = tt
 not_opened honest faults kind content before now HeaderParsing refused counts = refused
 not_opened honest faults kind content before now (Iter line) refused counts = refused
-not_opened honest faults kind content before now (Io fault) refused (inl more) = λ h. (refused h, inl (subst (HasRisen before) (sym more) (risen before)))
+not_opened honest faults kind content before now (Io fault) refused (inl more) = λ h. (refused h, inl (subst (IsMet fault before) (sym more) (met_now fault before (refused h))))
 not_opened honest faults kind content before now (Io fault) refused (inr failed) = λ h. (refused h, inr failed.1)
 
 -- what a search failed by is what the lookup says
-pub not_searched : {R : Type 0} (honest : Type 0) (faults : R → ℕ) (unreadable : Type 0) (kind : Kind) (text name : List ℕ) (found : Result (Option Found) FindError) →
+pub not_searched : {R : Type 0} (honest : Type 0) (faults : R → FaultCounts) (unreadable : Type 0) (kind : Kind) (text name : List ℕ) (found : Result (Option Found) FindError) →
     (honest → IfErr found (FailsInFile kind text name)) → IfErr found (FailsFindByRead faults) → (CannotRead kind text name → unreadable) →
     IfErr (as_found found) (IsNotPacked honest (HasReadFault faults) unreadable (λ error. ⊥))
 not_searched honest faults unreadable kind text name (Ok found) refused failed bad = tt
@@ -69,10 +63,10 @@ not_searched honest faults unreadable kind text name (Err (Read reading.Memory))
 not_searched honest faults unreadable kind text name (Err Parse) refused failed bad = λ h. bad (refused h)
 
 -- where less is known, more may be why
-pub not_packed_wider : (honest honest' fault fault' unreadable unreadable' : Type 0) (refused refused' : OpenError → Type 0) (error : Error) →
-    (honest' → honest) → (fault → fault') → (honest' → unreadable → unreadable') → (honest' → (e : OpenError) → refused e → refused' e) →
+pub not_packed_wider : (honest honest' : Type 0) (fault fault' : FileError → Type 0) (unreadable unreadable' : Type 0) (refused refused' : OpenError → Type 0) (error : Error) →
+    (honest' → honest) → ((e : FileError) → fault e → fault' e) → (honest' → unreadable → unreadable') → (honest' → (e : OpenError) → refused e → refused' e) →
     IsNotPacked honest fault unreadable refused error → IsNotPacked honest' fault' unreadable' refused' error
-not_packed_wider honest honest' fault fault' unreadable unreadable' refused refused' (PackedOpen (Io e)) h f u r why = λ k. let w = why (h k) in (w.0, f w.1)
+not_packed_wider honest honest' fault fault' unreadable unreadable' refused refused' (PackedOpen (Io e)) h f u r why = λ k. let w = why (h k) in (w.0, f e w.1)
 not_packed_wider honest honest' fault fault' unreadable unreadable' refused refused' (PackedOpen HeaderParsing) h f u r why = λ k. r k HeaderParsing (why (h k))
 not_packed_wider honest honest' fault fault' unreadable unreadable' refused refused' (PackedOpen (Iter line)) h f u r why = λ k. r k (Iter line) (why (h k))
 not_packed_wider honest honest' fault fault' unreadable unreadable' refused refused' (PackedOpen open_memory) h f u r why = absurd why

@@ -13,7 +13,8 @@ use Rattle.gix_ref_base.specs.Targets.{target_value}
 use Rattle.gix_ref_base.specs.Targets.TargetValue.{object_id}
 use Rattle.gix_ref_base.specs.declared.target.Target.{Target}
 use Rattle.gix_ref_base.specs.PackedRecords.{Record, record_named}
-use Rattle.gix_ref_files.specs.Files.{HasRisen, Meaning}
+use Rattle.gix_ref_files.specs.Files.{FaultCounts, IsMet, Meaning}
+use Rattle.gix_ref_files.specs.declared.files.FileError.{FileError}
 use Rattle.gix_ref_files.specs.Tree.{Tree}
 use Rattle.gix_ref_files.specs.declared.files.FileError.TheVariants.{Device, Memory as no_memory}
 use Rattle.std.specs.declared.io.ErrorKind.TheVariants.{InvalidData}
@@ -157,11 +158,16 @@ IsFaultOrMemory (PackedOpen (Io error)) = Unit {0}
 IsFaultOrMemory Memory = Unit {0}
 IsFaultOrMemory other = ⊥
 
--- Why no record is found: a fault, only where one came; a text that is refused; a text that cannot be read; no memory.
-abbrev pub IsNotPacked : (honest fault unreadable : Type 0) → (refused : OpenError → Type 0) →
-    Error → Type 0
+-- this fault was counted by files, or by some reader of theirs
+abbrev pub IsFaultOf : {R : Type 0} → (R → FaultCounts) → (before now : FaultCounts) → FileError →
+    Type 0
+IsFaultOf faults before now error = IsMet error before now ⊎ HasReadFault faults error
+
+-- Why no record is found: a fault, only where it came; a text that is refused; a text that cannot be read; no memory.
+abbrev pub IsNotPacked : (honest : Type 0) → (fault : FileError → Type 0) → (unreadable : Type 0) →
+    (refused : OpenError → Type 0) → Error → Type 0
 IsNotPacked honest fault unreadable refused (PackedOpen (Io error)) = honest →
-    (error ≢ no_memory) × fault
+    (error ≢ no_memory) × fault error
 IsNotPacked honest fault unreadable refused (PackedOpen HeaderParsing) = honest →
     refused HeaderParsing
 IsNotPacked honest fault unreadable refused (PackedOpen (Iter line)) = honest → refused (Iter line)
@@ -175,12 +181,12 @@ IsLooseTarget s file None = file ≡ None
 IsLooseTarget s file (Some target) = (bytes : List ℕ) × (file ≡ Some bytes)
     × (reading_of_loose s (s.target_of bytes) ≡ Is (target_value target))
 
--- Why the file at a path gives no target for a name: it could not be read, only where the count of faults rose; the path has
+-- Why the file at a path gives no target for a name: it could not be read, by a fault that was counted; the path has
 -- the name of a device, and the store prohibits these; the file holds none, with the reason; no memory.
-abbrev pub IsNotReadAt : (honest : Type 0) → Kind → Store → View → (before now : ℕ) →
+abbrev pub IsNotReadAt : (honest : Type 0) → Kind → Store → View → (before now : FaultCounts) →
     (name path : List ℕ) → Error → Type 0
 IsNotReadAt honest kind s view before now name at (ReadFileContents (File source) path) =
-    HasRisen before now × (source ≢ no_memory) × (path.items ≡ at)
+    IsMet source before now × (source ≢ no_memory) × (path.items ≡ at)
 IsNotReadAt honest kind s view before now name at (ReadFileContents DeviceName path) =
     (s.is_prohibited at ≡ true) × (path.items ≡ at)
 IsNotReadAt honest kind s view before now name at (ReferenceCreation source path) =
@@ -189,7 +195,7 @@ IsNotReadAt honest kind s view before now name at Memory = Unit {0}
 IsNotReadAt honest kind s view before now name at other = ⊥
 
 -- why the loose file of a candidate gives none
-abbrev pub IsNotRead : (honest : Type 0) → Kind → Store → View → (before now : ℕ) → List ℕ →
+abbrev pub IsNotRead : (honest : Type 0) → Kind → Store → View → (before now : FaultCounts) → List ℕ →
     Error → Type 0
 IsNotRead honest kind s view before now name error =
     IsNotReadAt honest kind s view before now name (s.place name) error
@@ -278,12 +284,12 @@ IsHit settings view records name r =
 
 -- Why a candidate fails: its loose file gives no target; or it has none, and no record is found for a reason.
 abbrev pub CandidateFails : {R : Type 0} {G : Ghosts R} → (honest : Type 0) → Settings → Tree →
-    Records R G → (before now : ℕ) → List ℕ → Error → Type 0
+    Records R G → (before now : FaultCounts) → List ℕ → Error → Type 0
 CandidateFails {R} {G} honest settings T records before now name error =
     let s = meaning_in settings in
     IsNotRead honest settings.kind s (view_of T) before now name error
     ⊎ ((honest → view_of T (s.place name) ≡ None)
-    × IsNotPacked (honest × AreHonest records) (HasRisen before now ⊎ HasReadFault G.faults)
+    × IsNotPacked (honest × AreHonest records) (IsFaultOf G.faults before now)
     (OfKey s name (λ key. OfSearched settings.kind (view_of T s.packed_path) records
     (λ k text. CannotRead k text key)))
     (IsRefusedFile settings.kind (T s.packed_path)) error)
@@ -316,7 +322,7 @@ IsPassed honest settings T asked name =
 
 -- a lookup fails at the first candidate that fails
 abbrev pub FailsAmong : {R : Type 0} {G : Ghosts R} → (honest : Type 0) → Settings → Tree →
-    Records R G → (before now : ℕ) → List (List ℕ) → Error → Type 0
+    Records R G → (before now : FaultCounts) → List (List ℕ) → Error → Type 0
 FailsAmong honest settings T asked before now names error =
     FailsAt (IsPassed honest settings T asked)
     (λ name. CandidateFails honest settings T asked before now name error) names

@@ -1,7 +1,8 @@
 -- Files in memory, as a contract sees them.
 use Rattle.std.specs.Prelude.{◌≡◌, ℕ, List}
 use Rattle.gix_ref_files.specs.Tree.{Tree, no_tree}
-use Rattle.gix_ref_files.specs.Files.{Meaning, one_more}
+use Rattle.gix_ref_files.specs.Files.{FaultCounts, Meaning, one_more}
+use Rattle.gix_ref_files.specs.FaultCounts.{counts_of}
 use Rattle.gix_ref_memory.specs.Changes.{after_changes, meaning_after}
 use Rattle.gix_ref_memory.specs.Turns.{turn_of}
 use Rattle.gix_ref_memory.specs.declared.memory.Memory.{Memory}
@@ -25,9 +26,9 @@ tree_in memory = after_changes memory.changes.items no_tree
 abbrev pub calls_of : Memory → ℕ
 calls_of memory = memory.turns.calls
 
--- how many of them failed
-abbrev pub faults_of : Memory → ℕ
-faults_of memory = memory.turns.faults
+-- the faults of these
+abbrev pub faults_of : Memory → FaultCounts
+faults_of memory = counts_of memory.turns.faults
 
 -- what is to happen to the calls
 abbrev pub plan_of : Memory → Plan

@@ -1,6 +1,7 @@
 -- A reader of files in memory, as a contract sees it.
 use Rattle.std.specs.Prelude.{ℕ, List}
-use Rattle.gix_ref_files.specs.Files.{one_more}
+use Rattle.gix_ref_files.specs.Files.{FaultCounts, one_more}
+use Rattle.gix_ref_files.specs.FaultCounts.{counts_of}
 use Rattle.gix_ref_memory.specs.Turns.{turn_of}
 use Rattle.gix_ref_memory.specs.declared.memory.reader.MemoryReader.{MemoryReader}
 use Rattle.gix_ref_memory.specs.declared.memory.turns.Plan.{Plan}
@@ -14,9 +15,9 @@ reader_bytes reader = reader.bytes.items
 abbrev pub reader_calls : MemoryReader → ℕ
 reader_calls reader = reader.turns.calls
 
--- how many of the reader's calls failed
-abbrev pub reader_faults : MemoryReader → ℕ
-reader_faults reader = reader.turns.faults
+-- the faults of the reader's calls
+abbrev pub reader_faults : MemoryReader → FaultCounts
+reader_faults reader = counts_of reader.turns.faults
 
 -- what is to happen to its calls
 abbrev pub reader_plan : MemoryReader → Plan

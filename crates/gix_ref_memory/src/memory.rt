@@ -19,6 +19,7 @@ use edits::{
     sync_file_now, sync_folder_now,
 };
 use folders::{make_folders_now, make_some_folders};
+use gix_ref_files::faults::Faults;
 use gix_ref_files::files::{Create, Entry, FileError, Files, Node, Rename};
 use listing::list_now;
 use power::left_by_loss;
@@ -47,7 +48,7 @@ impl Memory {
     ghost use Rattle.gix_ref_files.specs.Tree.Content.{File};
     ghost use Rattle.gix_ref_files.specs.Disk.{Lost};
     ghost use Rattle.gix_ref_files.specs.Losing.{lost_by, all_synced};
-    ghost use Rattle.gix_ref_files.specs.Files.{disk_of};
+    ghost use Rattle.gix_ref_files.specs.Files.{disk_of, no_faults};
     ghost use Rattle.gix_ref_memory.specs.Changes.{Puts, placed_on};
     ghost use Rattle.gix_ref_memory.specs.Memory.{meaning, past_of, tree_in, calls_of, faults_of, plan_of, KeepsFiles};
     ghost use Rattle.gix_ref_memory.specs.declared.memory.turns.Plan.TheVariants.{Runs, FailsAt, StopsAt};
@@ -62,13 +63,13 @@ impl Memory {
     pub fn new(alloc: Global) -> Self
         ensures tree { tree_in result ≡ no_tree }
         ensures calls { calls_of result ≡ 0 }
-        ensures faults { faults_of result ≡ 0 }
+        ensures faults { faults_of result ≡ no_faults }
         ensures plan { plan_of result ≡ Runs }
     {
         let turns = Turns {
             plan: Plan::Runs,
             calls: 0,
-            faults: 0,
+            faults: Faults::none(),
         };
         Memory {
             alloc,
@@ -202,7 +203,7 @@ impl Memory {
 impl Files for Memory {
     ghost use Rattle.std.specs.Prelude.{take, false, true, IfOk, OnOk, OnErr, IfSome, IsErrOf};
     ghost use Rattle.gix_ref_files.specs.Tree.{no_tree, node_at, bytes_of, is_file, appended, moved, removed, is_folder, folders_to, with_folders, IsEmptyFolder};
-    ghost use Rattle.gix_ref_files.specs.Files.{disk_of, Leaves, Adds, Passes, AddsDisks, count_after};
+    ghost use Rattle.gix_ref_files.specs.Files.{disk_of, Leaves, Adds, Passes, AddsDisks, count_after, no_faults};
     ghost use Rattle.gix_ref_files.specs.Disk.{file_synced, folder_synced};
     ghost use Rattle.gix_ref_files.specs.DiskCalls.{Untouched, after_create, CreatingOn, after_folders, MakingFoldersOn, after_append, AppendingOn, after_rename, RenamingOn, after_removal, RemovingFileOn, RemovingFolderOn, Syncs, SyncingOn};
     ghost use Rattle.gix_ref_files.specs.Calls.{Unchanged, emptied, Opens, Creates, Creating, MakesFolders, MakingFolders, is_in_the_way, Appends, Appending, Renames, Renaming, IsMovable, RemovesFile, RemovingFile, RemovesFolder, RemovingFolder, Lists};
@@ -299,7 +300,7 @@ impl Files for Memory {
         ensures reader_plan { IfOk result
             (λ reader. IfSome reader (λ reader. reader_plan reader ≡ plan_of self.new)) }
         ensures reader_faults { IfOk result
-            (λ reader. IfSome reader (λ reader. reader_faults reader ≡ 0)) }
+            (λ reader. IfSome reader (λ reader. reader_faults reader ≡ no_faults)) }
     {
         if self.turns.next() != Turn::Go {
             return Err(self.turns.fault(ErrorKind::Other));
@@ -308,7 +309,7 @@ impl Files for Memory {
             return Ok(None);
         };
         let turns = Turns {
-            faults: 0,
+            faults: Faults::none(),
             ..self.turns
         };
         match bytes.to_vec(alloc) {

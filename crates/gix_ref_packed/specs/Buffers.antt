@@ -1,7 +1,7 @@
 -- What an opened buffer holds, and why a text is not opened. Clauses speak of a buffer through these words.
 use Rattle.std.specs.Prelude.{◌≡◌, ◌≢◌, ℕ, List, drop, Option, Result, Ok, Err}
 use Rattle.gix_ref_files.specs.Tree.{Content, bytes_of}
-use Rattle.gix_ref_files.specs.Files.{one_more}
+use Rattle.gix_ref_files.specs.Files.{FaultCounts, count_with}
 use Rattle.gix_ref_files.specs.declared.files.FileError.TheVariants.{Memory as NoMemory}
 use Rattle.gix_ref_hash.specs.declared.hash.Kind.{Kind}
 use Rattle.gix_ref_packed.specs.declared.packed.buffer.Buffer.{Buffer}
@@ -54,10 +54,10 @@ IsRefusedBytes kind bytes Memory = Unit {0}
 abbrev pub IsRefusedFile : Kind → Option Content → Error → Type 0
 IsRefusedFile kind content error = IsRefusedBytes kind (bytes_of content) error
 
--- the count of faults after opening: one more where the file could not be read
-abbrev pub count_open : Result (Option Buffer) Error → ℕ → ℕ
+-- the faults that are counted after opening: one more where the file could not be read
+abbrev pub count_open : Result (Option Buffer) Error → FaultCounts → FaultCounts
 count_open (Ok found) n = n
-count_open (Err (Io error)) n = one_more n
+count_open (Err (Io error)) n = count_with error n
 count_open (Err HeaderParsing) n = n
 count_open (Err (Iter line)) n = n
 count_open (Err Memory) n = n

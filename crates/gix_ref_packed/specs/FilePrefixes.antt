@@ -8,6 +8,7 @@ use Rattle.gix_ref_packed.specs.declared.packed.buffer.Buffer.{Buffer}
 use Rattle.gix_ref_packed.specs.declared.packed.sorted_file.ReadError.{ReadError}
 use Rattle.gix_ref_packed.specs.declared.packed.sorted_file.ReadError.TheVariants.{Io, Memory, Changed}
 use Rattle.gix_ref_packed.specs.Buffers.{buffer_text, buffer_kind, buffer_line}
+use Rattle.gix_ref_files.specs.Files.{FaultCounts}
 use Rattle.gix_ref_packed.specs.OpenFiles.{HasReadFault}
 use Rattle.gix_ref_packed.specs.YetToGive.{IsAsked}
 
@@ -63,8 +64,8 @@ PrefixedBuffersHold =
     → HoldsPrefixed (buffer_kind b) prefix rs (buffer_text b)
 
 -- why a file cannot be read: `Io` where a read of it failed
-abbrev pub FailsReadBy : {R : Type 0} → (R → ℕ) → ReadError → Type 0
-FailsReadBy faults (Io error) = HasReadFault faults
+abbrev pub FailsReadBy : {R : Type 0} → (R → FaultCounts) → ReadError → Type 0
+FailsReadBy faults (Io error) = HasReadFault faults error
 FailsReadBy faults Memory = Unit {0}
 FailsReadBy faults Changed = Unit {0}
 

@@ -1,7 +1,7 @@
 -- What a search in a file returns.
 use Rattle.std.specs.Prelude.{◌≢◌, ℕ, List, Option, Result, IfOk, IfErr, IfSome, IfNone, MatchResult}
 use Rattle.gix_ref_hash.specs.declared.hash.Kind.{Kind}
-use Rattle.gix_ref_files.specs.Files.{one_more}
+use Rattle.gix_ref_files.specs.Files.{FaultCounts, count_with}
 use Rattle.gix_ref_files.specs.declared.files.FileError.TheVariants.{Memory as NoMemory}
 use Rattle.gix_ref_base.specs.PackedRecords.{Record, record_named}
 use Rattle.gix_ref_records.specs.RecordGrammar.{Records, Forms, Ascending}
@@ -52,12 +52,12 @@ pub record FindsInFile (kind : Kind) (text name : List ℕ)
       (IsFaultOr (IsUnreadable kind (record_named name rs)))
 
 -- the count of a reader's faults after the source could not be looked at: one more where the file could not be read
-abbrev pub count_read : ReadError → ℕ → ℕ
-count_read (Io error) n = one_more n
+abbrev pub count_read : ReadError → FaultCounts → FaultCounts
+count_read (Io error) n = count_with error n
 count_read Memory n = n
 count_read Changed n = n
 
 -- and after a record was not found
-abbrev pub count_find : FindError → ℕ → ℕ
+abbrev pub count_find : FindError → FaultCounts → FaultCounts
 count_find (Read error) n = count_read error n
 count_find Parse n = n

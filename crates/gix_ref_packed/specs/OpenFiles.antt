@@ -1,7 +1,8 @@
 -- A `packed-refs` that is searched where it is.
 use Rattle.std.specs.Prelude.{◌≡◌, ◌⊎◌, ℕ, List, drop, Option}
 use Rattle.gix_ref_files.specs.declared.files.ReadAt.{Ghosts}
-use Rattle.gix_ref_files.specs.Files.{one_more}
+use Rattle.gix_ref_files.specs.Files.{FaultCounts, no_faults, count_with}
+use Rattle.gix_ref_files.specs.declared.files.FileError.{FileError}
 use Rattle.gix_ref_hash.specs.declared.hash.Kind.{Kind}
 use Rattle.gix_ref_packed.specs.declared.packed.sorted_file.SortedFile.{SortedFile}
 use Rattle.gix_ref_packed.specs.declared.packed.file.PackedFile.{PackedFile}
@@ -35,9 +36,9 @@ packed_file_line (InFile source kind) = 2
 packed_file_line (InMemory buffer) = buffer_line buffer
 
 -- the faults that were met in reading it; what is in memory is not read
-abbrev pub packed_file_faults : {R : Type 0} {G : Ghosts R} → PackedFile R G → ℕ
+abbrev pub packed_file_faults : {R : Type 0} {G : Ghosts R} → PackedFile R G → FaultCounts
 packed_file_faults {R} {G} (InFile source kind) = G.faults source.reader
-packed_file_faults (InMemory buffer) = 0
+packed_file_faults (InMemory buffer) = no_faults
 
 -- the file with these bytes is open for searches: of all its records where the header says sorted, else of the sorted ones
 pub record OpenedFile {R : Type 0} {G : Ghosts R} (kind : Kind) (bytes : List ℕ)
@@ -54,29 +55,30 @@ OpenedFileHoldsRecords p =
     IsWellFormed kind text h rs → OpenedFile kind text p →
     HoldsRecords kind rs (packed_file_text p)
 
--- a read of some reader failed: it counts one fault more
-abbrev pub HasReadFault : {R : Type 0} → (R → ℕ) → Type 0
-HasReadFault {R} faults = (before : R) × (now : R) × (faults now ≡ one_more (faults before))
+-- a read of some reader failed with this fault, which it counts
+abbrev pub HasReadFault : {R : Type 0} → (R → FaultCounts) → FileError → Type 0
+HasReadFault {R} faults error = (before : R) × (now : R)
+    × (faults now ≡ count_with error (faults before))
 
 -- why an opened file is refused: `Io` where a read of it failed
-abbrev pub FailsByRead : {R : Type 0} → (R → ℕ) → Error → Type 0
-FailsByRead faults (Io error) = HasReadFault faults
+abbrev pub FailsByRead : {R : Type 0} → (R → FaultCounts) → Error → Type 0
+FailsByRead faults (Io error) = HasReadFault faults error
 FailsByRead faults HeaderParsing = Unit {0}
 FailsByRead faults (Iter line) = Unit {0}
 FailsByRead faults Memory = Unit {0}
 
 -- why a record is not found in an opened file: `Read` of `Io` where a read of it failed
-abbrev pub FailsFindByRead : {R : Type 0} → (R → ℕ) → FindError → Type 0
-FailsFindByRead faults (Read (reading.Io error)) = HasReadFault faults
+abbrev pub FailsFindByRead : {R : Type 0} → (R → FaultCounts) → FindError → Type 0
+FailsFindByRead faults (Read (reading.Io error)) = HasReadFault faults error
 FailsFindByRead faults (Read reading.Memory) = Unit {0}
 FailsFindByRead faults (Read reading.Changed) = Unit {0}
 FailsFindByRead faults Parse = Unit {0}
 
 -- the count of the files' faults before and after a file was refused: one more, for `Io` alone, or a read of the opened file
 -- failed, and the files count none
-abbrev pub CountsRefusal : {R : Type 0} → (R → ℕ) → ℕ → ℕ → Error → Type 0
-CountsRefusal faults before now (Io error) = (now ≡ one_more before)
-    ⊎ ((now ≡ before) × HasReadFault faults)
+abbrev pub CountsRefusal : {R : Type 0} → (R → FaultCounts) → FaultCounts → FaultCounts → Error → Type 0
+CountsRefusal faults before now (Io error) = (now ≡ count_with error before)
+    ⊎ ((now ≡ before) × HasReadFault faults error)
 CountsRefusal faults before now HeaderParsing = now ≡ before
 CountsRefusal faults before now (Iter line) = now ≡ before
 CountsRefusal faults before now Memory = now ≡ before

@@ -26,7 +26,9 @@ impl<'a> SearchableRecords for Counting<'a> {
 
     ghost frame = { λ text. (text.whole.bytes.now, 0, 0) };
 
-    ghost faults = { λ _. 0 };
+    ghost met = { Unit {0} };
+
+    ghost faults = { λ _. tt };
 
     type Error = Infallible;
 

@@ -1,7 +1,8 @@
 -- The steps of a commit of `packed-refs`: what each leaves at the place and at its lock.
-use Rattle.std.proofs.Common.{◌≡◌, ◌≢◌, ◌⊎◌, inl, inr, ◌≤◌, ℕ, List, length, Option, Some, None, false, refl, sym, ap, ◌∙◌, subst, arith, codes, length-append, Vec, Global, Result, Ok, Err, OnOk, IfOk, MatchResult}
+use Rattle.std.proofs.Common.{◌≡◌, ◌≢◌, ◌⊎◌, inl, inr, ℕ, List, length, Option, Some, None, false, refl, sym, ap, ◌∙◌, subst, arith, codes, length-append, Vec, Global, Result, Ok, Err, OnOk, IfOk, MatchResult}
+use Rattle.gix_ref_files.proofs.Meeting.{no_fewer_starts, met_wider}
 use Rattle.gix_ref_files.specs.Calls.{Renaming, RemovingFile}
-use Rattle.gix_ref_files.specs.Files.{HasRisen}
+use Rattle.gix_ref_files.specs.Files.{FaultCounts, NoFewer}
 use Rattle.gix_ref_files.specs.Lock.{lock_of}
 use Rattle.gix_ref_files.specs.Tree.{Tree, Path, Content, put, moved, is_file, is_folder}
 use Rattle.gix_ref_files.specs.Tree.Content.{File}
@@ -105,26 +106,22 @@ module _ (kind : Kind) (records : Option Buffer) (changes : List ChangeValue) (p
   left_rewritten rewrite made T (only, inl same) = (only, inl same)
   left_rewritten rewrite made T (only, inr holds) = (only, inr (rewrite, made, holds))
 
-risen_later : (before mid now : ℕ) → mid ≤ now → HasRisen before mid → HasRisen before now
-risen_later before mid now later (inl more) = inl (omega (arith, later, more))
-risen_later before mid now later (inr most) = inr (omega (arith, later, most))
-
 -- a lock that was renamed is gone
 pub lock_moved : (place : Path) (T : Tree) → is_file (moved T (lock_of place) place (lock_of place)) ≡ false
 lock_moved place T = ap is_file (put_other (put T (lock_of place) None) place (lock_of place) (T (lock_of place)) (lock_elsewhere place) ∙ put_at T (lock_of place) None)
 
 -- why it has failed, once the lock is gone
-pub why_after : (honest : Type 0) (kind : Kind) (records : Option Buffer) (place : Path) (before mid now : ℕ) (S T : Tree) (error : Error) →
-    mid ≤ now → (honest → OnlyLockGoes place S T) → IsWhyNotPut honest place before mid S error → SaysWhyPacked honest kind records place before now T error
-why_after honest kind records place before mid now S T (Commit error) later goes (inl risen, not_memory) = (inl (risen_later before mid now later risen), not_memory)
+pub why_after : (honest : Type 0) (kind : Kind) (records : Option Buffer) (place : Path) (before mid now : FaultCounts) (S T : Tree) (error : Error) →
+    NoFewer mid now → (honest → OnlyLockGoes place S T) → IsWhyNotPut honest place before mid S error → SaysWhyPacked honest kind records place before now T error
+why_after honest kind records place before mid now S T (Commit error) later goes (inl risen, not_memory) = (inl (met_wider (no_fewer_starts before) later risen), not_memory)
 why_after honest kind records place before mid now S T (Commit error) later goes (inr there, not_memory) =
     (inr (λ is. ap is_folder ((goes is).0 place (lock_elsewhere place)) ∙ there is), not_memory)
-why_after honest kind records place before mid now S T (Io error) later goes why = (risen_later before mid now later why.0, why.1)
+why_after honest kind records place before mid now S T (Io error) later goes why = (met_wider (no_fewer_starts before) later why.0, why.1)
 why_after honest kind records place before mid now S T (Iteration line) later goes why = absurd why
 why_after honest kind records place before mid now S T Memory later goes why = absurd why
 
 -- a rewrite that was not put in place was begun
-pub begun : (honest : Type 0) (place : Path) (before now : ℕ) (T : Tree) (error : Error) → IsWhyNotPut honest place before now T error → IsUnbegun error → ⊥
+pub begun : (honest : Type 0) (place : Path) (before now : FaultCounts) (T : Tree) (error : Error) → IsWhyNotPut honest place before now T error → IsUnbegun error → ⊥
 begun honest place before now T (Commit error) why unbegun = unbegun
 begun honest place before now T (Io error) why unbegun = unbegun
 begun honest place before now T (Iteration line) why unbegun = why

@@ -1,11 +1,11 @@
 -- A transaction of `packed-refs` alone: what it keeps, and what its commit leaves.
-use Rattle.std.specs.Prelude.{◌≡◌, ◌≢◌, ◌⊎◌, ℕ, List, Option, Some, None, true, false, []}
+use Rattle.std.specs.Prelude.{◌≡◌, ◌≢◌, ◌⊎◌, List, Option, Some, None, true, false, []}
 use Rattle.std.specs.Cmp.Lexicographic.{slice_cmp}
 use Rattle.std.specs.List.Sorted.{IsStrictlySortedBy}
 use Rattle.std.specs.Ordering.{nat_cmp}
 use Rattle.gix_ref_hash.specs.declared.hash.Kind.{Kind}
 use Rattle.gix_ref_base.specs.PackedRecords.{Record}
-use Rattle.gix_ref_files.specs.Files.{HasRisen}
+use Rattle.gix_ref_files.specs.Files.{FaultCounts, IsMet}
 use Rattle.gix_ref_files.specs.Lock.{lock_of}
 use Rattle.gix_ref_files.specs.Tree.{Tree, Path, Content, is_file, is_folder}
 use Rattle.gix_ref_files.specs.Tree.Content.{File}
@@ -115,10 +115,10 @@ IsUnbegun (Io error) = ⊥
 -- Why a commit failed: the rename failed, or a folder is at the place; another call of files failed; a line of the records is no
 -- record; or there was no memory.
 abbrev pub SaysWhyPacked : (honest : Type 0) → Kind → Option Buffer → (place : Path) →
-    (before now : ℕ) → Tree → Error → Type 0
+    (before now : FaultCounts) → Tree → Error → Type 0
 SaysWhyPacked honest kind records place before now T (Commit error) =
-    (HasRisen before now ⊎ (honest → is_folder (T place) ≡ true)) × (error ≢ no_memory)
-SaysWhyPacked honest kind records place before now T (Io error) = HasRisen before now
+    (IsMet error before now ⊎ (honest → is_folder (T place) ≡ true)) × (error ≢ no_memory)
+SaysWhyPacked honest kind records place before now T (Io error) = IsMet error before now
     × (error ≢ no_memory)
 SaysWhyPacked honest kind records place before now T (Iteration line) =
     IsStuckBuffer kind records (Iteration line)

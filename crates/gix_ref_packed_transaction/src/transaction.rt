@@ -6,7 +6,7 @@ ghost use Rattle.gix_ref_grammar.specs.NameGrammar.{IsFullName};
 ghost use Rattle.gix_ref_edits.specs.RefEdits.{name_of};
 ghost use Rattle.gix_ref_repack.specs.Changes.{AreReadable};
 ghost use Rattle.gix_ref_files.specs.DiskCalls.{RemovingFileOn};
-ghost use Rattle.gix_ref_files.specs.Files.{AtEveryStop, Loses, OnEveryDisk, HasRisen, disk_of};
+ghost use Rattle.gix_ref_files.specs.Files.{AtEveryStop, Loses, OnEveryDisk, HasRisen, disk_of, NoFewer};
 ghost use Rattle.gix_ref_files.specs.Lock.{lock_of};
 ghost use Rattle.gix_ref_files.specs.Tree.{is_file};
 ghost use Rattle.gix_ref_packed_transaction.specs.PackedTransactions.{OnlyLockGoes};
@@ -44,7 +44,7 @@ fn remove<F: Files>(files: &mut F, lock: LockFile) -> Option<Vec<u8>>
     ensures named { MatchOption result (F.honest →
         is_file ((F.means files.new).tree (lock_of lock)) ≡ false)
         (λ path. (path.items ≡ lock_of lock) × HasRisen (F.faults files.old) (F.faults files.new)) }
-    ensures no_fewer { F.faults files.old ≤ F.faults files.new }
+    ensures no_fewer { NoFewer (F.faults files.old) (F.faults files.new) }
 {
     match files.remove_file(lock.path()) {
         Ok(_) => None,
@@ -61,7 +61,7 @@ fn release<F: Files>(files: &mut F, lock: LockFile, error: commit::Error) -> Fai
     ensures named { MatchOption result.lock_left
         (F.honest → is_file ((F.means files.new).tree (lock_of lock)) ≡ false)
         (λ path. (path.items ≡ lock_of lock) × HasRisen (F.faults files.old) (F.faults files.new)) }
-    ensures no_fewer { F.faults files.old ≤ F.faults files.new }
+    ensures no_fewer { NoFewer (F.faults files.old) (F.faults files.new) }
 {
     Failed {
         error,

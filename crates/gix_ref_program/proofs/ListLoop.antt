@@ -1,12 +1,13 @@
 -- A listing that is printed, item by item.
-use Rattle.std.proofs.Common.{◌≡◌, arith, ℕ, List, [], ◌∷◌, ◌++◌, Bool, true, false, Option, Some, None, Result, refl, sym, ◌∙◌, ap, subst, append-nil}
-use Rattle.std.specs.Prelude.{◌≤◌, if◌then◌else◌}
+use Rattle.std.proofs.Common.{◌≡◌, ℕ, List, [], ◌∷◌, ◌++◌, Bool, true, false, Option, Some, None, Result, refl, sym, ◌∙◌, ap, subst, append-nil}
+use Rattle.gix_ref_files.proofs.Meeting.{no_fewer_starts, no_fewer_joins}
+use Rattle.std.specs.Prelude.{if◌then◌else◌}
 use Rattle.std.specs.Option.{option_map}
 use Rattle.std.specs.Result.{is_err}
 use Rattle.std.specs.Iterator.{Yields}
 use Rattle.std.specs.Io.KnownBytes.{Appends, Keeps, append_known}
 use Rattle.std.proofs.KnownBytes.{Appends-kept}
-use Rattle.gix_ref_files.specs.Files.{Meaning}
+use Rattle.gix_ref_files.specs.Files.{Meaning, FaultCounts, NoFewer}
 use Rattle.gix_ref_files.proofs.Moments.{starts}
 use Rattle.gix_ref_records.specs.declared.raw.Reference.{Reference}
 use Rattle.gix_ref_listing.specs.declared.error.Error.{Error}
@@ -30,11 +31,11 @@ none_printed : (out : Option (List ℕ)) → Appends out (append_known out []) [
 none_printed None = _
 none_printed (Some x) = refl
 
-module _ {F : Type 0} (honest : Type 0) (means : F → Meaning) (faults : F → ℕ) where
+module _ {F : Type 0} (honest : Type 0) (means : F → Meaning) (faults : F → FaultCounts) where
   -- from one state of an iterator to another: the same store, with the same files
   pub record Follows (first it : LooseThenPacked F Remaining) : Type 0 where
     pub same_reference : it.store.ghost_name ≡ first.store.ghost_name
-    pub rises : count_in honest means faults first ≤ count_in honest means faults it
+    pub rises : NoFewer (count_in honest means faults first) (count_in honest means faults it)
     pub unchanged : LooksUp honest means (store_listed first) (store_listed it)
 
   -- and what is printed of the items in between
@@ -53,7 +54,7 @@ module _ {F : Type 0} (honest : Type 0) (means : F → Meaning) (faults : F → 
     prints = none_printed out;
     follows = record {
       same_reference = refl;
-      rises = omega arith;
+      rises = no_fewer_starts _;
       unchanged = record {
         leaves = λ h. starts (means (files_of (store_listed it))) _ refl;
         same = record { dirs = refl; namespace = refl; of_kind = refl; reflogs = refl; composes = refl; prohibits = refl; threshold = refl };
@@ -64,7 +65,7 @@ module _ {F : Type 0} (honest : Type 0) (means : F → Meaning) (faults : F → 
   pub on : (first it next : LooseThenPacked F Remaining) (item : Option (Result Reference Error)) → Follows first it → NextItem honest means faults it item next → Follows first next
   on first it next item follows step = record {
     same_reference = step.same_reference ∙ follows.same_reference;
-    rises = omega (arith, follows.rises, step.gives.rises);
+    rises = no_fewer_joins follows.rises step.gives.rises;
     unchanged = looks_on honest means faults (store_listed first) (store_listed it) (store_listed next) follows.unchanged record { leaves = step.gives.leaves; same = step.same_store };
   }
 

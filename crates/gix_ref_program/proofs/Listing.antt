@@ -1,14 +1,16 @@
 -- What is printed of a listing, put together.
-use Rattle.std.proofs.Common.{◌≡◌, ◌⊎◌, inl, inr, ⊎_elim, arith, ℕ, List, [], true, false, Option, Result, Ok, Err, refl, ◌∙◌, subst}
-use Rattle.std.specs.Prelude.{◌≤◌, IfOk}
+use Rattle.std.proofs.Common.{◌≡◌, ◌⊎◌, inl, inr, ℕ, List, [], true, false, Option, Result, Ok, Err, refl, ◌∙◌, subst}
+use Rattle.gix_ref_files.proofs.Meeting.{no_fewer_joins}
+use Rattle.std.specs.Prelude.{IfOk}
 use Rattle.gix_ref_base.specs.PackedRecords.{Record}
-use Rattle.gix_ref_files.specs.Files.{Meaning}
+use Rattle.gix_ref_files.specs.Files.{Meaning, FaultCounts, NoFewer}
 use Rattle.gix_ref_files.specs.declared.files.ReadAt.{Ghosts}
 use Rattle.gix_ref_listing.specs.CleanPrefixes.{IsAcceptedPrefix, IsRefusedPrefix}
 use Rattle.gix_ref_listing.specs.declared.list.LooseNames.{LooseNames}
 use Rattle.gix_ref_listing.specs.declared.prefix.Error.{Error as PrefixError}
 use Rattle.gix_ref_listing.specs.declared.prefix.Error.TheVariants as no_list
-use Rattle.gix_ref_listing.proofs.FolderWalks.{risen_on, unchanged_on}
+use Rattle.gix_ref_listing.proofs.FolderWalks.{unchanged_on}
+use Rattle.gix_ref_listing.proofs.Listing.{names_on}
 use Rattle.gix_ref_store.specs.Store.{files_of}
 use Rattle.gix_ref_store.specs.Lookup.{LooksUp, AreRecordsIn, settings_of, view_in}
 use Rattle.gix_ref_store.specs.Listings.{IteratesListing, IsNoListing, IsWalkedIn, count_in, store_listed, walked_prefix}
@@ -22,23 +24,23 @@ use Rattle.gix_ref_program.specs.Runs.Ran.{Said, Listed, Logged, Scripted}
 use Rattle.gix_ref_program.specs.declared.outcome.Outcome.TheVariants as outcomes
 use Rattle.gix_ref_program.specs.declared.refusal.Refusal.TheVariants as refusals
 
-module _ {F : Type 0} (honest : Type 0) (means : F → Meaning) (faults : F → ℕ) where
+module _ {F : Type 0} (honest : Type 0) (means : F → Meaning) (faults : F → FaultCounts) where
   -- the items of a listing are printed
   pub printed_all : {E : Type 0} (old new : Store F) (names : LooseNames) (Are : List Record → Type 0) (it t : LooseThenPacked F Remaining) (out now : Option (List ℕ)) (status : Result ℕ E) →
       (honest → (start : Store F) (records : List Record) → IsWalkedIn honest means faults start old names → Are records → IteratesListing honest means faults start records (walked_prefix names) it) →
-      count_in honest means faults it ≤ count_in honest means faults t → store_listed t ≡ new →
+      NoFewer (count_in honest means faults it) (count_in honest means faults t) → store_listed t ≡ new →
       IfOk status (PrintsAll honest means faults it t out now) → Prints (ListRanAmong honest means faults old new names Are) out now status
   printed_all old new names Are it t out now (Ok s) lists rises is all = record {
     ran = Listed true all.items;
     does = λ h start records walked are.
         let l = lists h start records walked are in
         let first = l.runs all.items all.last all.gives in
-        let last : count_in honest means faults all.last ≤ faults (files_of new) = subst (λ (x : Store F). count_in honest means faults all.last ≤ faults (files_of x)) is all.ends.gives.rises in
-        let after : count_in honest means faults it ≤ faults (files_of new) = subst (λ (x : Store F). count_in honest means faults it ≤ faults (files_of x)) is rises in
+        let last : NoFewer (count_in honest means faults all.last) (faults (files_of new)) = subst (λ (x : Store F). NoFewer (count_in honest means faults all.last) (faults (files_of x))) is all.ends.gives.rises in
+        let after : NoFewer (count_in honest means faults it) (faults (files_of new)) = subst (λ (x : Store F). NoFewer (count_in honest means faults it) (faults (files_of x))) is rises in
         record {
           listed = l.listed;
           is = l.is;
-          names = ⊎_elim (λ names. inl names) (λ risen. inr (risen_on (faults (files_of start)) (count_in honest means faults it) (faults (files_of new)) risen after)) l.names;
+          names = names_on (faults (files_of start)) (count_in honest means faults it) (faults (files_of new)) l.listed after l.names;
           rest = first.rest;
           first = first_from honest means faults (settings_of start) (view_in means start) (faults (files_of start)) (count_in honest means faults it) (faults (files_of new)) l.listed first.rest all.items l.counts
               (first_to honest means faults (settings_of start) (view_in means start) (count_in honest means faults it) (count_in honest means faults all.last) (faults (files_of new)) l.listed first.rest all.items last first.first);
@@ -50,13 +52,13 @@ module _ {F : Type 0} (honest : Type 0) (means : F → Meaning) (faults : F → 
     ran = Listed false [];
     does = λ h start records walked are.
         let l = lists h start records walked are in
-        let after : count_in honest means faults it ≤ faults (files_of new) = subst (λ (x : Store F). count_in honest means faults it ≤ faults (files_of x)) is rises in
+        let after : NoFewer (count_in honest means faults it) (faults (files_of new)) = subst (λ (x : Store F). NoFewer (count_in honest means faults it) (faults (files_of x))) is rises in
         record {
           listed = l.listed;
           is = l.is;
-          names = ⊎_elim (λ names. inl names) (λ risen. inr (risen_on (faults (files_of start)) (count_in honest means faults it) (faults (files_of new)) risen after)) l.names;
+          names = names_on (faults (files_of start)) (count_in honest means faults it) (faults (files_of new)) l.listed after l.names;
           rest = l.listed;
-          first = (omega (arith, l.counts, after), refl);
+          first = (no_fewer_joins l.counts after, refl);
           ends = λ whole. absurd (cc);
         };
     prints = _;

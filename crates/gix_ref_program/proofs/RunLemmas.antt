@@ -1,6 +1,6 @@
 -- The outcomes of the parts of a run, put together.
-use Rattle.std.proofs.Common.{◌≡◌, inl, inr, ℕ, [], ◌∷◌, Option, subst}
-use Rattle.gix_ref_files.specs.Files.{Meaning, Leaves, Loses}
+use Rattle.std.proofs.Common.{◌≡◌, inl, inr, [], ◌∷◌, Option, subst}
+use Rattle.gix_ref_files.specs.Files.{Meaning, Leaves, Loses, FaultCounts}
 use Rattle.gix_ref_files.specs.declared.files.ReadAt.{Ghosts}
 use Rattle.gix_ref_files.proofs.Moments.{loses_weaken, weaken}
 use Rattle.gix_ref_log.specs.declared.actor.SignatureRef.{SignatureRef}
@@ -24,7 +24,7 @@ writes_alone (Listing prefix) alone may = may
 writes_alone (Log name) alone may = may
 writes_alone (Script path) alone may = absurd alone
 
-module _ {F : Type 0} (honest : Type 0) (means : F → Meaning) (faults : F → ℕ) where
+module _ {F : Type 0} (honest : Type 0) (means : F → Meaning) (faults : F → FaultCounts) where
   -- what a transaction of a command alone is
   pub write_runs : {R : Type 0} (G : Ghosts R) (old new : Store F) (terms : Terms) (asked : Asked) → IsWrite asked → (ran : Ran) → WriteRan honest means faults (HasReadFault G.faults) old new terms (asked ∷ []) ran → CommandRan honest means faults G old new terms asked ran
   write_runs G old new terms (Update deref name id before) writes ran is = is

@@ -1,8 +1,9 @@
 -- The lines of a script, one after the other.
 use Rattle.std.proofs.Common.{◌≡◌, ◌⊎◌, inl, inr, ℕ, List, [], ◌∷◌, ◌++◌, Option, Some, None, Result, Ok, Err, IfOk, OnOk, refl, sym, ◌∙◌, ap, subst, arith, append_assoc, append-nil}
+use Rattle.gix_ref_files.specs.declared.files.FileError.{FileError}
 use Rattle.std.specs.Io.KnownBytes.{Appends}
 use Rattle.std.specs.List.{flat_map}
-use Rattle.gix_ref_files.specs.Files.{Meaning, Leaves, Loses}
+use Rattle.gix_ref_files.specs.Files.{Meaning, Leaves, Loses, FaultCounts}
 use Rattle.gix_ref_files.specs.Tree.{Tree}
 use Rattle.gix_ref_sequences.specs.Sequences.{AreDone, AtNext}
 use Rattle.gix_ref_sequences.proofs.Sequences.{done_keeps, done_more, loses_starts, losses_go_on, stops_begin, stops_go_on, within_first}
@@ -39,7 +40,7 @@ zero_one n zero one = absurd (omega (arith, zero, one))
 
 -- What a line comes to.
 
-module _ {F : Type 0} (honest read : Type 0) (means : F → Meaning) (faults : F → ℕ) (terms : Terms) where
+module _ {F : Type 0} (honest : Type 0) (read : FileError → Type 0) (means : F → Meaning) (faults : F → FaultCounts) (terms : Terms) where
   -- it is made or refused
   made_or_refused : (line : List ℕ) (old new : Store F) (outcome : Outcome) → LineComes honest read means faults terms line old new outcome → (IsMade outcome × (status_of outcome ≡ 0)) ⊎ (IsRefused outcome × (status_of outcome ≡ 1))
   made_or_refused line old new (outcomes.Updated locks) comes = inl (tt, refl)
@@ -179,7 +180,7 @@ module _ {F : Type 0} (honest read : Type 0) (means : F → Meaning) (faults : F
 
 -- What is within a script begins with good records, and at rest, where the script does: so each promise of a line that asks for these
 -- holds of the line in which a script is stopped or loses power.
-module _ {F : Type 0} (honest : Type 0) (means : F → Meaning) (faults : F → ℕ) (terms : Terms) (h : honest) (lines : List (List ℕ)) (first : Store F) (T : Tree) where
+module _ {F : Type 0} (honest : Type 0) (means : F → Meaning) (faults : F → FaultCounts) (terms : Terms) (h : honest) (lines : List (List ℕ)) (first : Store F) (T : Tree) where
   pub stop_is_good : (w : IsScriptStop honest means faults terms lines first T) → HasGoodRecords means first → HasGoodRecords means w.state
   stop_is_good w good = done_keeps (LineMade honest means faults terms) (HasGoodRecords means) (λ line s t made before. made.2.1.good h before) w.done first w.state w.are_done good
 

@@ -1,7 +1,7 @@
 -- The run of a script: from its file to its store.
 use Rattle.std.proofs.Common.{◌≡◌, ◌⊎◌, inl, inr, ⊎_elim, ℕ, List, Option, Result, Ok, Err, refl, sym, ◌∙◌, subst}
 use Rattle.gix_ref_files.specs.Disk.{Disk, Lost}
-use Rattle.gix_ref_files.specs.Files.{Meaning, Leaves, Loses, Passes, disk_of}
+use Rattle.gix_ref_files.specs.Files.{Meaning, Leaves, Loses, Passes, disk_of, FaultCounts}
 use Rattle.gix_ref_files.specs.declared.files.ReadAt.{Ghosts}
 use Rattle.gix_ref_files.proofs.Moments.{joins, loses_joins, loses_weaken, losses, starts, weaken}
 use Rattle.gix_ref_log.specs.declared.actor.SignatureRef.{SignatureRef}
@@ -21,7 +21,7 @@ use Rattle.gix_ref_program.specs.declared.outcome.Outcome.TheVariants as outcome
 use Rattle.gix_ref_program.specs.declared.refusal.Refusal.{Refusal}
 use Rattle.gix_ref_program.proofs.Printing.{prints_more}
 
-module _ {F : Type 0} (honest : Type 0) (means : F → Meaning) (faults : F → ℕ) (uses : PackedRefs Never) where
+module _ {F : Type 0} (honest : Type 0) (means : F → Meaning) (faults : F → FaultCounts) (uses : PackedRefs Never) where
   -- a store that was opened over these files, and the files that it is ended with
   module _ (start after : F) (line : LineAsked) (text : List ℕ) (old new : Store F) (committer : Option SignatureRef) (is : IsCommitterOf line committer) (opened : IsOpened start line old) (ended : files_of new ≡ after) where
     pub text_prints : {R E : Type 0} (G : Ghosts R) (out now : Option (List ℕ)) (status : Result ℕ E) → ScriptPrints honest (HasReadFault G.faults) means faults (terms_of line committer uses) (script_lines text) old new out now status →

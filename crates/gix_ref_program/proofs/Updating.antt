@@ -1,8 +1,9 @@
 -- An update whose preparation succeeded: what its commit returns, seen from before the preparation.
 use Rattle.gix_ref_transaction.proofs.Faults.{risen_by_before}
-use Rattle.std.proofs.Common.{◌≡◌, inl, inr, ⊎_elim, ℕ, List, Option, Some, None, Result, Ok, Err, IfOk, IfErr, IfSome, sym, ◌∙◌, subst, length}
+use Rattle.gix_ref_files.specs.declared.files.FileError.{FileError}
+use Rattle.std.proofs.Common.{◌≡◌, inl, inr, ⊎_elim, List, Option, Some, None, Result, Ok, Err, IfOk, IfErr, IfSome, sym, ◌∙◌, subst, length}
 use Rattle.gix_ref_files.specs.Tree.{Tree, Path}
-use Rattle.gix_ref_files.specs.Files.{Meaning, Leaves, Loses, HasRisenBy}
+use Rattle.gix_ref_files.specs.Files.{Meaning, Leaves, Loses, HasRisenBy, FaultCounts}
 use Rattle.gix_ref_files.proofs.Moments.{weaken, joins, loses_joins, loses_weaken}
 use Rattle.gix_ref_theory.specs.Roots.{roots}
 use Rattle.gix_ref_log.specs.declared.actor.SignatureRef.{SignatureRef}
@@ -29,7 +30,7 @@ use Rattle.gix_ref_program.specs.declared.update.UpdateError.{UpdateError}
 use Rattle.gix_ref_program.specs.declared.update.UpdateError.TheVariants.{Commit}
 
 -- a preparation that was refused
-module _ {F : Type 0} (honest : Type 0) (means : F → Meaning) (faults : F → ℕ) (old new : Store F) (committer : Option SignatureRef) (edits : List RefEdit) (error : Cause) (left : List Path) (read : Type 0) (uses : PackedRefs Never) (from : RefusesGiven honest read means faults (OfFinder claims-value.it uses) (ends_of meaning-value.it uses) (mode_in uses) old new edits error left) where
+module _ {F : Type 0} (honest : Type 0) (means : F → Meaning) (faults : F → FaultCounts) (old new : Store F) (committer : Option SignatureRef) (edits : List RefEdit) (error : Cause) (left : List Path) (read : FileError → Type 0) (uses : PackedRefs Never) (from : RefusesGiven honest read means faults (OfFinder claims-value.it uses) (ends_of meaning-value.it uses) (mode_in uses) old new edits error left) where
   tried : honest → AreTried means old edits from.refuses.tried
   tried h = (from.asked, ⊎_elim (λ composed. inl composed) (λ unread. inr unread.1) from.composed, from.refuses.split h)
 
@@ -44,7 +45,7 @@ differ : (error : UpdateError) → Some error ≡ None → ⊥
 differ error h = cc
 
 -- a stop or a loss of power in the commit of edits that were prepared
-module _ {F : Type 0} (honest : Type 0) (means : F → Meaning) (faults : F → ℕ) (old new : Store F) (committer : Option SignatureRef) (edits : List RefEdit) (uses : PackedRefs Never) (b : IsBegun honest means faults uses old edits) where
+module _ {F : Type 0} (honest : Type 0) (means : F → Meaning) (faults : F → FaultCounts) (old new : Store F) (committer : Option SignatureRef) (edits : List RefEdit) (uses : PackedRefs Never) (b : IsBegun honest means faults uses old edits) where
   abbrev IsStop : Tree → Type 0
   IsStop T = HasGoodRecords means old → IsOldOrNew (meaning_of old) (mode_in uses) b.prepared.split (extras_due means b.mid committer b.held) (tree_of means old) T
 
@@ -52,7 +53,7 @@ module _ {F : Type 0} (honest : Type 0) (means : F → Meaning) (faults : F → 
   commit_stops leaves = weaken leaves (λ T well. inr (b, well))
 
 -- one that was committed, or whose commit failed
-module _ {F : Type 0} (honest : Type 0) (means : F → Meaning) (faults : F → ℕ) (old mid new : Store F) (committer : Option SignatureRef) (edits : List RefEdit) (packed : Option Path) (held : List Edit) (uses : PackedRefs Never) (from : PreparesGiven honest means faults (OfFinder claims-value.it uses) (ends_of meaning-value.it uses) (mode_in uses) old mid edits packed held) where
+module _ {F : Type 0} (honest : Type 0) (means : F → Meaning) (faults : F → FaultCounts) (old mid new : Store F) (committer : Option SignatureRef) (edits : List RefEdit) (packed : Option Path) (held : List Edit) (uses : PackedRefs Never) (from : PreparesGiven honest means faults (OfFinder claims-value.it uses) (ends_of meaning-value.it uses) (mode_in uses) old mid edits packed held) where
   abbrev begun : IsBegun honest means faults uses old edits
   begun = record { mid = mid; packed = packed; held = held; prepared = from }
 
@@ -60,7 +61,7 @@ module _ {F : Type 0} (honest : Type 0) (means : F → Meaning) (faults : F → 
   split_tried h = (from.splits.asked, inl from.splits.composed, inl (from.splits.from.is h))
 
   rises : (left : List Path) → HasRisenBy (length left) (faults (files_of mid)) (faults (files_of new)) → HasRisenBy (length left) (faults (files_of old)) (faults (files_of new))
-  rises left rose = risen_by_before _ _ _ _ from.prepared.held.no_fewer rose
+  rises left rose = risen_by_before (length left) (faults (files_of old)) (faults (files_of mid)) (faults (files_of new)) from.prepared.held.no_fewer rose
 
   pub done : {T : Type 0} (answer : Result (Done T) (Failed T)) (error : Option UpdateError) (left : List Path) → error ≡ error_of answer → left ≡ left_of answer →
       IfOk answer (λ d. HasSucceeded honest means faults mid new committer packed held d.edits.items (paths_of d.locks_left.items)) → EveryMomentIsSafe honest means faults mid new committer packed held (left_of answer) → KeepsTheRest honest means faults mid new committer packed held (left_of answer) →
@@ -81,7 +82,7 @@ module _ {F : Type 0} (honest : Type 0) (means : F → Meaning) (faults : F → 
   settles (Ok d) error is succeeded h none at_rest = succeeded.settled old (mode_in uses) from.split from.prepared h at_rest
   settles (Err f) error is succeeded h none at_rest = absurd (differ (Commit f.error) (sym is ∙ none))
 
-  pub told : (read : Type 0) {T : Type 0} (answer : Result (Done T) (Failed T)) (error : Option UpdateError) (left : List Path) → error ≡ error_of answer → left ≡ left_of answer →
+  pub told : (read : FileError → Type 0) {T : Type 0} (answer : Result (Done T) (Failed T)) (error : Option UpdateError) (left : List Path) → error ≡ error_of answer → left ≡ left_of answer →
       IfErr answer (λ f. HasEndedEarly honest means faults mid new committer packed held f.error) → EveryMomentIsSafe honest means faults mid new committer packed held (left_of answer) → KeepsTheRest honest means faults mid new committer packed held (left_of answer) →
       IfSome error (λ u. IsUpdateError honest means faults uses read old new committer edits u left)
   told read (Ok d) error left is same ended safe kept = subst (λ r. IfSome r (λ u. IsUpdateError honest means faults uses read old new committer edits u left)) (sym is) tt

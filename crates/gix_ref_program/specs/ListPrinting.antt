@@ -5,7 +5,7 @@ use Rattle.std.specs.Result.{is_err}
 use Rattle.std.specs.List.{flat_map}
 use Rattle.std.specs.Io.KnownBytes.{Appends, Keeps, append_known}
 use Rattle.std.specs.Iterator.{Yields}
-use Rattle.gix_ref_files.specs.Files.{Meaning}
+use Rattle.gix_ref_files.specs.Files.{Meaning, FaultCounts}
 use Rattle.gix_ref_records.specs.declared.raw.Reference.{Reference}
 use Rattle.gix_ref_listing.specs.Items.{IsRecordItem}
 use Rattle.gix_ref_listing.specs.OwnRecords.{own_of}
@@ -34,7 +34,7 @@ abbrev pub list_text : List (Result Reference Error) → List ℕ
 list_text items = flat_map item_text items
 
 -- All that an iterator gives is printed, and gives the status.
-pub record PrintsAll {F : Type 0} (honest : Type 0) (means : F → Meaning) (faults : F → ℕ)
+pub record PrintsAll {F : Type 0} (honest : Type 0) (means : F → Meaning) (faults : F → FaultCounts)
     (old new : LooseThenPacked F Remaining) (out now : Option (List ℕ)) (status : ℕ) : Type 0 where
   pub items : List (Result Reference Error)
   pub last : LooseThenPacked F Remaining
@@ -55,7 +55,7 @@ next_text None = []
 next_text (Some item) = item_text item
 
 -- The next that an iterator gives is printed behind a text, and `fault` is whether it is a fault.
-pub record PrintsNext {F : Type 0} (honest : Type 0) (means : F → Meaning) (faults : F → ℕ)
+pub record PrintsNext {F : Type 0} (honest : Type 0) (means : F → Meaning) (faults : F → FaultCounts)
     (old new : LooseThenPacked F Remaining) (out now : Option (List ℕ)) (text : List ℕ)
     (fault : Option Bool) : Type 0 where
   pub item : Option (Result Reference Error)

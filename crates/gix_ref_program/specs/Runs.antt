@@ -1,5 +1,6 @@
 -- The outcome of a run of the program.
 use Rattle.std.specs.Prelude.{◌≡◌, ◌⊎◌, ℕ, List, [], ◌∷◌, Bool, true, false, codes, Option, Some, None, Result, IfOk}
+use Rattle.gix_ref_files.specs.declared.files.FileError.{FileError}
 use Rattle.std.specs.Io.KnownBytes.{Appends}
 use Rattle.std.specs.List.{AllByRecursion, flat_map}
 use Rattle.gix_ref_grammar.specs.NameGrammar.{full_error, partial_error}
@@ -7,7 +8,7 @@ use Rattle.gix_ref_name.specs.Namespaces.{expanded}
 use Rattle.gix_ref_hash.specs.declared.hash.Kind.{Kind}
 use Rattle.gix_ref_files.specs.Tree.{Tree, is_file}
 use Rattle.gix_ref_files.specs.Tree.Content.{File}
-use Rattle.gix_ref_files.specs.Files.{Meaning, Leaves, Loses, HasRisen, disk_of}
+use Rattle.gix_ref_files.specs.Files.{Meaning, Leaves, Loses, HasRisen, disk_of, FaultCounts}
 use Rattle.gix_ref_lookup.specs.CleanPaths.{is_clean}
 use Rattle.gix_ref_log.specs.Signatures.{Who, signature_ref_who}
 use Rattle.gix_ref_log.specs.declared.actor.SignatureRef.{SignatureRef}
@@ -27,7 +28,7 @@ use Rattle.gix_ref_packed.specs.OpenFiles.{HasReadFault}
 use Rattle.gix_ref_records.specs.declared.raw.Reference.{Reference}
 use Rattle.gix_ref_listing.specs.CleanPrefixes.{IsAcceptedPrefix}
 use Rattle.gix_ref_listing.specs.Listings.{Listed as ListedName}
-use Rattle.gix_ref_listing.specs.WholeListings.{IsListing, IsNameItem}
+use Rattle.gix_ref_listing.specs.WholeListings.{IsListing, IsNameOrMet}
 use Rattle.gix_ref_listing.specs.declared.error.Error.{Error as ListError}
 use Rattle.gix_ref_listing.specs.declared.list.LooseNames.{LooseNames}
 use Rattle.gix_ref_listing.specs.declared.prefix.Error.TheVariants as no_list
@@ -180,7 +181,7 @@ module _ {F : Type 0} where
       (full_error name ≡ None) × (honest → AreLogItems (reflog_at means old name) whole items)
       × EndsAtError items
 
-  module _ (honest : Type 0) (means : F → Meaning) (faults : F → ℕ) where
+  module _ (honest : Type 0) (means : F → Meaning) (faults : F → FaultCounts) where
     -- A lookup: what it finds is shown; or there is nothing; or it fails; or its name breaks a rule.
     abbrev pub ShowOutcome : {R : Type 0} (G : Ghosts R) → (old new : Store F) → (name : List ℕ) →
         Outcome → Type 0
@@ -200,13 +201,13 @@ module _ {F : Type 0} where
     ShowOutcome G old new name outcome = ⊥
 
     -- Items of the listing of a prefix, between two counts of faults: the first ones, all where `whole` says so. A folder that
-    -- could not be listed is among them only where the count rose.
-    pub record AreListed (settings : Settings) (view : View) (before now : ℕ)
+    -- could not be listed is among them only with a fault that was counted.
+    pub record AreListed (settings : Settings) (view : View) (before now : FaultCounts)
         (records : List Record) (prefix : List ℕ) (whole : Bool)
         (items : List (Result Reference ListError)) : Type 0 where
       pub listed : List ListedName
       pub is : IsListing settings view records prefix listed
-      pub names : AllByRecursion IsNameItem listed ⊎ HasRisen before now
+      pub names : AllByRecursion (IsNameOrMet before now) listed
       pub rest : List ListedName
       pub first : AreFirst honest means faults settings view before now listed rest items
       pub ends : whole ≡ true → rest ≡ []
@@ -237,7 +238,7 @@ module _ {F : Type 0} where
     ListRan G old new prefix ran = ⊥
 
     -- what is printed of commands that write
-    abbrev pub WriteRan : (read : Type 0) → (old new : Store F) → Terms → List Asked → Ran → Type 0
+    abbrev pub WriteRan : (read : FileError → Type 0) → (old new : Store F) → Terms → List Asked → Ran → Type 0
     WriteRan read old new terms asked (Said outcome) =
         WriteComes honest read means faults terms asked old new outcome
     WriteRan read old new terms asked ran = ⊥

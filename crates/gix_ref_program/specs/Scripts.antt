@@ -1,8 +1,9 @@
 -- What becomes of a script: a transaction for each line, one after the other.
 use Rattle.std.specs.Prelude.{◌≡◌, ◌⊎◌, ℕ, List, [], ◌∷◌, ◌++◌, Option, Result, IfOk}
+use Rattle.gix_ref_files.specs.declared.files.FileError.{FileError}
 use Rattle.std.specs.Io.KnownBytes.{Appends}
 use Rattle.std.specs.List.{flat_map}
-use Rattle.gix_ref_files.specs.Files.{Meaning}
+use Rattle.gix_ref_files.specs.Files.{Meaning, FaultCounts}
 use Rattle.gix_ref_files.specs.Tree.{Path, Tree}
 use Rattle.gix_ref_sequences.specs.Sequences.{AreDone, EndsAtStep, IsWithinSteps}
 use Rattle.gix_ref_store.specs.Prepared.{tree_of}
@@ -46,7 +47,7 @@ IsNoLine line refusals.WrongLine = (asked : List Asked) → AsksFor line asked �
 IsNoLine line refusals.Memory = Unit {0}
 IsNoLine line refusal = ⊥
 
-module _ {F : Type 0} (honest : Type 0) (means : F → Meaning) (faults : F → ℕ) (terms : Terms) where
+module _ {F : Type 0} (honest : Type 0) (means : F → Meaning) (faults : F → FaultCounts) (terms : Terms) where
   -- a line was made: the transaction of what it asks for was, and some locks may stay
   abbrev pub LineMade : (line : List ℕ) → (old new : Store F) → Type 0
   LineMade line old new = (asked : List Asked) × AsksFor line asked
@@ -76,7 +77,7 @@ module _ {F : Type 0} (honest : Type 0) (means : F → Meaning) (faults : F → 
   IsScriptLoss lines old T = IsWithinSteps LineMade (λ s. IsKept means (files_of s) T)
       (IsLineLoss T) lines old
 
-module _ {F : Type 0} (honest read : Type 0) (means : F → Meaning) (faults : F → ℕ) (terms : Terms) where
+module _ {F : Type 0} (honest : Type 0) (read : FileError → Type 0) (means : F → Meaning) (faults : F → FaultCounts) (terms : Terms) where
   -- a line that is not begun
   abbrev pub NotALine : (line : List ℕ) → (old new : Store F) → Outcome → Type 0
   NotALine line old new (outcomes.Refused refusal locks) = IsNoLine line refusal × (new ≡ old)

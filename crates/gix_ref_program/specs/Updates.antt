@@ -1,8 +1,9 @@
 -- An update from its preparation to its commit, over any files.
-use Rattle.std.specs.Prelude.{◌≡◌, ◌⊎◌, ℕ, List, Option, Some, None, Result, Ok, Err, length}
+use Rattle.std.specs.Prelude.{◌≡◌, ◌⊎◌, List, Option, Some, None, Result, Ok, Err, length}
+use Rattle.gix_ref_files.specs.declared.files.FileError.{FileError}
 use Rattle.gix_ref_files.specs.Tree.{Tree, Path}
 use Rattle.gix_ref_files.specs.Disk.{Disk}
-use Rattle.gix_ref_files.specs.Files.{Meaning, HasRisenBy}
+use Rattle.gix_ref_files.specs.Files.{Meaning, HasRisenBy, FaultCounts}
 use Rattle.gix_ref_files.specs.Settled.{IsAllSettled}
 use Rattle.gix_ref_theory.specs.Losses.{IsLostWell}
 use Rattle.gix_ref_theory.specs.OnDisks.{IsSpokenOf}
@@ -45,7 +46,7 @@ module _ {F : Type 0} (means : F → Meaning) where
       × (AreSplit (meaning_of old) (view_of (tree_of means old)) asked tried ⊎ (tried ≡ asked))
 
 -- what an update does with `packed-refs` as `uses` says
-module _ {F : Type 0} (honest : Type 0) (means : F → Meaning) (faults : F → ℕ)
+module _ {F : Type 0} (honest : Type 0) (means : F → Meaning) (faults : F → FaultCounts)
     (uses : PackedRefs Never) where
   -- Edits that were prepared: their split list, with the store that this left and the edits as they are committed.
   pub record IsBegun (old : Store F) (edits : List RefEdit) : Type 0 where
@@ -106,7 +107,7 @@ module _ {F : Type 0} (honest : Type 0) (means : F → Meaning) (faults : F → 
 
   -- Why an update was not made, and the locks that stay: it was refused by the first cause against it, and all is as before but for
   -- these locks; or its commit failed.
-  abbrev pub IsUpdateError : (read : Type 0) → (old new : Store F) → Option SignatureRef →
+  abbrev pub IsUpdateError : (read : FileError → Type 0) → (old new : Store F) → Option SignatureRef →
       List RefEdit → UpdateError → (left : List Path) → Type 0
   IsUpdateError read old new committer edits (Prepare error) left =
       RefusesGiven honest read means faults

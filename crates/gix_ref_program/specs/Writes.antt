@@ -1,7 +1,8 @@
 -- What becomes of commands that write: one transaction of all that they ask for (`git update-ref --stdin`).
 use Rattle.std.specs.Prelude.{◌≡◌, ◌⊎◌, ℕ, List, [], Option}
+use Rattle.gix_ref_files.specs.declared.files.FileError.{FileError}
 use Rattle.gix_ref_hash.specs.declared.hash.Kind.{Kind}
-use Rattle.gix_ref_files.specs.Files.{Meaning, disk_of}
+use Rattle.gix_ref_files.specs.Files.{Meaning, disk_of, FaultCounts}
 use Rattle.gix_ref_files.specs.Settled.{IsSettledAt}
 use Rattle.gix_ref_files.specs.Tree.{Path, Tree}
 use Rattle.gix_ref_edits.specs.declared.transaction.RefEdit.{RefEdit}
@@ -68,7 +69,7 @@ IsKept means files T = (q : Path) →
     IsSettledAt (disk_of (means files)) (view_of (means files).tree q) q →
     view_of T q ≡ view_of (means files).tree q
 
-module _ {F : Type 0} (honest : Type 0) (means : F → Meaning) (faults : F → ℕ) (terms : Terms) where
+module _ {F : Type 0} (honest : Type 0) (means : F → Meaning) (faults : F → FaultCounts) (terms : Terms) where
   -- A transaction that was made: the edits that these commands ask for were prepared and committed, and these locks stay. Where
   -- `packed-refs` was well formed it is so again, and where all was at rest all is. Names mean the same.
   pub record IsWritten (asked : List Asked) (old new : Store F) (left : List Path) : Type 0 where
@@ -92,7 +93,7 @@ module _ {F : Type 0} (honest : Type 0) (means : F → Meaning) (faults : F → 
       ⊎ ((edits : List RefEdit) × AreEditsOf terms asked edits
       × IsLossOf honest means faults terms.uses old terms.committer edits T)
 
-module _ {F : Type 0} (honest read : Type 0) (means : F → Meaning) (faults : F → ℕ) (terms : Terms) where
+module _ {F : Type 0} (honest : Type 0) (read : FileError → Type 0) (means : F → Meaning) (faults : F → FaultCounts) (terms : Terms) where
   -- A transaction that was refused, or whose commit failed, and the locks that stay: the commands have no edits, and nothing is
   -- begun; or these edits were not made.
   abbrev pub IsNotWritten : List Asked → (old new : Store F) → Refusal → (left : List Path) → Type 0

@@ -1,5 +1,6 @@
 //! The listing of references, printed (`git for-each-ref`).
 ghost use Rattle.std.specs.Prelude.{◌≡◌, ◌≤◌, ◌<◌, ◌++◌, IfOk, IfSome, OnOk};
+ghost use Rattle.gix_ref_files.specs.Files.{NoFewer};
 ghost use Rattle.std.specs.Io.KnownBytes.{Keeps, append_known};
 ghost use Rattle.std.specs.Result.{is_err};
 ghost use Rattle.gix_ref_store.specs.Lookup.{LooksUp};
@@ -76,8 +77,8 @@ fn print_next<F: Files, W: Write>(
     ensures same_reference { items.new.store.ghost_name ≡ items.old.store.ghost_name }
     ensures prints { IfOk result (PrintsNext F.honest F.means F.faults items.old items.new
         (W.contents out.old) (append_known (W.contents out.new) text.new.items) text.old.items) }
-    ensures rises { count_in F.honest F.means F.faults items.old
-        ≤ count_in F.honest F.means F.faults items.new }
+    ensures rises { NoFewer (count_in F.honest F.means F.faults items.old)
+        (count_in F.honest F.means F.faults items.new) }
     ensures unchanged { LooksUp F.honest F.means (store_listed items.old) (store_listed items.new) }
     ensures left { IfOk result
         (λ fault. IfSome fault (λ _. items_ahead items.new < items_ahead items.old)) }
@@ -106,8 +107,8 @@ pub fn print_items<F: Files, W: Write>(
     ensures same_reference { items.new.store.ghost_name ≡ items.old.store.ghost_name }
     ensures prints { IfOk result (PrintsAll F.honest F.means F.faults items.old items.new
         (W.contents out.old) (W.contents out.new)) }
-    ensures rises { count_in F.honest F.means F.faults items.old
-        ≤ count_in F.honest F.means F.faults items.new }
+    ensures rises { NoFewer (count_in F.honest F.means F.faults items.old)
+        (count_in F.honest F.means F.faults items.new) }
     ensures unchanged { LooksUp F.honest F.means (store_listed items.old) (store_listed items.new) }
 {
     let mut text = Vec::new(alloc);

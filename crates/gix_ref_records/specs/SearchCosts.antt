@@ -15,6 +15,6 @@ FailsBy fails malformed (Read error) = fails error
 FailsBy fails malformed Parse = malformed
 
 -- the count of faults after a search that failed, where a probe that failed counts so
-abbrev pub count_search : {E : Type 0} → (E → ℕ → ℕ) → SearchError E → ℕ → ℕ
+abbrev pub count_search : {E C : Type 0} → (E → C → C) → SearchError E → C → C
 count_search count (Read error) n = count error n
 count_search count Parse n = n

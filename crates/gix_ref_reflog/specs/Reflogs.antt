@@ -1,6 +1,6 @@
 -- The reflogs of a store: where they are, and what a call reports of them (`git reflog`).
 use Rattle.std.specs.Prelude.{◌≡◌, ◌≢◌, ℕ, List, Bool, true, false, Option, Result, Ok, Err}
-use Rattle.gix_ref_files.specs.Files.{count_with}
+use Rattle.gix_ref_files.specs.Files.{count_with, FaultCounts}
 use Rattle.gix_ref_files.specs.Tree.{Tree, Content, is_file, bytes_of}
 use Rattle.gix_ref_files.specs.declared.files.FileError.{FileError}
 use Rattle.gix_ref_files.specs.declared.files.FileError.TheVariants as faulty
@@ -40,12 +40,12 @@ IsNoLog settings name (Io error) = error ≢ faulty.Memory
 IsNoLog settings name Memory = Unit {0}
 IsNoLog settings name other = ⊥
 
--- the count of faults after a call: a fault of files is counted
-abbrev pub count_by : Error → ℕ → ℕ
+-- the faults that are counted after a call
+abbrev pub count_by : Error → FaultCounts → FaultCounts
 count_by (Io error) n = count_with error n
 count_by other n = n
 
-abbrev pub count_log : {T : Type 0} → Result T Error → ℕ → ℕ
+abbrev pub count_log : {T : Type 0} → Result T Error → FaultCounts → FaultCounts
 count_log (Ok value) n = n
 count_log (Err error) n = count_by error n
 

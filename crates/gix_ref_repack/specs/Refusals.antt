@@ -1,7 +1,7 @@
 -- Why there is no new `packed-refs`.
 use Rattle.std.specs.Prelude.{◌≡◌, ◌⊎◌, ℕ, List, true, false, Option}
 use Rattle.gix_ref_hash.specs.declared.hash.Kind.{Kind}
-use Rattle.gix_ref_files.specs.Files.{HasRisen}
+use Rattle.gix_ref_files.specs.Files.{FaultCounts, IsMet}
 use Rattle.gix_ref_files.specs.Tree.{Content, is_file, bytes_of}
 use Rattle.gix_ref_files.specs.declared.files.FileError.TheVariants.{Memory as out_of_memory}
 use Rattle.gix_ref_base.specs.PackedRecords.{Record}
@@ -33,9 +33,9 @@ IsRepackFault (Io error) = Unit {0}
 IsRepackFault Memory = Unit {0}
 IsRepackFault other = ⊥
 
--- `Io` is returned only where the count of faults rose, and never for want of memory; `Commit` is not returned
-abbrev pub IsCountedRefusal : ℕ → ℕ → Error → Type 0
-IsCountedRefusal before now (Io error) = HasRisen before now × (error ≡ out_of_memory → ⊥)
+-- `Io` is returned only with a fault that was counted, and never for want of memory; `Commit` is not returned
+abbrev pub IsCountedRefusal : (before now : FaultCounts) → Error → Type 0
+IsCountedRefusal before now (Io error) = IsMet error before now × (error ≡ out_of_memory → ⊥)
 IsCountedRefusal before now (Commit error) = ⊥
 IsCountedRefusal before now (Iteration line) = Unit {0}
 IsCountedRefusal before now Memory = Unit {0}

@@ -1,6 +1,6 @@
 //! The new text of `packed-refs`, put into its lock before anything else of a commit is written.
 ghost use Rattle.std.specs.Prelude.{◌≡◌, ◌≤◌, [], Some, OnOk, IfErr};
-ghost use Rattle.gix_ref_files.specs.Files.{disk_of, AtEveryStop, OnEveryDisk, HasRisen};
+ghost use Rattle.gix_ref_files.specs.Files.{disk_of, AtEveryStop, OnEveryDisk, HasRisen, NoFewer, IsMet};
 ghost use Rattle.gix_ref_files.specs.Lock.{lock_of};
 ghost use Rattle.gix_ref_files.specs.Settled.{IsWholeAt};
 ghost use Rattle.gix_ref_files.specs.Tree.{put};
@@ -21,8 +21,8 @@ pub fn write_text<F: Files>(files: &mut F, lock: &LockFile, text: &[u8]) -> Resu
         OnOk result (IsWholeAt (disk_of (F.means files.new)) (lock_of lock.now) text.now) }
     ensures passes { F.honest → OnEveryDisk F.means files.old files.new
         (λ D. FillingOn D (lock_of lock.now)) }
-    ensures no_fewer { F.faults files.old ≤ F.faults files.new }
-    ensures counted { IfErr result (λ error. HasRisen (F.faults files.old) (F.faults files.new)) }
+    ensures no_fewer { NoFewer (F.faults files.old) (F.faults files.new) }
+    ensures counted { IfErr result (λ error. IsMet error (F.faults files.old) (F.faults files.new)) }
     ensures memory { IfErr result (λ error. error ≡ FileError.Memory → ⊥) }
 {
     lock.write(files, text)?;

@@ -1,8 +1,9 @@
 -- Why a commit failed, by what it could not decide or by the step at which it ended.
-use Rattle.std.proofs.Common.{◌≡◌, ◌≢◌, inl, inr, ⊎_elim, ◌⊎◌, ℕ, zero, suc, ◌<◌, ◌≤◌, List, [], ◌∷◌, ◌++◌, Bool, true, false, Option, Some, None, map, refl, sym, ◌∙◌, ap, subst, length, arith, get_or}
+use Rattle.std.proofs.Common.{◌≡◌, ◌≢◌, inl, inr, ⊎_elim, ◌⊎◌, ℕ, zero, suc, ◌<◌, List, [], ◌∷◌, ◌++◌, Bool, true, false, Option, Some, None, map, refl, sym, ◌∙◌, ap, subst, length, arith, get_or}
+use Rattle.gix_ref_files.proofs.Meeting.{no_fewer_starts, met_wider}
 use Rattle.std.specs.Prelude.{bytes_eq, if◌then◌else◌}
 use Rattle.std.proofs.lemmas.List.{length-map}
-use Rattle.gix_ref_files.specs.Files.{Meaning, HasRisen}
+use Rattle.gix_ref_files.specs.Files.{Meaning, FaultCounts, NoFewer}
 use Rattle.gix_ref_files.specs.Lock.{lock_of}
 use Rattle.gix_ref_files.specs.Steps.{Step, IsAfter}
 use Rattle.gix_ref_files.specs.Tree.{Tree, Path, is_blocked, is_folder}
@@ -70,20 +71,15 @@ use Rattle.gix_ref_store.specs.Prepared.{tree_of}
 use Rattle.gix_ref_store.specs.Store.{files_of, kind_of, meaning_of}
 use Rattle.gix_ref_store.specs.declared.file.store.Store.{Store}
 
--- a rise is one from before, and after
-pub risen_wider : (a b c d : ℕ) → a ≤ b → c ≤ d → HasRisen b c → HasRisen a d
-risen_wider a b c d lower upper (inl more) = inl (omega (arith, lower, upper, more))
-risen_wider a b c d lower upper (inr full) = inr (omega (arith, upper, full))
-
--- and so of a fault at `packed-refs`
-pub counted_from : (a b c : ℕ) (error : RepackError) → a ≤ b → IsCountedRefusal b c error → IsCountedRefusal a c error
-counted_from a b c (repack.Io fault) le is = (risen_wider a b c c le (omega arith) is.0, is.1)
+-- a fault at `packed-refs` that was counted, within a longer run
+pub counted_from : (a b c : FaultCounts) (error : RepackError) → NoFewer a b → IsCountedRefusal b c error → IsCountedRefusal a c error
+counted_from a b c (repack.Io fault) le is = (met_wider le (no_fewer_starts c) is.0, is.1)
 counted_from a b c (repack.Iteration line) le is = tt
 counted_from a b c repack.Memory le is = tt
 counted_from a b c (repack.Commit error) le is = is
 
 -- An error that a decision returned, by what is said of that of `packed-refs`.
-pub undecided_by : {F : Type 0} (honest : Type 0) (means : F → Meaning) (faults : F → ℕ) (start new : Store F) (committer : Option SignatureRef) (held ran : List Edit) (error : RepackError) → all_but_logs ran ≡ all_but_logs held →
+pub undecided_by : {F : Type 0} (honest : Type 0) (means : F → Meaning) (faults : F → FaultCounts) (start new : Store F) (committer : Option SignatureRef) (held ran : List Edit) (error : RepackError) → all_but_logs ran ≡ all_but_logs held →
     IsCountedRefusal (faults (files_of start)) (faults (files_of new)) error → (honest → IsRefusedRewrite (kind_of start) (tree_of means start (meaning_of start).packed_path) error) →
     (honest → AreEdits (meaning_of start) (plan_edits ran) → (rs : List Record) → ArePackedRecords (kind_of start) (view_of (tree_of means start) (meaning_of start).packed_path) rs → IsRepackFault error) → LinesPass honest means start committer held →
     IsUndecided honest means faults start new committer held (of_repack error)
@@ -108,7 +104,7 @@ log_path_is s (e ∷ held) (p ∷ ran) are zero has = by (change_of e.update.cha
 log_path_is s (e ∷ held) (p ∷ ran) are (suc at) has = log_path_is s held ran are.1 at has
 
 -- What was decided of `packed-refs` by the edits whose logs were decided before is what becomes of it by those that were given.
-pub repacked_by : {F : Type 0} (honest : Type 0) (means : F → Meaning) (faults : F → ℕ) (start : Store F) (packed : Option Path) (held ran : List Edit) (rewrite : Rewrite) → all_but_logs ran ≡ all_but_logs held →
+pub repacked_by : {F : Type 0} (honest : Type 0) (means : F → Meaning) (faults : F → FaultCounts) (start : Store F) (packed : Option Path) (held ran : List Edit) (rewrite : Rewrite) → all_but_logs ran ≡ all_but_logs held →
     RepacksFrom honest means faults start packed ran rewrite → RepacksFrom honest means faults start packed held rewrite
 repacked_by honest means faults start packed held ran rewrite alike repacks = record {
   made = λ h mode apart rs are ids puts can some.
@@ -163,26 +159,26 @@ of_no_line edits place log packed u (PreprocessingFailed source) says bad = bad
 of_no_line edits place log packed u Memory says bad = bad
 
 -- what was counted is counted afterwards too
-log_wider : (a b c : ℕ) (error : LogError) → b ≤ c → IsCountedError a b error → IsCountedError a c error
-log_wider a b c (CreateLeadingDirectories (Some fault) folder) le is = (risen_wider _ _ _ _ (omega arith) le is.0, is.1)
+log_wider : (a b c : FaultCounts) (error : LogError) → NoFewer b c → IsCountedError a b error → IsCountedError a c error
+log_wider a b c (CreateLeadingDirectories (Some fault) folder) le is = (met_wider (no_fewer_starts a) le is.0, is.1)
 log_wider a b c (CreateLeadingDirectories None folder) le is = tt
 log_wider a b c (Append source path) le is = is
 log_wider a b c MessageWithNewlines le is = tt
 log_wider a b c MissingCommitter le is = tt
 log_wider a b c SignatureUnwritable le is = tt
 
-fault_wider : {F : Type 0} (honest : Type 0) (means : F → Meaning) (faults : F → ℕ) (start mid new : Store F) (source : FileError) → faults (files_of mid) ≤ faults (files_of new) →
+fault_wider : {F : Type 0} (honest : Type 0) (means : F → Meaning) (faults : F → FaultCounts) (start mid new : Store F) (source : FileError) → NoFewer (faults (files_of mid)) (faults (files_of new)) →
     IsFaultBetween honest means faults start mid source → IsFaultBetween honest means faults start new source
-fault_wider honest means faults start mid new source le is = (risen_wider _ _ _ _ (omega arith) le is.0, is.1)
+fault_wider honest means faults start mid new source le is = (met_wider (no_fewer_starts (faults (files_of start))) le is.0, is.1)
 
-pub undecided_wider : {F : Type 0} (honest : Type 0) (means : F → Meaning) (faults : F → ℕ) (start mid new : Store F) (committer : Option SignatureRef) (held : List Edit) (error : Error) → faults (files_of mid) ≤ faults (files_of new) →
+pub undecided_wider : {F : Type 0} (honest : Type 0) (means : F → Meaning) (faults : F → FaultCounts) (start mid new : Store F) (committer : Option SignatureRef) (held : List Edit) (error : Error) → NoFewer (faults (files_of mid)) (faults (files_of new)) →
     IsUndecided honest means faults start mid committer held error → IsUndecided honest means faults start new committer held error
 undecided_wider honest means faults start mid new committer held (CreateOrUpdateRefLog (Append source path)) le is = (fault_wider honest means faults start mid new source le is.0, is.1)
-undecided_wider honest means faults start mid new committer held (CreateOrUpdateRefLog (CreateLeadingDirectories source folder)) le is = (is.0, log_wider _ _ _ (CreateLeadingDirectories source folder) le is.1)
+undecided_wider honest means faults start mid new committer held (CreateOrUpdateRefLog (CreateLeadingDirectories source folder)) le is = (is.0, log_wider (faults (files_of start)) (faults (files_of mid)) (faults (files_of new)) (CreateLeadingDirectories source folder) le is.1)
 undecided_wider honest means faults start mid new committer held (CreateOrUpdateRefLog MessageWithNewlines) le is = is
 undecided_wider honest means faults start mid new committer held (CreateOrUpdateRefLog MissingCommitter) le is = is
 undecided_wider honest means faults start mid new committer held (CreateOrUpdateRefLog SignatureUnwritable) le is = is
-undecided_wider honest means faults start mid new committer held (PackedTransactionCommit (repack.Io fault)) le is = (risen_wider _ _ _ _ (omega arith) le is.0, is.1)
+undecided_wider honest means faults start mid new committer held (PackedTransactionCommit (repack.Io fault)) le is = (met_wider (no_fewer_starts (faults (files_of start))) le is.0, is.1)
 undecided_wider honest means faults start mid new committer held (PackedTransactionCommit (repack.Iteration line)) le is = is
 undecided_wider honest means faults start mid new committer held (PackedTransactionCommit (repack.Commit error)) le is = is
 undecided_wider honest means faults start mid new committer held (PackedTransactionCommit repack.Memory) le is = is
@@ -194,7 +190,7 @@ undecided_wider honest means faults start mid new committer held (PreprocessingF
 undecided_wider honest means faults start mid new committer held Memory le is = is
 
 -- a bad line is never the cause where `packed-refs` is well formed
-pub never_bad : {F : Type 0} (honest : Type 0) (means : F → Meaning) (faults : F → ℕ) (start mid : Store F) (committer : Option SignatureRef) (held : List Edit) (error : Error) → IsUndecided honest means faults start mid committer held error → IsOfBadLine error → honest →
+pub never_bad : {F : Type 0} (honest : Type 0) (means : F → Meaning) (faults : F → FaultCounts) (start mid : Store F) (committer : Option SignatureRef) (held : List Edit) (error : Error) → IsUndecided honest means faults start mid committer held error → IsOfBadLine error → honest →
     AreEdits (meaning_of start) (plan_edits held) → (rs : List Record) → ArePackedRecords (kind_of start) (view_of (tree_of means start) (meaning_of start).packed_path) rs → ⊥
 never_bad honest means faults start mid committer held (PackedTransactionCommit (repack.Iteration line)) is bad h apart rs are = is.1 h apart rs are
 never_bad honest means faults start mid committer held (PackedTransactionCommit (repack.Io fault)) is bad h apart rs are = bad
@@ -209,10 +205,10 @@ never_bad honest means faults start mid committer held (FolderInPlace path) is b
 never_bad honest means faults start mid committer held (PreprocessingFailed source) is bad h apart rs are = bad
 
 -- the rise of a fault at a step, seen from around it
-pub raised_wider : (a b c d : ℕ) (u : Unfinished) → a ≤ b → c ≤ d → IsRaised b c u → IsRaised a d u
+pub raised_wider : (a b c d : FaultCounts) (u : Unfinished) → NoFewer a b → NoFewer c d → IsRaised b c u → IsRaised a d u
 raised_wider a b c d no_memory lower upper raised = tt
-raised_wider a b c d (AtStep about (Fault fault)) lower upper raised = (risen_wider a b c d lower upper raised.0, raised.1)
-raised_wider a b c d (AtStep about (Sync fault)) lower upper raised = (risen_wider a b c d lower upper raised.0, raised.1)
+raised_wider a b c d (AtStep about (Fault fault)) lower upper raised = (met_wider lower upper raised.0, raised.1)
+raised_wider a b c d (AtStep about (Sync fault)) lower upper raised = (met_wider lower upper raised.0, raised.1)
 raised_wider a b c d (AtStep about Unexpected) lower upper raised = tt
 raised_wider a b c d (AtStep about Asked) lower upper raised = tt
 
@@ -225,12 +221,12 @@ all_of_edits honest dirs ran packed rewrite ways S T (AtStep a cause) e =
     (names_edit ran packed c.step.1 (bare c.step.0) (shape_at ran packed c.seen c.step c.later (subst (AllShaped ran packed) c.cut (all_shaped ran packed dirs rewrite))))
 
 -- An error of a folder that could not be listed.
-pub unlisted_by : {F : Type 0} (honest : Type 0) (means : F → Meaning) (faults : F → ℕ) (start new : Store F) (committer : Option SignatureRef) (held ran : List Edit) (mid : ℕ) (error : Error) → all_but_logs ran ≡ all_but_logs held →
-    (honest → outcomes_of ran ≡ log_outcomes (line_rules start committer) (view_of (tree_of means start)) (asked held)) → faults (files_of start) ≤ mid → IsOfListing ran mid (faults (files_of new)) error →
+pub unlisted_by : {F : Type 0} (honest : Type 0) (means : F → Meaning) (faults : F → FaultCounts) (start new : Store F) (committer : Option SignatureRef) (held ran : List Edit) (mid : FaultCounts) (error : Error) → all_but_logs ran ≡ all_but_logs held →
+    (honest → outcomes_of ran ≡ log_outcomes (line_rules start committer) (view_of (tree_of means start)) (asked held)) → NoFewer (faults (files_of start)) mid → IsOfListing ran mid (faults (files_of new)) error →
     IsUndecided honest means faults start new committer held error
 unlisted_by honest means faults start new committer held ran mid Memory alike outcomes le is = tt
 unlisted_by honest means faults start new committer held ran mid (CreateOrUpdateRefLog (Append source path)) alike outcomes le (fault, (at, lt, line, same)) = (
-  (risen_wider _ _ _ _ le (omega arith) fault.0, fault.1),
+  (met_wider le (no_fewer_starts (faults (files_of new))) fault.0, fault.1),
   (
     at,
     omega (arith, lt, length-map ran but_log, length-map held but_log, ap length alike),
@@ -238,10 +234,10 @@ unlisted_by honest means faults start new committer held ran mid (CreateOrUpdate
   ),
 )
 unlisted_by honest means faults start new committer held ran mid (LockCommit source name) alike outcomes le (fault, (at, lt, same)) = (
-  (risen_wider _ _ _ _ le (omega arith) fault.0, fault.1),
+  (met_wider le (no_fewer_starts (faults (files_of new))) fault.0, fault.1),
   (at, omega (arith, lt, length-map ran but_log, length-map held but_log, ap length alike), subst (λ (l : List RefEdit). IsNameAt l at name) (updates_alike ran held alike) same),
 )
-unlisted_by honest means faults start new committer held ran mid (PackedTransactionCommit (repack.Io fault)) alike outcomes le is = (risen_wider _ _ _ _ le (omega arith) is.0, is.1)
+unlisted_by honest means faults start new committer held ran mid (PackedTransactionCommit (repack.Io fault)) alike outcomes le is = (met_wider le (no_fewer_starts (faults (files_of new))) is.0, is.1)
 unlisted_by honest means faults start new committer held ran mid (CreateOrUpdateRefLog (CreateLeadingDirectories source folder)) alike outcomes le is = absurd is
 unlisted_by honest means faults start new committer held ran mid (CreateOrUpdateRefLog MessageWithNewlines) alike outcomes le is = absurd is
 unlisted_by honest means faults start new committer held ran mid (CreateOrUpdateRefLog MissingCommitter) alike outcomes le is = absurd is
@@ -254,7 +250,7 @@ unlisted_by honest means faults start new committer held ran mid (DeleteReflog n
 unlisted_by honest means faults start new committer held ran mid (FolderInPlace path) alike outcomes le is = absurd is
 unlisted_by honest means faults start new committer held ran mid (PreprocessingFailed source) alike outcomes le is = absurd is
 
-module _ {F : Type 0} (honest : Type 0) (means : F → Meaning) (faults : F → ℕ) (start new : Store F) (committer : Option SignatureRef) (packed : Option Path) (held ran : List Edit) (alike : all_but_logs ran ≡ all_but_logs held) where
+module _ {F : Type 0} (honest : Type 0) (means : F → Meaning) (faults : F → FaultCounts) (start new : Store F) (committer : Option SignatureRef) (packed : Option Path) (held ran : List Edit) (alike : all_but_logs ran ≡ all_but_logs held) where
   -- the locks that are released are some of those that are held
   pub ran_held : (renamed : Bool) (q : Path) → is_in (held_locks (if renamed then None else packed) ran) q ≡ true → is_in (held_locks packed held) q ≡ true
   ran_held renamed q within = ⊎_elim

@@ -7,7 +7,7 @@ use Rattle.gix_ref_base.specs.Layout.{Layout}
 use Rattle.gix_ref_base.specs.PackedRecords.{Record}
 use Rattle.gix_ref_files.specs.Disk.{Disk, Lost}
 use Rattle.gix_ref_files.specs.DiskSteps.{IsReachedBy, IsSyncedAfter}
-use Rattle.gix_ref_files.specs.Files.{Meaning, disk_of, Leaves, Passes}
+use Rattle.gix_ref_files.specs.Files.{Meaning, disk_of, Leaves, Passes, FaultCounts}
 use Rattle.gix_ref_files.specs.Lock.{lock_of}
 use Rattle.gix_ref_files.specs.Settled.{AllStay, IsAllSettled}
 use Rattle.gix_ref_files.specs.declared.files.FileError.{FileError}
@@ -142,7 +142,7 @@ put_adds lock bytes S T mine own free adds q = either_way (bytes_eq lock q)
     (λ other.
     subst (λ (n : Option Content). (n ≡ S q) ⊎ ((S q ≡ None) × IsOurs mine mine q n)) (sym (put_other T lock q (Some (File bytes)) (λ is. clash (is_same_path lock q is) other))) (adds q))
 
-module _ {F : Type 0} (honest : Type 0) (means : F → Meaning) (faults : F → ℕ) (mode : Mode) (old start : Store F) (committer : Option SignatureRef) (given : List RefEdit) (packed : Option Path) (held : List Edit) (from : PreparesFrom honest means faults mode old start given packed held) where
+module _ {F : Type 0} (honest : Type 0) (means : F → Meaning) (faults : F → FaultCounts) (mode : Mode) (old start : Store F) (committer : Option SignatureRef) (given : List RefEdit) (packed : Option Path) (held : List Edit) (from : PreparesFrom honest means faults mode old start given packed held) where
   abbrev s : readings.Store
   s = meaning_of old
 

@@ -1,14 +1,15 @@
 pub mod CommitFailures
 pub mod Commits
+pub mod CompleteListings
 pub mod ComposedLists
-pub mod ListingRuns
 pub mod FirstItems
 pub mod FolderRuns
 pub mod LentRecords
+pub mod ListingRuns
 pub mod LooseAnswers
 pub mod MissingNames
-pub mod PreparedLosses
 pub mod Platforms
+pub mod PreparedLosses
 pub mod Preparing
 pub mod Refusals
 pub mod Releasing

@@ -1,12 +1,13 @@
 -- The runs of a listing of a store.
-use Rattle.std.proofs.Common.{◌≡◌, inl, inr, ℕ, arith, Bool, List, [], ◌∷◌, refl, sym, ◌∙◌, ap, subst, Option, Some, None, Result}
-use Rattle.std.specs.Prelude.{◌≤◌, IsSome}
+use Rattle.std.proofs.Common.{◌≡◌, inl, inr, ℕ, Bool, List, [], ◌∷◌, refl, sym, ◌∙◌, ap, subst, Option, Some, None, Result}
+use Rattle.gix_ref_files.proofs.Meeting.{no_fewer_starts}
+use Rattle.std.specs.Prelude.{IsSome}
 use Rattle.std.specs.Iterator.{Yields}
 use Rattle.std.specs.List.{AllByRecursion}
 use Rattle.gix_ref_name.specs.declared.namespace.Namespace.{Namespace}
 use Rattle.gix_ref_hash.specs.declared.hash.Kind.{Kind}
 use Rattle.gix_ref_base.specs.PackedRecords.{Record}
-use Rattle.gix_ref_files.specs.Files.{Meaning}
+use Rattle.gix_ref_files.specs.Files.{Meaning, FaultCounts, NoFewer}
 use Rattle.gix_ref_theory.specs.OnRealTrees.{view_of}
 use Rattle.gix_ref_theory.specs.Views.{View}
 use Rattle.gix_ref_records.specs.declared.raw.Reference.{Reference}
@@ -71,14 +72,14 @@ none_there : IsSome {T = List ℕ} None → ⊥
 none_there h = cc
 
 -- a file that is there is not gone in files that keep their meaning
-of_given : (honest : Type 0) (settings : Settings) (view : View) (before now : ℕ) → honest → (one : Listed) (item : Result Reference Error) → HasItsFile view one → IsGivenItem honest settings view before now one item → IsItem honest settings view before now one item
+of_given : (honest : Type 0) (settings : Settings) (view : View) (before now : FaultCounts) → honest → (one : Listed) (item : Result Reference Error) → HasItsFile view one → IsGivenItem honest settings view before now one item → IsItem honest settings view before now one item
 of_given honest settings view before now h (Walked (key, File name path)) item there (inl found) = found
 of_given honest settings view before now h (Walked (key, File name path)) item there (inr gone) = absurd (none_there (subst (λ (f : Option (List ℕ)). IsSome f) (gone.0 h) there))
 of_given honest settings view before now h (Walked (key, Unlisted path error)) item there (inl found) = found
 of_given honest settings view before now h (Walked (key, Unlisted path error)) item there (inr gone) = absurd gone
 of_given honest settings view before now h (InPacked own) item there given = given
 
-module _ {F : Type 0} (honest : Type 0) (means : F → Meaning) (faults : F → ℕ) where
+module _ {F : Type 0} (honest : Type 0) (means : F → Meaning) (faults : F → FaultCounts) where
   -- what is yet to come of a listing, while the files of the store stay as they are
   record AreAhead (settings : Settings) (view : View) (s : LooseThenPacked F Remaining) (listed : List Listed) : Type 0 where
     of_settings : settings_of s.store.now ≡ settings
@@ -107,7 +108,7 @@ module _ {F : Type 0} (honest : Type 0) (means : F → Meaning) (faults : F → 
       AreAhead settings view s listed → Yields (NextItem honest means faults) s items t →
       (rest : List Listed) × AreAhead settings view t rest × AreFirst honest means faults settings view (count_in honest means faults s) (count_in honest means faults t) listed rest items
   gives_first settings view [] s t listed h ahead y =
-      (listed, subst (λ (x : LooseThenPacked F Remaining). AreAhead settings view x listed) y ahead, (subst (λ (x : LooseThenPacked F Remaining). count_in honest means faults s ≤ count_in honest means faults x) y (omega arith), refl))
+      (listed, subst (λ (x : LooseThenPacked F Remaining). AreAhead settings view x listed) y ahead, (subst (λ (x : LooseThenPacked F Remaining). NoFewer (count_in honest means faults s) (count_in honest means faults x)) y (no_fewer_starts (count_in honest means faults s)), refl))
   gives_first settings view (item ∷ items) s t listed h ahead (mid, next, y) =
       let first = step settings view s (Some item) mid listed h ahead next in
       let later = gives_first settings view items mid t first.1 h (after settings view s (Some item) mid listed first.0 first.1 h ahead next first.2 first.3) y in

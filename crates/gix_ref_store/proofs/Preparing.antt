@@ -1,8 +1,9 @@
 -- A transaction that is prepared, from what its locks and the edits that carry what was found say of it.
 use Rattle.std.proofs.Common.{◌≡◌, inl, ◌∙◌, ℕ, List, [], Option, ◌++◌, length, take, sym, ap, subst, arith, Result, Ok, Err, IfOk, IfErr}
+use Rattle.gix_ref_files.specs.declared.files.FileError.{FileError}
 use Rattle.std.proofs.Math.Seq.{take-append_seam}
 use Rattle.std.proofs.lemmas.List.{length-map}
-use Rattle.gix_ref_files.specs.Files.{Meaning}
+use Rattle.gix_ref_files.specs.Files.{Meaning, FaultCounts}
 use Rattle.gix_ref_files.specs.Tree.{Path}
 use Rattle.gix_ref_hash.specs.declared.hash.ObjectId.{ObjectId}
 use Rattle.gix_ref_object.specs.Objects.{Stored}
@@ -29,7 +30,7 @@ use Rattle.gix_ref_store.specs.Store.{folders, kind_of, meaning_of}
 use Rattle.gix_ref_store.specs.declared.file.store.Store.{Store}
 
 -- `seen` are the edits that are held, and `after` those that carry what was found of them: as many
-pub prepares : {F : Type 0} (honest : Type 0) (means : F → Meaning) (faults : F → ℕ) (claims : Type 0) (meaning : ObjectId → Stored) (mode : Mode) (old new : Store F) (given : List RefEdit) (len : ℕ) (packed : Option Path) (held seen after rest : List Edit) →
+pub prepares : {F : Type 0} (honest : Type 0) (means : F → Meaning) (faults : F → FaultCounts) (claims : Type 0) (meaning : ObjectId → Stored) (mode : Mode) (old new : Store F) (given : List RefEdit) (len : ℕ) (packed : Option Path) (held seen after rest : List Edit) →
     seen ≡ held → length seen ≡ len → HoldsGiven honest means faults claims meaning mode old new given packed held →
     AreCarried (updates seen) (targets_of seen) (updates after) → place_paths after ≡ place_paths seen → parents_in after ≡ parents_in seen → effects_of after ≡ effects_of seen → seen_files after ≡ seen_files seen → ids_in after ≡ ids_in seen → puts_in after ≡ puts_in seen →
     PreparesGiven honest means faults claims meaning mode old new given packed (take len (after ++ rest))
@@ -70,7 +71,7 @@ prepares honest means faults claims meaning mode old new given len packed held s
         ∙ take-append_seam after rest
 
 -- locks that are held of the edits that are asked for are held of those that are given
-module _ {F : Type 0} (honest : Type 0) (means : F → Meaning) (faults : F → ℕ) (claims : Type 0) (meaning : ObjectId → Stored) (mode : Mode) (old new : Store F) (given asked : List RefEdit) (composed : AreAskedAs old.precompose_unicode given asked) where
+module _ {F : Type 0} (honest : Type 0) (means : F → Meaning) (faults : F → FaultCounts) (claims : Type 0) (meaning : ObjectId → Stored) (mode : Mode) (old new : Store F) (given asked : List RefEdit) (composed : AreAskedAs old.precompose_unicode given asked) where
   pub holds_given : (r : Result HeldLocks LockFailure) →
       IfOk r (λ held. SplitsFrom honest means faults old asked (updates held.edits.items)) →
       (honest → IfOk r (λ held. HaveParents honest means faults old asked held.edits.items)) →
@@ -102,7 +103,7 @@ module _ {F : Type 0} (honest : Type 0) (means : F → Meaning) (faults : F → 
   holds_given (Err failure) splits parents holds lost whole packed places effects files ids read put = tt
 
   -- and a refusal of the one is one of the other
-  pub refuses_given : (read : Type 0) (r : Result HeldLocks LockFailure) →
+  pub refuses_given : (read : FileError → Type 0) (r : Result HeldLocks LockFailure) →
       IfErr r (λ failure. RefusesFrom honest read means faults claims meaning mode old new asked failure.error (paths_of failure.locks_left.items)) →
       IfErr r (λ failure. RefusesGiven honest read means faults claims meaning mode old new given failure.error (paths_of failure.locks_left.items))
   refuses_given read (Ok held) refused = tt

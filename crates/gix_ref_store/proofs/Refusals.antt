@@ -1,10 +1,11 @@
 -- A split list that is refused, or held, from what the search in `packed-refs` and the rounds of the locks say of it.
 use Rattle.gix_ref_store.proofs.Releasing.{paths_risen}
+use Rattle.gix_ref_files.specs.declared.files.FileError.{FileError}
 use Rattle.std.proofs.Common.{◌≡◌, inl, inr, ⊎_elim, ℕ, List, [], Option, Result, Ok, Err, IfOk, IfErr, Vec, Global, ◌∙◌, ap, sym, subst, arith, vec_len, length}
 use Rattle.std.proofs.lemmas.List.{length-map}
 use Rattle.gix_ref_transaction.specs.declared.release.Remains.{Remains}
 use Rattle.gix_ref_files.specs.Tree.{Path}
-use Rattle.gix_ref_files.specs.Files.{Meaning, Leaves}
+use Rattle.gix_ref_files.specs.Files.{Meaning, Leaves, FaultCounts}
 use Rattle.gix_ref_edits.specs.DoubledNames.{NoneDoubled}
 use Rattle.gix_ref_edits.specs.declared.transaction.RefEdit.{RefEdit}
 use Rattle.gix_ref_transaction.specs.Causes.{IsPackedLocked, names_of, packed_taken}
@@ -28,7 +29,7 @@ use Rattle.gix_ref_store.specs.Prepared.{HasGoodRecords, HoldsFrom, HoldsPacked,
 use Rattle.gix_ref_store.specs.Store.{files_of, kind_of, meaning_of, IsSameStore}
 use Rattle.gix_ref_store.specs.declared.file.store.Store.{Store}
 
-pub refused_split : {F : Type 0} (honest read : Type 0) (means : F → Meaning) (faults : F → ℕ) (claims : Type 0) (meaning : ObjectId → Stored) (mode : Mode) (old new : Store F) (edits : List RefEdit) (r : Result HeldLocks LockFailure) →
+pub refused_split : {F : Type 0} (honest : Type 0) (read : FileError → Type 0) (means : F → Meaning) (faults : F → FaultCounts) (claims : Type 0) (meaning : ObjectId → Stored) (mode : Mode) (old new : Store F) (edits : List RefEdit) (r : Result HeldLocks LockFailure) →
     IsSameStore old new → NoneDoubled (names_of edits) →
     IfErr r (λ u. IsHeldBack honest means faults read (meaning_of old) (kind_of old) edits (IsLockCause claims meaning (meaning_of old) mode (kind_of old) (tree_of means old) edits) (files_of old) (files_of new) u.error) →
     IfErr r (λ u. AreRemovedAgain honest means faults (locks_in means mode old edits) (possible_locks (meaning_of old) edits) u.locks_left (files_of old) (files_of new)) →
@@ -43,13 +44,13 @@ refused_split honest read means faults claims meaning mode old new edits (Err u)
   as_before = removed.as_before;
   ours = removed.named.ours;
   once = removed.named.once;
-  named = paths_risen u.locks_left _ _ removed.named.named;
+  named = paths_risen u.locks_left (faults (files_of old)) (faults (files_of new)) removed.named.named;
   leaves = takes.leaves;
   same = same;
 }
 
 -- the edits that are held, from those that were begun with the split list
-module _ {F : Type 0} (honest : Type 0) (means : F → Meaning) (faults : F → ℕ) (mode : Mode) (old new : Store F) (begun : Vec Edit Global) (room : Remains) (split : List RefEdit) (asked : updates begun.items ≡ split) where
+module _ {F : Type 0} (honest : Type 0) (means : F → Meaning) (faults : F → FaultCounts) (mode : Mode) (old new : Store F) (begun : Vec Edit Global) (room : Remains) (split : List RefEdit) (asked : updates begun.items ≡ split) where
   -- what is ensured of them, and of the lock of `packed-refs`
   abbrev Held : HeldLocks → Type 0
   Held h = HoldAllLocks honest (HasGoodRecords means old) (meaning_of old) mode (kind_of old) (locks_in means mode old (updates begun.items)) (means (files_of old)) (means (files_of new)) begun.items h.edits.items room h.remains

@@ -1,6 +1,6 @@
 -- Locks that are released, where none was named before.
 use Rattle.gix_ref_transaction.proofs.Faults.{risen_by_paths}
-use Rattle.gix_ref_files.specs.Files.{HasRisenBy}
+use Rattle.gix_ref_files.specs.Files.{HasRisenBy, FaultCounts}
 use Rattle.std.proofs.Common.{◌≡◌, ◌<◌, inl, inr, ℕ, List, true, false, sym, subst, length, arith, Vec, Global, vec_len}
 use Rattle.gix_ref_files.specs.Tree.{Tree, Path, is_file}
 use Rattle.gix_ref_transaction.specs.OwnLocks.{is_in, paths_of}
@@ -10,7 +10,7 @@ use Rattle.gix_ref_transaction.specs.declared.edit.Edit.{Edit}
 use Rattle.gix_ref_transaction.proofs.Renames.{lock_found, none_renamed}
 
 -- each that is named has a fault
-pub paths_risen : (left : Vec (Vec ℕ Global) Global) (a b : ℕ) → HasRisenBy (vec_len left) a b → HasRisenBy (length (paths_of left.items)) a b
+pub paths_risen : (left : Vec (Vec ℕ Global) Global) (a b : FaultCounts) → HasRisenBy (vec_len left) a b → HasRisenBy (length (paths_of left.items)) a b
 paths_risen left a b (inl more) = risen_by_paths left.items a b (inl (omega (arith, more, left.ok)))
 paths_risen left a b (inr full) = risen_by_paths left.items a b (inr full)
 

@@ -1,10 +1,12 @@
 -- A `prepare` that first read files for its splits, from the store with which it began.
 use Rattle.gix_ref_transaction.proofs.Faults.{risen_by_before, risen_by_none}
-use Rattle.std.proofs.Common.{◌≡◌, ◌⊎◌, inl, inr, ⊎_elim, ℕ, List, [], true, Option, refl, sym, ◌∙◌, ap, subst, arith, Result, Ok, Err, IfOk, IfErr, length}
+use Rattle.gix_ref_files.proofs.Meeting.{no_fewer_joins, no_fewer_starts}
+use Rattle.gix_ref_files.specs.declared.files.FileError.{FileError}
+use Rattle.std.proofs.Common.{◌≡◌, ◌⊎◌, inl, inr, ⊎_elim, List, [], true, Option, refl, sym, ◌∙◌, ap, subst, arith, Result, Ok, Err, IfOk, IfErr, length}
 use Rattle.gix_ref_base.specs.Targets.{TargetValue}
 use Rattle.gix_ref_files.specs.Disk.{Disk}
 use Rattle.gix_ref_files.specs.Tree.{Tree, Path}
-use Rattle.gix_ref_files.specs.Files.{Meaning, Leaves, Passes, HasRisenBy}
+use Rattle.gix_ref_files.specs.Files.{Meaning, Leaves, Passes, HasRisenBy, FaultCounts}
 use Rattle.gix_ref_files.specs.Settled.{AllStay}
 use Rattle.gix_ref_files.proofs.Moments.{joins, weaken, passes_joins, passes_weaken}
 use Rattle.gix_ref_theory.specs.OnDisks.{IsAsBefore}
@@ -41,7 +43,7 @@ same_adds left all S T same q = inl (ap (λ (U : Tree). U q) same)
 none_in : (q : Path) → is_in [] q ≡ true → ⊥
 none_in q within = cc
 
-module _ {F : Type 0} (honest : Type 0) (means : F → Meaning) (faults : F → ℕ) (mode : Mode) (old : Store F) (files : F) (reads : OnlyReads honest means faults (files_of old) files) where
+module _ {F : Type 0} (honest : Type 0) (means : F → Meaning) (faults : F → FaultCounts) (mode : Mode) (old : Store F) (files : F) (reads : OnlyReads honest means faults (files_of old) files) where
   abbrev mid : Store F
   mid = with_files old files
 
@@ -105,7 +107,7 @@ module _ {F : Type 0} (honest : Type 0) (means : F → Meaning) (faults : F → 
     lockable = λ h. subst (λ (T : Tree). AreLockable (meaning_of old) (kind_of old) T [] split) (same_tree h) (held.lockable h);
     adds = λ h. subst (λ (T : Tree). AddsLocks (own_locks (meaning_of old) mode T split) (own_locks (meaning_of old) mode T split) T (tree_of means new)) (same_tree h) (held.adds h);
     leaves = λ h. leaves_on h new (locks_in means mode old split) (subst (λ (l : List Path). Leaves (means files) (means (files_of new)) (AddsLocks l l (tree_of means mid))) (locks_same h split) (held.leaves h));
-    no_fewer = omega (arith, reads.no_fewer, held.no_fewer);
+    no_fewer = no_fewer_joins reads.no_fewer held.no_fewer;
     same = record { dirs = held.same.dirs; namespace = held.same.namespace; of_kind = held.same.of_kind; reflogs = held.same.reflogs; composes = held.same.composes; prohibits = held.same.prohibits; threshold = held.same.threshold };
   }
 
@@ -117,7 +119,7 @@ module _ {F : Type 0} (honest : Type 0) (means : F → Meaning) (faults : F → 
   }
 
   -- a refusal of the split list is one of the edits that were given
-  pub refused_on : (read claims : Type 0) (meaning : ObjectId → Stored) (new : Store F) (given split : List RefEdit) (error : Error) (left : List Path) → SplitsFrom honest means faults old given split →
+  pub refused_on : (read : FileError → Type 0) (claims : Type 0) (meaning : ObjectId → Stored) (new : Store F) (given split : List RefEdit) (error : Error) (left : List Path) → SplitsFrom honest means faults old given split →
       RefusesSplit honest read means faults claims meaning mode mid new split error left → (honest → LosesNothing means mode mid new split) → RefusesFrom honest read means faults claims meaning mode old new given error left
   refused_on read claims meaning new given split error left splits refused lost = record {
     tried = split;
@@ -136,38 +138,38 @@ module _ {F : Type 0} (honest : Type 0) (means : F → Meaning) (faults : F → 
         (refused.cause h (good_mid h good));
     opened = λ h. subst (λ (T : Tree). IsPackedRefusal (kind_of old) (T (meaning_of old).packed_path) error) (same_tree h) (refused.opened h);
     unread = λ h. subst (λ (T : Tree). IsFindCause (meaning_of old) (kind_of old) (view_of T) split error) (same_tree h) (refused.unread h);
-    counted = counted_on honest read _ _ _ error reads.no_fewer refused.counted;
+    counted = counted_on honest read (faults (files_of old)) (faults files) (faults (files_of new)) error reads.no_fewer refused.counted;
     as_before = λ h. subst (λ (T : Tree). AddsLocks left (own_locks (meaning_of old) mode T split) T (tree_of means new)) (same_tree h) (refused.as_before h);
     ours = refused.ours;
     once = refused.once;
-    named = risen_by_before _ _ _ _ reads.no_fewer refused.named;
+    named = risen_by_before _ (faults (files_of old)) (faults files) (faults (files_of new)) reads.no_fewer refused.named;
     leaves = λ h. leaves_on h new (locks_in means mode old split) (subst (λ (l : List Path). Leaves (means files) (means (files_of new)) (AddsLocks l l (tree_of means mid))) (locks_same h split) (refused.leaves h));
     lost = λ h. loses_on h new split (lost h);
     same = record { dirs = refused.same.dirs; namespace = refused.same.namespace; of_kind = refused.same.of_kind; reflogs = refused.same.reflogs; composes = refused.same.composes; prohibits = refused.same.prohibits; threshold = refused.same.threshold };
   }
 
   -- a refusal before there is a split list
-  pub refused_before : (read claims : Type 0) (meaning : ObjectId → Stored) (given : List RefEdit) (error : Error) (left : List Path) → left ≡ [] → (honest → IsSplitCause (meaning_of old) (kind_of old) (tree_of means old) given error) →
+  pub refused_before : (read : FileError → Type 0) (claims : Type 0) (meaning : ObjectId → Stored) (given : List RefEdit) (error : Error) (left : List Path) → left ≡ [] → (honest → IsSplitCause (meaning_of old) (kind_of old) (tree_of means old) given error) →
       IsCounted (faults (files_of old)) (faults files) error → RefusesFrom honest read means faults claims meaning mode old mid given error left
   refused_before read claims meaning given error left none cause counted = record {
     tried = given;
     split = λ h. inr refl;
     direct = λ direct. refl;
     cause = λ h good. inl (cause h);
-    opened = λ h. (not_packed (kind_of old) (tree_of means old (meaning_of old).packed_path) _ _ error counted).0;
+    opened = λ h. (not_packed (kind_of old) (tree_of means old (meaning_of old).packed_path) (faults (files_of old)) (faults files) error counted).0;
     unread = λ h. no_find _ (faults (files_of old)) (faults files) error counted;
-    counted = counted_later honest read _ _ _ error (omega arith) counted;
+    counted = counted_later honest read (faults (files_of old)) (faults (files_of old)) (faults files) error (no_fewer_starts (faults (files_of old))) counted;
     as_before = λ h. same_adds left (locks_in means mode old given) (tree_of means old) (tree_of means mid) (same_tree h);
     ours = λ q within. absurd (none_in q (subst (λ paths. is_in paths q ≡ true) none within));
     once = λ q. let zero : times q left ≡ 0 = ap (times q) none in omega (arith, zero);
-    named = subst (λ (l : List Path). HasRisenBy (length l) (faults (files_of old)) (faults files)) (sym none) (risen_by_none _ _ reads.no_fewer);
+    named = subst (λ (l : List Path). HasRisenBy (length l) (faults (files_of old)) (faults files)) (sym none) (risen_by_none (faults (files_of old)) (faults files) reads.no_fewer);
     leaves = λ h. weaken (reads.leaves h) (λ T same. same_adds (locks_in means mode old given) (locks_in means mode old given) (tree_of means old) T same);
     lost = λ h. kept_loses means mode old mid given (keeps_none h given);
     same = record { dirs = refl; namespace = refl; of_kind = refl; reflogs = refl; composes = refl; prohibits = refl; threshold = refl };
   }
 
 -- a refusal before any file is read: there was no memory
-pub refused_unread : {F : Type 0} (honest read : Type 0) (means : F → Meaning) (faults : F → ℕ) (claims : Type 0) (meaning : ObjectId → Stored) (mode : Mode) (old : Store F) (given : List RefEdit) (error : Error) (left : List Path) → error ≡ Memory → left ≡ [] →
+pub refused_unread : {F : Type 0} (honest : Type 0) (read : FileError → Type 0) (means : F → Meaning) (faults : F → FaultCounts) (claims : Type 0) (meaning : ObjectId → Stored) (mode : Mode) (old : Store F) (given : List RefEdit) (error : Error) (left : List Path) → error ≡ Memory → left ≡ [] →
     RefusesFrom honest read means faults claims meaning mode old old given error left
 refused_unread honest read means faults claims meaning mode old given error left is none =
     refused_before honest means faults mode old (files_of old) (reads_none honest means faults (files_of old)) read claims meaning given error left none
@@ -175,7 +177,7 @@ refused_unread honest read means faults claims meaning mode old given error left
     (subst (IsCounted (faults (files_of old)) (faults (files_of old))) (sym is) tt)
 
 -- The split list of edits, from what the splits say of it.
-module _ {F : Type 0} (honest : Type 0) (means : F → Meaning) (faults : F → ℕ) (old : Store F) (given : List RefEdit) (valid : AllValid (meaning_of old) (kind_of old) [] given) where
+module _ {F : Type 0} (honest : Type 0) (means : F → Meaning) (faults : F → FaultCounts) (old : Store F) (given : List RefEdit) (valid : AllValid (meaning_of old) (kind_of old) [] given) where
   pub splits_from : (r : Result SplitEdits Error) → IfOk r (IsSplitOf honest (meaning_of old) (kind_of old) (tree_of means old) given) → (AreDirect given → IfOk r (λ split. split.edits.items ≡ given)) →
       IfOk r (λ split. SplitsFrom honest means faults old given split.edits.items)
   splits_from (Ok split) splits direct = record { is = splits.is; can_follow = splits.can_follow; valid = valid; updates = splits.updates; direct = direct }

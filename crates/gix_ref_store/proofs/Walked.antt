@@ -1,13 +1,13 @@
 -- A listing of what a walk found, of a store that was only looked at since.
-use Rattle.std.proofs.Common.{◌≡◌, inl, inr, ⊎_elim, le_trans, ℕ, List, Option, Some, None, sym, subst}
-use Rattle.std.specs.Prelude.{◌≤◌}
+use Rattle.std.proofs.Common.{◌≡◌, ℕ, List, Option, Some, None, sym, subst}
+use Rattle.gix_ref_files.proofs.Meeting.{no_fewer_joins}
 use denote.Ref.{Bor}
 use Rattle.std.specs.Option.{option_copied}
 use Rattle.gix_ref_hash.specs.declared.hash.Kind.{Kind}
 use Rattle.gix_ref_base.specs.Layout.{packed_refs}
 use Rattle.gix_ref_base.specs.PackedRecords.{Record}
 use Rattle.gix_ref_name.specs.declared.namespace.Namespace.{Namespace}
-use Rattle.gix_ref_files.specs.Files.{Meaning}
+use Rattle.gix_ref_files.specs.Files.{Meaning, FaultCounts, NoFewer}
 use Rattle.gix_ref_files.specs.Tree.{Tree}
 use Rattle.gix_ref_packed.specs.Buffers.{IsRefusedFile, buffer_kind, buffer_text}
 use Rattle.gix_ref_packed.specs.declared.packed.buffer.Buffer.{Buffer}
@@ -19,7 +19,7 @@ use Rattle.gix_ref_lookup.specs.declared.folders.Dirs.{Dirs}
 use Rattle.gix_ref_lookup.specs.declared.settings.Settings.{Settings}
 use Rattle.gix_ref_listing.specs.WholeListings.{HoldsFor, key_in}
 use Rattle.gix_ref_listing.specs.declared.list.LooseNames.{LooseNames}
-use Rattle.gix_ref_listing.proofs.FolderWalks.{risen_on, unchanged_on}
+use Rattle.gix_ref_listing.proofs.FolderWalks.{met_on, unchanged_on}
 use Rattle.gix_ref_store.specs.Store.{files_of, folders, kind_of}
 use Rattle.gix_ref_store.specs.Listings.{AreHeldFor, IsReadFor, IsWalkedIn}
 use Rattle.gix_ref_store.specs.Lookup.{AreRecordsIn, LooksUp, RefusesBuffer, view_in}
@@ -62,16 +62,16 @@ module _ {F : Type 0} (honest : Type 0) (means : F → Meaning) where
       subst (λ (x : Settings). HoldsFor (buffer_kind r.now) (key_in x prefix) records (buffer_text r.now)) (same_settings old mid looks.same)
       (subst (λ (f : Option Buffer). IsReadFor old prefix f records) (sym value) is)
 
-module _ {F : Type 0} (honest : Type 0) (means : F → Meaning) (faults : F → ℕ) where
+module _ {F : Type 0} (honest : Type 0) (means : F → Meaning) (faults : F → FaultCounts) where
   -- the names that a walk found, once the store was looked at again
-  pub walked_on : (start mid new : Store F) (names : LooseNames) → IsWalkedIn honest means faults start mid names → LooksUp honest means mid new → faults (files_of mid) ≤ faults (files_of new) →
+  pub walked_on : (start mid new : Store F) (names : LooseNames) → IsWalkedIn honest means faults start mid names → LooksUp honest means mid new → NoFewer (faults (files_of mid)) (faults (files_of new)) →
       IsWalkedIn honest means faults start new names
   walked_on start mid new names walked looks more = record {
     walk = record {
       finds = walked.walk.finds;
-      files = ⊎_elim (λ files. inl files) (λ risen. inr (risen_on (faults (files_of start)) (faults (files_of mid)) (faults (files_of new)) risen more)) walked.walk.files;
+      files = met_on (faults (files_of start)) (faults (files_of mid)) (faults (files_of new)) names.found.entries more walked.walk.files;
       there = walked.walk.there;
     };
-    counts = le_trans walked.counts more;
+    counts = no_fewer_joins walked.counts more;
     looks_up = looks_on honest means start mid new walked.looks_up looks;
   }

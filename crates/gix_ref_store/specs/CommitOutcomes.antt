@@ -1,8 +1,8 @@
 -- How a commit ended, from a store with the edits of a `prepare` whose locks it holds: what is so where it succeeded, where it
 -- failed, and in every case.
-use Rattle.std.specs.Prelude.{◌≡◌, ℕ, List, Option, length}
+use Rattle.std.specs.Prelude.{◌≡◌, List, Option, length}
 use Rattle.gix_ref_edits.specs.declared.transaction.RefEdit.{RefEdit}
-use Rattle.gix_ref_files.specs.Files.{Meaning, HasRisenBy}
+use Rattle.gix_ref_files.specs.Files.{Meaning, HasRisenBy, FaultCounts}
 use Rattle.gix_ref_files.specs.Tree.{Path}
 use Rattle.gix_ref_transaction.specs.PrepareSteps.{updates}
 use Rattle.gix_ref_transaction.specs.declared.edit.Edit.{Edit}
@@ -14,7 +14,7 @@ use Rattle.gix_ref_store.specs.CommittedFolders.{KeepsFolders}
 use Rattle.gix_ref_store.specs.Store.{files_of}
 use Rattle.gix_ref_store.specs.declared.file.store.Store.{Store}
 
-module _ {F : Type 0} (honest : Type 0) (means : F → Meaning) (faults : F → ℕ) where
+module _ {F : Type 0} (honest : Type 0) (means : F → Meaning) (faults : F → FaultCounts) where
   -- A commit that succeeded: it hands back these edits, and names these locks.
   pub record HasSucceeded (start new : Store F) (committer : Option SignatureRef)
       (packed : Option Path) (held : List Edit) (returned : List RefEdit)

@@ -8,7 +8,7 @@ use Rattle.gix_ref_files.specs.declared.files.FileError.TheVariants.{Memory as n
 use Rattle.gix_ref_files.specs.declared.steps.Cause.{Cause}
 use Rattle.gix_ref_files.specs.declared.steps.Cause.TheVariants.{File, Sync, Unexpected}
 use Rattle.gix_ref_files.specs.Disk.{Lost, folder_of}
-use Rattle.gix_ref_files.specs.Files.{Meaning, Leaves, Loses, HasRisen}
+use Rattle.gix_ref_files.specs.Files.{Meaning, Leaves, Loses, FaultCounts, IsMet}
 use Rattle.gix_ref_lookup.specs.Lookups.{ArePackedRecords}
 use Rattle.gix_ref_lookup.specs.declared.folders.Dirs.{Dirs}
 use Rattle.gix_ref_rewrite.specs.declared.outcome.Rewrite.{Rewrite}
@@ -72,7 +72,7 @@ IsOfBadLine other = ⊥
 abbrev pub ChangesLocks : List Path → (before T : Tree) → Type 0
 ChangesLocks locks before T = (q : Path) → is_in locks q ≡ false → T q ≡ before q
 
-module _ {F : Type 0} (honest : Type 0) (means : F → Meaning) (faults : F → ℕ) where
+module _ {F : Type 0} (honest : Type 0) (means : F → Meaning) (faults : F → FaultCounts) where
   -- A commit, from the store `start` with these edits of a `prepare` that began with the store `old`: where `packed-refs` was well
   -- formed, every stop leaves each reference as before or as edited; of the locks only those stay that are named, and one is named
   -- only where a fault came.
@@ -168,9 +168,9 @@ module _ {F : Type 0} (honest : Type 0) (means : F → Meaning) (faults : F → 
   OnlyItsLocks start new packed held = honest → IsPackedEmpty start packed →
       ChangesLocks (held_locks packed held) (tree_of means start) (tree_of means new)
 
-  -- a call of files failed, for another reason than a want of memory
+  -- a call of files failed with this fault, which is no want of memory
   abbrev pub IsFaultBetween : (start new : Store F) → FileError → Type 0
-  IsFaultBetween start new fault = HasRisen (faults (files_of start)) (faults (files_of new))
+  IsFaultBetween start new fault = IsMet fault (faults (files_of start)) (faults (files_of new))
       × (fault ≢ no_memory)
 
   -- a call of files failed at this step, or a sync after it

@@ -1,7 +1,7 @@
 -- Which folders a commit removes.
-use Rattle.std.specs.Prelude.{◌≡◌, ◌⊎◌, ℕ, List, [], ◌∷◌, ◌++◌, Option, Some}
+use Rattle.std.specs.Prelude.{◌≡◌, ◌⊎◌, List, [], ◌∷◌, ◌++◌, Option, Some}
 use Rattle.std.specs.List.{flat_map}
-use Rattle.gix_ref_files.specs.Files.{Meaning}
+use Rattle.gix_ref_files.specs.Files.{Meaning, FaultCounts}
 use Rattle.gix_ref_files.specs.Settled.{IsIn}
 use Rattle.gix_ref_files.specs.Tree.{Tree, Path}
 use Rattle.gix_ref_files.specs.Tree.Content.{Folder}
@@ -63,7 +63,7 @@ FoldersStay dirs written deleted before T =
     (q : Path) → before q ≡ Some Folder → (T q ≡ Some Folder)
     ⊎ ((IsIn q (roots_of dirs) → ⊥) × (IsInOneOf written q ⊎ IsAbove dirs deleted q))
 
-module _ {F : Type 0} (honest : Type 0) (means : F → Meaning) (faults : F → ℕ) where
+module _ {F : Type 0} (honest : Type 0) (means : F → Meaning) (faults : F → FaultCounts) where
   -- what becomes of the logs of these edits as their commit begins
   abbrev pub outcomes_in : Store F → Option SignatureRef → List Edit → List LogOutcome
   outcomes_in start committer held = log_outcomes (line_rules start committer)

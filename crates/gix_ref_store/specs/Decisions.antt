@@ -2,7 +2,7 @@
 -- locks that it names.
 use Rattle.std.specs.Prelude.{◌≡◌, ◌≢◌, ◌<◌, ℕ, List, Option, None, Result, Ok, Err, length}
 use Rattle.gix_ref_base.specs.PackedRecords.{Record}
-use Rattle.gix_ref_files.specs.Files.{Meaning}
+use Rattle.gix_ref_files.specs.Files.{Meaning, FaultCounts}
 use Rattle.gix_ref_lookup.specs.Lookups.{ArePackedRecords}
 use Rattle.gix_ref_theory.specs.Between.{AreEdits}
 use Rattle.gix_ref_theory.specs.OnRealTrees.{view_of}
@@ -40,7 +40,7 @@ abbrev pub left_in : Result Remains EndedEarly → List Path
 left_in (Ok remains) = paths_of remains.left.items
 left_in (Err ended) = paths_of ended.left.items
 
-module _ {F : Type 0} (honest : Type 0) (means : F → Meaning) (faults : F → ℕ) where
+module _ {F : Type 0} (honest : Type 0) (means : F → Meaning) (faults : F → FaultCounts) where
   -- A due line was refused; a call of files failed, with a rise of their count, where a folder in the way of a line or of a rename
   -- was listed, or at `packed-refs`; `packed-refs` has a bad line, and so it is not well formed; or memory was refused.
   abbrev pub IsUndecided : (start new : Store F) → Option SignatureRef → List Edit → Error → Type 0

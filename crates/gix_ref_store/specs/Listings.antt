@@ -1,11 +1,12 @@
 -- What a listing of a store gives (`git for-each-ref`).
-use Rattle.std.specs.Prelude.{◌≡◌, ◌⊎◌, ◌≤◌, ℕ, List, [], ◌∷◌, Option, Some, None, Result, Ok, Err, codes}
+use Rattle.std.specs.Prelude.{◌≡◌, ◌⊎◌, ℕ, List, [], ◌∷◌, Option, Some, None, Result, Ok, Err, codes}
 use denote.Ref.{Bor}
 use Rattle.std.specs.Iterator.{Yields}
 use Rattle.std.specs.List.{AllByRecursion}
+use Rattle.gix_ref_name.specs.Names.{full_bytes}
 use Rattle.gix_ref_name.specs.declared.namespace.Namespace.{Namespace}
 use Rattle.gix_ref_base.specs.PackedRecords.{Record}
-use Rattle.gix_ref_files.specs.Files.{Meaning, HasRisen}
+use Rattle.gix_ref_files.specs.Files.{Meaning, FaultCounts, NoFewer}
 use Rattle.gix_ref_files.specs.declared.files.ReadAt.{Ghosts}
 use Rattle.gix_ref_packed.specs.Buffers.{count_open}
 use Rattle.gix_ref_packed.specs.OpenFiles.{CountsRefusal}
@@ -14,14 +15,17 @@ use Rattle.gix_ref_records.specs.declared.raw.Reference.{Reference}
 use Rattle.gix_ref_listing.specs.CleanPrefixes.{IsRefusedPrefix}
 use Rattle.gix_ref_listing.specs.Items.{IsItem, IsRecordItem}
 use Rattle.gix_ref_listing.specs.Listings.{Listed, merge_left}
+use Rattle.gix_ref_listing.specs.OwedNames.{Text, IsDue}
 use Rattle.gix_ref_listing.specs.OwnRecords.{own_of}
 use Rattle.gix_ref_listing.specs.PrefixedRecords.{IsHeldFor}
 use Rattle.gix_ref_listing.specs.PseudoListings.{IsPseudoListing}
 use Rattle.gix_ref_listing.specs.Steps.{AreYet, GivesNext, GivesRecord}
-use Rattle.gix_ref_listing.specs.WholeListings.{AreHeldOf, IsListing, IsNameItem, IsWalkOf, key_in}
+use Rattle.gix_ref_listing.specs.WholeListings.{AreHeldOf, IsListing, IsNameOrMet, IsWalkOf, key_in}
 use Rattle.gix_ref_listing.specs.declared.error.Error.{Error}
 use Rattle.gix_ref_listing.specs.declared.list.LooseNames.{LooseNames}
 use Rattle.gix_ref_listing.specs.declared.own_records.OwnRecord.{OwnRecord}
+use Rattle.gix_ref_records.specs.Prefixes.{NamesAscend}
+use Rattle.gix_ref_lookup.specs.Lookups.{Among, IsOpenedText, packed_refs_in}
 use Rattle.gix_ref_lookup.specs.declared.settings.Settings.{Settings}
 use Rattle.gix_ref_theory.specs.Views.{View}
 use Rattle.gix_ref_store.specs.Store as stores
@@ -50,6 +54,16 @@ of_open (opening.Iter line) = PackedOpen (opening.Iter line)
 -- what the names begin with that a walk found
 abbrev pub walked_prefix : LooseNames → List ℕ
 walked_prefix names = names.prefix.items
+
+-- an item that is a reference
+abbrev pub IsReference : Result Reference Error → Type 0
+IsReference (Ok r) = Unit {0}
+IsReference (Err error) = ⊥
+
+-- the reference of this name
+abbrev pub IsNamed : List ℕ → Result Reference Error → Type 0
+IsNamed name (Ok r) = full_bytes r.name ≡ name
+IsNamed name (Err error) = ⊥
 
 module _ {F : Type 0} where
   -- how many items are yet to come at most
@@ -91,16 +105,16 @@ module _ {F : Type 0} where
   IsNoPlatformListing honest means store Prefix error = Prefix error
 
   -- and then nothing has changed but the count of faults, which a fault of files has raised by one
-  abbrev pub LeavesUnopened : (honest : Type 0) (means : F → Meaning) (faults : F → ℕ) →
+  abbrev pub LeavesUnopened : (honest : Type 0) (means : F → Meaning) (faults : F → FaultCounts) →
       (old new : Store F) → ListError → Type 0
   LeavesUnopened honest means faults old new error =
       LooksUp honest means old new
       × ((why : OpenError) × (error ≡ of_open why)
       × (faults (stores.files_of new) ≡ count_open (Err why) (faults (stores.files_of old))))
 
-  module _ (honest : Type 0) (means : F → Meaning) (faults : F → ℕ) where
-    -- the count of faults
-    abbrev pub count_in : LooseThenPacked F Remaining → ℕ
+  module _ (honest : Type 0) (means : F → Meaning) (faults : F → FaultCounts) where
+    -- the faults of its files
+    abbrev pub count_in : LooseThenPacked F Remaining → FaultCounts
     count_in it = faults (stores.files_of it.store.now)
 
     -- One call of `next`: it gives the next item, and changes no file and nothing of the store.
@@ -119,12 +133,12 @@ module _ {F : Type 0} where
 
     -- These are the first items of a listing, in its order, and `rest` is yet to come. Each is made between two counts of faults,
     -- the first of which is `before`, and the last at most `now`.
-    abbrev pub AreFirst : Settings → View → (before now : ℕ) → (listed rest : List Listed) →
+    abbrev pub AreFirst : Settings → View → (before now : FaultCounts) → (listed rest : List Listed) →
         List (Result Reference Error) → Type 0
-    AreFirst settings view before now listed rest [] = (before ≤ now) × (listed ≡ rest)
+    AreFirst settings view before now listed rest [] = NoFewer before now × (listed ≡ rest)
     AreFirst settings view before now listed rest (item ∷ items) =
-        (mid : ℕ) × (one : Listed) × (more : List Listed) × (listed ≡ one ∷ more)
-        × (before ≤ mid) × IsItem honest settings view before mid one item
+        (mid : FaultCounts) × (one : Listed) × (more : List Listed) × (listed ≡ one ∷ more)
+        × NoFewer before mid × IsItem honest settings view before mid one item
         × AreFirst settings view mid now more rest items
 
     -- What calls of `next` gave up to the iterator t: the first items of the listing, each as the files of the store are; and a
@@ -136,15 +150,33 @@ module _ {F : Type 0} where
           (count_in t) listed rest items
       pub ends : (u : LooseThenPacked F Remaining) → NextItem t None u → rest ≡ []
 
+    -- Whatever the lines of this text of `packed-refs` are: where calls of `next` give references alone, and then none, each name
+    -- that is due by the text is among theirs.
+    abbrev pub LacksNone : Settings → Text → LooseThenPacked F Remaining → Type 0
+    LacksNone settings text it = (items : List (Result Reference Error))
+        (t u : LooseThenPacked F Remaining) → Yields (NextItem) it items t → NextItem t None u →
+        AllByRecursion IsReference items → (name : List ℕ) → IsDue settings text name →
+        Among (IsNamed name) items
+
+    -- And so of the `packed-refs` of a store, of which a text is kept, where its names ascend; or there is no such file.
+    abbrev pub LacksNoneIn : (store : Store F) → (prefix : List ℕ) →
+        LooseThenPacked F Remaining → Type 0
+    LacksNoneIn store prefix it =
+        let kind = stores.kind_of store in
+        let file = packed_refs_in (settings_of store) (means (stores.files_of store)) in
+        (file ≡ None) ⊎ ((bytes : List ℕ) × IsOpenedText kind file kind bytes
+        × (NamesAscend kind bytes → LacksNone (settings_of store)
+        (record { kind = kind; bytes = bytes; key = key_in (settings_of store) prefix }) it))
+
     -- An iterator over the listing of a prefix of a store: whatever its calls give are the first items of the listing. A folder
-    -- that could not be listed is among them only where the count of faults rose.
+    -- that could not be listed is among them only with a fault that was counted.
     pub record IteratesListing (store : Store F) (records : List Record) (prefix : List ℕ)
         (it : LooseThenPacked F Remaining) : Type 0 where
       pub listed : List Listed
       pub is : IsListing (settings_of store) (view_in means store) records prefix listed
-      pub counts : faults (stores.files_of store) ≤ count_in it
-      pub names : AllByRecursion IsNameItem listed
-          ⊎ HasRisen (faults (stores.files_of store)) (count_in it)
+      pub counts : NoFewer (faults (stores.files_of store)) (count_in it)
+      pub names : AllByRecursion
+          (IsNameOrMet (faults (stores.files_of store)) (count_in it)) listed
       pub runs : (items : List (Result Reference Error)) (t : LooseThenPacked F Remaining) →
           Yields (NextItem) it items t → GivesFirst store listed it t items
 
@@ -152,18 +184,18 @@ module _ {F : Type 0} where
     pub record IteratesPseudo (store : Store F) (it : LooseThenPacked F Remaining) : Type 0 where
       pub listed : List Listed
       pub is : IsPseudoListing (settings_of store) (view_in means store) listed
-      pub counts : faults (stores.files_of store) ≤ count_in it
-      pub names : AllByRecursion IsNameItem listed
-          ⊎ HasRisen (faults (stores.files_of store)) (count_in it)
+      pub counts : NoFewer (faults (stores.files_of store)) (count_in it)
+      pub names : AllByRecursion
+          (IsNameOrMet (faults (stores.files_of store)) (count_in it)) listed
       pub runs : (items : List (Result Reference Error)) (t : LooseThenPacked F Remaining) →
           Yields (NextItem) it items t → GivesFirst store listed it t items
 
-module _ {F : Type 0} (honest : Type 0) (means : F → Meaning) (faults : F → ℕ) where
+module _ {F : Type 0} (honest : Type 0) (means : F → Meaning) (faults : F → FaultCounts) where
   -- A walk of the store `start` found these names, and the store is `now` since: nothing has changed but the count of faults.
   pub record IsWalkedIn (start now : Store F) (names : LooseNames) : Type 0 where
     pub walk : IsWalkOf (settings_of start) (view_in means start)
         (faults (stores.files_of start)) (faults (stores.files_of now)) names
-    pub counts : faults (stores.files_of start) ≤ faults (stores.files_of now)
+    pub counts : NoFewer (faults (stores.files_of start)) (faults (stores.files_of now))
     pub looks_up : LooksUp honest means start now
 
   -- Why there is no listing: after the walk `packed-refs` is not opened, by a call of files that failed or for its text; the prefix
@@ -171,8 +203,8 @@ module _ {F : Type 0} (honest : Type 0) (means : F → Meaning) (faults : F → 
   abbrev pub IsNoListing : {R : Type 0} (G : Ghosts R) → (start new : Store F) → (prefix : List ℕ) →
       ListError → Type 0
   IsNoListing G start new prefix (PackedOpen error) =
-      honest → RefusesBuffer means start error × ((walked : ℕ)
-      × (faults (stores.files_of start) ≤ walked)
+      honest → RefusesBuffer means start error × ((walked : FaultCounts)
+      × NoFewer (faults (stores.files_of start)) walked
       × CountsRefusal G.faults walked (faults (stores.files_of new)) error)
   IsNoListing G start new prefix Memory = Unit {0}
   IsNoListing G start new prefix error = IsRefusedPrefix start.namespace prefix error

@@ -7,7 +7,7 @@ use Rattle.gix_ref_theory.specs.Lookups.{Hit}
 use Rattle.gix_ref_theory.specs.Readings.Reading.{Is}
 use Rattle.gix_ref_base.specs.PackedRecords.{Record}
 use Rattle.gix_ref_base.specs.Layout.{packed_refs}
-use Rattle.gix_ref_files.specs.Files.{Meaning, Leaves}
+use Rattle.gix_ref_files.specs.Files.{Meaning, Leaves, FaultCounts}
 use Rattle.gix_ref_files.specs.Calls.{Unchanged}
 use Rattle.gix_ref_files.specs.declared.files.ReadAt.{Ghosts}
 use Rattle.gix_ref_files.specs.Tree.{Content, is_file, bytes_of}
@@ -176,7 +176,7 @@ module _ {F : Type 0} (honest : Type 0) (means : F → Meaning) where
     pub same : stores.IsSameStore old new
 
 module _ {F R : Type 0} {G : Ghosts R} (honest : Type 0) (means : F → Meaning)
-    (faults : F → ℕ) where
+    (faults : F → FaultCounts) where
   -- why a lookup fails: no memory, or the first of its names that is not passed fails
   abbrev pub FailsIn : (asks_records : Bool) → (old new : StoreValue F) → Records R G → List ℕ →
       Error → Type 0

@@ -1,11 +1,12 @@
 -- What `prepare` returns and leaves.
-use Rattle.std.specs.Prelude.{◌≡◌, ◌≤◌, ◌⊎◌, ℕ, List, [], true, false, Option, All, map, length}
+use Rattle.std.specs.Prelude.{◌≡◌, ◌≤◌, ◌⊎◌, List, [], true, false, Option, All, map, length}
+use Rattle.gix_ref_files.specs.declared.files.FileError.{FileError}
 use Rattle.gix_ref_base.specs.Targets.{TargetValue}
 use Rattle.gix_ref_hash.specs.declared.hash.ObjectId.{ObjectId}
 use Rattle.gix_ref_object.specs.Objects.{Stored}
 use Rattle.gix_ref_files.specs.Tree.{Tree, Path, is_file}
 use Rattle.gix_ref_files.specs.Disk.{Disk}
-use Rattle.gix_ref_files.specs.Files.{Meaning, disk_of, Leaves, Passes, Loses, HasRisenBy}
+use Rattle.gix_ref_files.specs.Files.{Meaning, disk_of, Leaves, Passes, Loses, HasRisenBy, FaultCounts, NoFewer}
 use Rattle.gix_ref_files.specs.Lock.{lock_of}
 use Rattle.gix_ref_files.specs.Settled.{AllStay, IsAllSettled}
 use Rattle.gix_ref_theory.specs.Edits.{Mode}
@@ -81,7 +82,7 @@ module _ {F : Type 0} (means : F → Meaning) where
   abbrev pub LosesNothing : Mode → (old new : Store F) → List RefEdit → Type 0
   LosesNothing mode old new edits = LosesNothingBut old new (places_in mode old edits)
 
-module _ {F : Type 0} (honest read : Type 0) (means : F → Meaning) (faults : F → ℕ)
+module _ {F : Type 0} (honest : Type 0) (read : FileError → Type 0) (means : F → Meaning) (faults : F → FaultCounts)
     (claims : Type 0) (meaning : ObjectId → Stored) (mode : Mode) where
   -- A refusal. Where `packed-refs` is well formed, its error is the first cause that applies; `Packed` is returned for a
   -- `packed-refs` that is refused, and `PackedFind` where the record of an edit is asked for and cannot be read; a fault of files
@@ -145,7 +146,7 @@ module _ {F : Type 0} (honest read : Type 0) (means : F → Meaning) (faults : F
         (locks_in means mode old split) (locks_in means mode old split) (tree_of means old))
     pub same : IsSameStore old new
 
-module _ {F : Type 0} (honest : Type 0) (means : F → Meaning) (faults : F → ℕ) where
+module _ {F : Type 0} (honest : Type 0) (means : F → Meaning) (faults : F → FaultCounts) where
   -- Locks that are held. Where `packed-refs` is well formed, no cause applies; this was found of each edit; each lock has its whole
   -- text. In any case each edit is valid by itself, its lock was free, and nothing else was added but folders that lead to locks.
   pub record HoldsFrom (mode : Mode) (old new : Store F) (edits : List RefEdit)
@@ -166,7 +167,7 @@ module _ {F : Type 0} (honest : Type 0) (means : F → Meaning) (faults : F → 
     pub leaves : honest → Leaves (means (files_of old)) (means (files_of new))
         (AddsLocks
         (locks_in means mode old edits) (locks_in means mode old edits) (tree_of means old))
-    pub no_fewer : faults (files_of old) ≤ faults (files_of new)
+    pub no_fewer : NoFewer (faults (files_of old)) (faults (files_of new))
     pub same : IsSameStore old new
 
   -- The lock of `packed-refs` is held where it is due, and is empty.

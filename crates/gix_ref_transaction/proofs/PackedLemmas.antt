@@ -1,5 +1,5 @@
 -- Faults of `packed-refs` as `prepare` reports them, and the ids of records.
-use Rattle.std.proofs.Common.{map, take, length, get_or, [], ◌∷◌, ◌++◌, ◌+◌, ◌<◌, ◌≡◌, ◌≤◌, ◌⊎◌, inl, inr, ⊎_elim, arith, ℕ, List, Bool, Option, Some, None, Result, Ok, Err, IfOk, IfErr, refl, subst, sym, ap, ◌∙◌}
+use Rattle.std.proofs.Common.{map, take, length, get_or, [], ◌∷◌, ◌++◌, ◌+◌, ◌<◌, ◌≡◌, ◌⊎◌, inl, inr, ⊎_elim, arith, ℕ, List, Bool, Option, Some, None, Result, Ok, Err, IfOk, IfErr, refl, subst, sym, ap, ◌∙◌}
 use Rattle.std.proofs.Math.ListN.{set}
 use Rattle.std.proofs.lemmas.Simd.{map-map}
 use Rattle.std.proofs.lemmas.List.{map-append, take_more_set, take_more, get_or-map, length-map}
@@ -12,7 +12,9 @@ use Rattle.gix_ref_transaction.specs.declared.edit.Edit.{Edit}
 use Rattle.gix_ref_hash.specs.declared.hash.Kind.{Kind}
 use Rattle.gix_ref_hash.specs.declared.hash.ObjectId.{ObjectId}
 use Rattle.gix_ref_base.specs.PackedRecords.{Record, record_named, id_read}
-use Rattle.gix_ref_files.specs.Files.{HasRisen}
+use Rattle.gix_ref_files.proofs.Meeting.{met_wider, no_fewer_starts}
+use Rattle.gix_ref_files.specs.declared.files.FileError.{FileError}
+use Rattle.gix_ref_files.specs.Files.{IsMet, FaultCounts, NoFewer}
 use Rattle.gix_ref_files.specs.Tree.{Content, Path, Tree}
 use Rattle.gix_ref_packed.proofs.RecordsOfText.{records_computed}
 use Rattle.gix_ref_packed.specs.declared.packed.buffer.open.Error.{Error as OpenError}
@@ -35,9 +37,9 @@ use Rattle.gix_ref_transaction.specs.declared.prepare.error.Error.{Error}
 use Rattle.gix_ref_transaction.specs.declared.prepare.error.Error.TheVariants.{UnsafeName, DeviceName, DeleteMustNotExist, PackedTransactionAcquire, DeleteReferenceMustExist, TargetNotFull, OtherHashKind, PreprocessingFailed, Packed, PackedFind, PackedTransactionPrepare, PathCollision, LockAcquire, MustExist, MustNotExist, ReferenceOutOfDate, ReferenceDecode, Io, Memory as NoMemory}
 
 -- why no record is found, as it is reported
-pub counted_cause : (honest fault unreadable read : Type 0) (refused : OpenError → Type 0) (before now : ℕ) (error : LookupError) → (fault → HasRisen before now ⊎ read) →
+pub counted_cause : (honest : Type 0) (fault : FileError → Type 0) (unreadable : Type 0) (read : FileError → Type 0) (refused : OpenError → Type 0) (before now : FaultCounts) (error : LookupError) → ((e : FileError) → fault e → IsMet e before now ⊎ read e) →
     IsNotPacked honest fault unreadable refused error → IsCountedWith honest read before now (as_cause error)
-counted_cause honest fault unreadable read refused before now (PackedOpen (unread error)) came told = λ h. let why = told h in (came why.1, why.0)
+counted_cause honest fault unreadable read refused before now (PackedOpen (unread error)) came told = λ h. let why = told h in (came error why.1, why.0)
 counted_cause honest fault unreadable read refused before now (PackedOpen HeaderParsing) came told = tt
 counted_cause honest fault unreadable read refused before now (PackedOpen (Iter line)) came told = tt
 counted_cause honest fault unreadable read refused before now (PackedOpen open_memory) came told = absurd told
@@ -48,7 +50,7 @@ counted_cause honest fault unreadable read refused before now (ReadFileContents 
 counted_cause honest fault unreadable read refused before now (ReferenceCreation source path) came told = tt
 
 -- where honesty follows from another, so does what is counted
-pub counted_by : (honest other read : Type 0) (before now : ℕ) (error : Error) → (other → honest) → IsCountedWith honest read before now error → IsCountedWith other read before now error
+pub counted_by : (honest other : Type 0) (read : FileError → Type 0) (before now : FaultCounts) (error : Error) → (other → honest) → IsCountedWith honest read before now error → IsCountedWith other read before now error
 counted_by honest other read before now (Packed (unread error)) follows told = λ o. told (follows o)
 counted_by honest other read before now (Packed HeaderParsing) follows told = tt
 counted_by honest other read before now (Packed (Iter line)) follows told = tt
@@ -73,7 +75,7 @@ counted_by honest other read before now (ReferenceDecode source) follows told = 
 counted_by honest other read before now NoMemory follows told = told
 
 -- a search refuses no file
-pub searched_refusal : (honest fault unreadable : Type 0) (kind : Kind) (packed : Option Content) (error : LookupError) → honest →
+pub searched_refusal : (honest : Type 0) (fault : FileError → Type 0) (unreadable : Type 0) (kind : Kind) (packed : Option Content) (error : LookupError) → honest →
     IsNotPacked honest fault unreadable (λ e. ⊥) error → IsPackedRefusal kind packed (as_cause error)
 searched_refusal honest fault unreadable kind packed (PackedOpen (unread error)) h told = (told h).0
 searched_refusal honest fault unreadable kind packed (PackedOpen HeaderParsing) h told = absurd (told h)
@@ -123,7 +125,7 @@ asked_ids f kind prohibits T U edits rs ids are found same =
     ∙ ap (λ (R : Tree). packed_ids s R edits) (sym same))
 
 -- what is counted of files alone is none of `packed-refs`
-pub not_packed : (kind : Kind) (packed : Option Content) (before now : ℕ) (error : Error) → IsCounted before now error → IsPackedRefusal kind packed error × ((honest read : Type 0) → IsCountedWith honest read before now error)
+pub not_packed : (kind : Kind) (packed : Option Content) (before now : FaultCounts) (error : Error) → IsCounted before now error → IsPackedRefusal kind packed error × ((honest : Type 0) (read : FileError → Type 0) → IsCountedWith honest read before now error)
 not_packed kind packed before now (Packed error) told = absurd told
 not_packed kind packed before now (PackedFind error) told = absurd told
 not_packed kind packed before now UnsafeName told = (tt, λ honest read. told)
@@ -145,14 +147,13 @@ not_packed kind packed before now NoMemory told = (tt, λ honest read. told)
 not_packed kind packed before now (Io error) told = (tt, λ honest read. told)
 
 -- a rise of a count is one from an earlier moment too
-rise_before : (a b d : ℕ) → a ≤ b → HasRisen b d → HasRisen a d
-rise_before a b d le (inl more) = inl (omega (arith, le, more))
-rise_before a b d le (inr full) = inr full
+rise_before : (error : FileError) (a b d : FaultCounts) → NoFewer a b → IsMet error b d → IsMet error a d
+rise_before error a b d le met = met_wider {error = error} le (no_fewer_starts d) met
 
-pub counted_later : (honest read : Type 0) (a b d : ℕ) (error : Error) → a ≤ b → IsCounted b d error → IsCountedWith honest read a d error
+pub counted_later : (honest : Type 0) (read : FileError → Type 0) (a b d : FaultCounts) (error : Error) → NoFewer a b → IsCounted b d error → IsCountedWith honest read a d error
 counted_later honest read a b d (Packed error) le told = absurd told
 counted_later honest read a b d (PackedFind error) le told = absurd told
-counted_later honest read a b d (Io error) le told = (rise_before a b d le told.0, told.1)
+counted_later honest read a b d (Io error) le told = (rise_before error a b d le told.0, told.1)
 counted_later honest read a b d UnsafeName le told = tt
 counted_later honest read a b d DeviceName le told = tt
 counted_later honest read a b d DeleteMustNotExist le told = tt
@@ -171,13 +172,13 @@ counted_later honest read a b d (ReferenceDecode source) le told = tt
 counted_later honest read a b d NoMemory le told = tt
 
 -- a count with reads of `packed-refs`, from an earlier moment
-pub counted_on : (honest read : Type 0) (a b d : ℕ) (error : Error) → a ≤ b → IsCountedWith honest read b d error → IsCountedWith honest read a d error
-counted_on honest read a b d (Packed (unread error)) le told = λ h. (⊎_elim (λ risen. inl (rise_before a b d le risen)) (λ failed. inr failed) (told h).0, (told h).1)
+pub counted_on : (honest : Type 0) (read : FileError → Type 0) (a b d : FaultCounts) (error : Error) → NoFewer a b → IsCountedWith honest read b d error → IsCountedWith honest read a d error
+counted_on honest read a b d (Packed (unread error)) le told = λ h. (⊎_elim (λ risen. inl (rise_before error a b d le risen)) (λ failed. inr failed) (told h).0, (told h).1)
 counted_on honest read a b d (Packed HeaderParsing) le told = tt
 counted_on honest read a b d (Packed (Iter line)) le told = tt
 counted_on honest read a b d (Packed open_memory) le told = tt
 counted_on honest read a b d (PackedFind error) le told = tt
-counted_on honest read a b d (Io error) le told = (rise_before a b d le told.0, told.1)
+counted_on honest read a b d (Io error) le told = (rise_before error a b d le told.0, told.1)
 counted_on honest read a b d UnsafeName le told = tt
 counted_on honest read a b d DeviceName le told = tt
 counted_on honest read a b d DeleteMustNotExist le told = tt

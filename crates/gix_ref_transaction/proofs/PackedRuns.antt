@@ -1,8 +1,10 @@
 -- The lock of `packed-refs`, and then those of the edits.
-use Rattle.std.proofs.Common.{◌≡◌, ◌⊎◌, inl, inr, ⊎_elim, ℕ, ◌≤◌, List, [], ◌∷◌, ◌++◌, true, false, Option, Some, None, map, refl, sym, ◌∙◌, ap, subst, arith}
+use Rattle.std.proofs.Common.{◌≡◌, ◌⊎◌, inl, inr, ⊎_elim, ℕ, List, [], ◌∷◌, ◌++◌, true, false, Option, Some, None, map, refl, sym, ◌∙◌, ap, subst}
 use Rattle.std.specs.Prelude.{bytes_eq}
 use Rattle.gix_ref_files.specs.Disk.{Disk}
-use Rattle.gix_ref_files.specs.Files.{Meaning, Leaves, HasRisen}
+use Rattle.gix_ref_files.specs.Files.{Meaning, Leaves, IsMet, FaultCounts, NoFewer}
+use Rattle.gix_ref_files.proofs.Meeting.{met_wider, no_fewer_starts}
+use Rattle.gix_ref_files.specs.declared.files.FileError.{FileError}
 use Rattle.gix_ref_files.specs.Lock.{lock_of}
 use Rattle.gix_ref_files.specs.Settled.{IsWholeAt}
 use Rattle.gix_ref_files.specs.Tree.{Tree, Path, Content, fronts, is_file}
@@ -89,17 +91,16 @@ whole_both D E [] ys keeps first second = second
 whole_both D E (x ∷ xs) ys keeps first second = ((first.0.0, keeps x first.0.0 first.0.1), whole_both D E xs ys keeps first.1 second)
 
 -- a count up to a later moment
-rose_later : (a b d : ℕ) → b ≤ d → HasRisen a b → HasRisen a d
-rose_later a b d le (inl more) = inl (omega (arith, le, more))
-rose_later a b d le (inr full) = inr (omega (arith, le, full))
+rose_later : (error : FileError) (a b d : FaultCounts) → NoFewer b d → IsMet error a b → IsMet error a d
+rose_later error a b d le met = met_wider {error = error} (no_fewer_starts a) le met
 
-pub counted_after : (honest read : Type 0) (a b d : ℕ) (error : Error) → b ≤ d → IsCountedWith honest read a b error → IsCountedWith honest read a d error
-counted_after honest read a b d (Packed (unread error)) le told = λ h. (⊎_elim (λ risen. inl (rose_later a b d le risen)) (λ failed. inr failed) (told h).0, (told h).1)
+pub counted_after : (honest : Type 0) (read : FileError → Type 0) (a b d : FaultCounts) (error : Error) → NoFewer b d → IsCountedWith honest read a b error → IsCountedWith honest read a d error
+counted_after honest read a b d (Packed (unread error)) le told = λ h. (⊎_elim (λ risen. inl (rose_later error a b d le risen)) (λ failed. inr failed) (told h).0, (told h).1)
 counted_after honest read a b d (Packed HeaderParsing) le told = tt
 counted_after honest read a b d (Packed (Iter line)) le told = tt
 counted_after honest read a b d (Packed open_memory) le told = tt
 counted_after honest read a b d (PackedFind error) le told = tt
-counted_after honest read a b d (Io error) le told = (rose_later a b d le told.0, told.1)
+counted_after honest read a b d (Io error) le told = (rose_later error a b d le told.0, told.1)
 counted_after honest read a b d UnsafeName le told = tt
 counted_after honest read a b d DeviceName le told = tt
 counted_after honest read a b d DeleteMustNotExist le told = tt

@@ -1,5 +1,6 @@
 -- What edits put into `packed-refs`.
 use Rattle.std.specs.Prelude.{IfSome}
+use Rattle.gix_ref_files.specs.declared.files.FileError.{FileError}
 use Rattle.std.proofs.Common.{◌≡◌, ◌⊎◌, inl, inr, ⊎_elim, Result, Ok, Err, IfErr, ◌<◌, ℕ, List, [], ◌∷◌, ◌++◌, Bool, true, false, ◌&&◌, Option, Some, None, if◌then◌else◌, length, get_or, refl, sym, ap, ◌∙◌, subst, is_some}
 use Rattle.std.proofs.lemmas.Bool.{false≢true, cond-true, cond-false}
 use Rattle.std.proofs.lemmas.List.{get_or-map}
@@ -27,7 +28,7 @@ use Rattle.gix_ref_transaction.specs.declared.packing.PackedRefs.{PackedRefs}
 use Rattle.gix_ref_transaction.specs.declared.prepare.error.Error.{Error}
 use Rattle.gix_ref_transaction.specs.declared.prepare.error.Error.TheVariants.{UnsafeName, DeviceName, DeleteMustNotExist, TargetNotFull, OtherHashKind, PreprocessingFailed, PackedTransactionAcquire, Packed, PackedFind, PackedTransactionPrepare, PathCollision, LockAcquire, DeleteReferenceMustExist, MustExist, MustNotExist, ReferenceOutOfDate, ReferenceDecode, Io, Memory}
 use Rattle.gix_ref_transaction.specs.HeldLocks.{IsHeldBack}
-use Rattle.gix_ref_files.specs.Files.{Meaning}
+use Rattle.gix_ref_files.specs.Files.{Meaning, FaultCounts}
 use Rattle.gix_ref_transaction.specs.declared.packing.PackedRefs.TheVariants as modes
 use Rattle.gix_ref_transaction.proofs.PackedLemmas.{updates_alike}
 
@@ -160,7 +161,7 @@ have_puts claims meaning s mode kind [] are = tt
 have_puts claims meaning s mode kind (e ∷ edits) are = (are.0.put_is, have_puts claims meaning s mode kind edits are.1)
 
 -- why edits are held back, where an object cannot be peeled
-module _ {F : Type 0} (honest read claims : Type 0) (means : F → Meaning) (faults : F → ℕ) (meaning : ObjectId → Stored) (s : Store) (mode : Mode) (kind : Kind) (edits : List RefEdit) (before now : F) where
+module _ {F : Type 0} (honest : Type 0) (read : FileError → Type 0) (claims : Type 0) (means : F → Meaning) (faults : F → FaultCounts) (meaning : ObjectId → Stored) (s : Store) (mode : Mode) (kind : Kind) (edits : List RefEdit) (before now : F) where
   abbrev Held : Error → Type 0
   Held = IsHeldBack honest means faults read s kind edits (IsPeelCause claims meaning s mode kind edits) before now
 

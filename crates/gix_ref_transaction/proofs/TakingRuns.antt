@@ -1,7 +1,8 @@
 -- Runs that take locks, after others.
-use Rattle.std.proofs.Common.{inl, ℕ, List, ◌++◌, sym, ap, subst, arith}
+use Rattle.gix_ref_files.proofs.Meeting.{no_fewer_joins}
+use Rattle.std.proofs.Common.{inl, List, ◌++◌, sym, ap, subst}
 use Rattle.gix_ref_files.specs.Disk.{Disk}
-use Rattle.gix_ref_files.specs.Files.{Meaning, Leaves}
+use Rattle.gix_ref_files.specs.Files.{Meaning, Leaves, FaultCounts}
 use Rattle.gix_ref_files.specs.ReadOnly.{OnlyReads}
 use Rattle.gix_ref_files.specs.Tree.{Tree, Path}
 use Rattle.gix_ref_files.proofs.Moments.{joins, weaken, passes_joins, passes_weaken}
@@ -10,7 +11,7 @@ use Rattle.gix_ref_transaction.specs.HeldLocks.{OnlyTakes}
 use Rattle.gix_ref_transaction.specs.OwnLocks.{AddsLocks}
 use Rattle.gix_ref_transaction.proofs.PackedRuns.{adds_first, leaves_both, takes_both, takes_first}
 
-module _ {F : Type 0} (honest : Type 0) (means : F → Meaning) (faults : F → ℕ) where
+module _ {F : Type 0} (honest : Type 0) (means : F → Meaning) (faults : F → FaultCounts) where
   -- a run that only reads takes no lock
   pub reads_take : (locks : List Path) (a b : F) → OnlyReads honest means faults a b → OnlyTakes honest means faults locks a b
   reads_take locks a b reads = record {
@@ -27,7 +28,7 @@ module _ {F : Type 0} (honest : Type 0) (means : F → Meaning) (faults : F → 
     passes = λ h locked staying first own here.
         passes_joins (passes_weaken (reads.passes h) (λ (D : Disk) is. subst (IsAsBefore locked staying first) (sym is) here))
         (takes.passes h locked staying first own (subst (IsAsBefore locked staying first) (sym (reads.passes h).disk) here));
-    no_fewer = omega (arith, reads.no_fewer, takes.no_fewer);
+    no_fewer = no_fewer_joins reads.no_fewer takes.no_fewer;
   }
 
   -- some locks, and then others
@@ -35,7 +36,7 @@ module _ {F : Type 0} (honest : Type 0) (means : F → Meaning) (faults : F → 
   takes_then_more xs ys a b d first next = record {
     leaves = λ h. leaves_both xs ys (means a) (means b) (means d) (first.leaves h) (next.leaves h);
     passes = λ h. takes_both xs ys (means a) (means b) (means d) (first.passes h) (next.passes h);
-    no_fewer = omega (arith, first.no_fewer, next.no_fewer);
+    no_fewer = no_fewer_joins first.no_fewer next.no_fewer;
   }
 
   -- the first of them alone

@@ -1,4 +1,6 @@
 -- Why the record of an edit cannot be read, from the searches among open records.
+use Rattle.gix_ref_files.specs.declared.files.FileError.{FileError}
+use Rattle.gix_ref_files.specs.Files.{FaultCounts}
 use Rattle.std.proofs.Common.{◌≡◌, ◌<◌, ℕ, List, None, length, get_or, sym, ◌∙◌, ap, arith}
 use Rattle.std.proofs.lemmas.List.{get_or-map, length-map}
 use Rattle.gix_ref_hash.specs.declared.hash.Kind.{Kind}
@@ -22,7 +24,7 @@ use Rattle.gix_ref_transaction.specs.internal.StuckRecords.{IsFindError, IsStuck
 use Rattle.gix_ref_transaction.proofs.PackedLemmas.{updates_alike}
 
 -- why no record was found, as it is reported
-pub found_cause : (honest fault unreadable : Type 0) (refused : OpenError → Type 0) (error : LookupError) → honest → IsNotPacked honest fault unreadable refused error → OfFind unreadable (as_cause error)
+pub found_cause : (honest : Type 0) (fault : FileError → Type 0) (unreadable : Type 0) (refused : OpenError → Type 0) (error : LookupError) → honest → IsNotPacked honest fault unreadable refused error → OfFind unreadable (as_cause error)
 found_cause honest fault unreadable refused (PackedOpen error) h told = tt
 found_cause honest fault unreadable refused (PackedRef finding.Parse) h told = told h
 found_cause honest fault unreadable refused (PackedRef (finding.RefnameValidation error)) h told = absurd told
@@ -33,7 +35,7 @@ found_cause honest fault unreadable refused (ReadFileContents source path) h tol
 found_cause honest fault unreadable refused (ReferenceCreation source path) h told = tt
 
 -- an error that is counted by files alone is another
-pub no_find : (P : Type 0) (before now : ℕ) (error : Error) → IsCounted before now error → OfFind P error
+pub no_find : (P : Type 0) (before now : FaultCounts) (error : Error) → IsCounted before now error → OfFind P error
 no_find P before now (PackedFind error) counted = absurd counted
 no_find P before now (Packed error) counted = tt
 no_find P before now (Io error) counted = tt

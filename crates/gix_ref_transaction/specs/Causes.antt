@@ -9,7 +9,7 @@ use Rattle.gix_ref_base.specs.Targets.{TargetValue, target_value}
 use Rattle.gix_ref_base.specs.Targets.TargetValue.{object_id, symbolic_name}
 use Rattle.gix_ref_hash.specs.declared.hash.Kind.{Kind}
 use Rattle.gix_ref_files.specs.Tree.{Tree, Path, Content, is_blocked, is_file, fronts}
-use Rattle.gix_ref_files.specs.Files.{HasRisen}
+use Rattle.gix_ref_files.specs.Files.{FaultCounts, IsMet}
 use Rattle.gix_ref_files.specs.declared.files.FileError.{FileError}
 use Rattle.gix_ref_files.specs.declared.files.FileError.TheVariants.{Device, NotUtf8, Memory as out_of_memory}
 use Rattle.gix_ref_theory.specs.Views.{View}
@@ -46,17 +46,18 @@ cause_of (Device kind) = Io (Device kind)
 cause_of NotUtf8 = Io NotUtf8
 cause_of out_of_memory = Memory
 
--- `Io` is returned only where the count of faults rose, and never for want of memory.
-abbrev pub IsCounted : ℕ → ℕ → Error → Type 0
-IsCounted before now (Io error) = HasRisen before now × (error ≡ out_of_memory → ⊥)
+-- `Io` is returned only with a fault that was counted, and never for want of memory.
+abbrev pub IsCounted : FaultCounts → FaultCounts → Error → Type 0
+IsCounted before now (Io error) = IsMet error before now × (error ≡ out_of_memory → ⊥)
 IsCounted before now (Packed error) = ⊥
 IsCounted before now (PackedFind error) = ⊥
 IsCounted before now other = Unit {0}
 
 -- And so where `packed-refs` is read too: of honest files, `Packed` of `Io` is returned only where that count rose, or a read by a reader
 -- failed.
-abbrev pub IsCountedWith : (honest read : Type 0) → ℕ → ℕ → Error → Type 0
-IsCountedWith honest read before now (Packed (unread error)) = honest → (HasRisen before now ⊎ read)
+abbrev pub IsCountedWith : (honest : Type 0) → (read : FileError → Type 0) → FaultCounts → FaultCounts → Error →
+    Type 0
+IsCountedWith honest read before now (Packed (unread error)) = honest → (IsMet error before now ⊎ read error)
     × (error ≡ out_of_memory → ⊥)
 IsCountedWith honest read before now (Packed error) = Unit {0}
 IsCountedWith honest read before now (PackedFind error) = Unit {0}

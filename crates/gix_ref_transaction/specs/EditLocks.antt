@@ -1,6 +1,6 @@
 -- What the taking of the lock of one edit leaves, and its text.
-use Rattle.std.specs.Prelude.{◌≡◌, ◌≤◌, ◌⊎◌, ℕ, List, [], ◌∷◌, Some, false}
-use Rattle.gix_ref_files.specs.Files.{Meaning, disk_of, Leaves, Passes}
+use Rattle.std.specs.Prelude.{◌≡◌, ◌⊎◌, ℕ, List, [], ◌∷◌, Some, false}
+use Rattle.gix_ref_files.specs.Files.{Meaning, disk_of, Leaves, Passes, FaultCounts, NoFewer}
 use Rattle.gix_ref_files.specs.Lock.{lock_of, LockingOn}
 use Rattle.gix_ref_files.specs.Settled.{IsWholeAt}
 use Rattle.gix_ref_files.specs.Tree.{Tree, Path}
@@ -32,11 +32,11 @@ pub record IsLockTaken (old new : Meaning) (lock : Path) : Type 0 where
   pub whole : IsWholeAt (disk_of new) lock []
 
 -- A fault of files or of memory; it is `Io` only where the count of faults rose.
-pub record IsFileOrMemoryFault (before now : ℕ) (error : Error) : Type 0 where
+pub record IsFileOrMemoryFault (before now : FaultCounts) (error : Error) : Type 0 where
   pub outside : IsIoOrMemory error
   pub counted : IsCounted before now error
 
-module _ {F : Type 0} (honest : Type 0) (means : F → Meaning) (faults : F → ℕ) where
+module _ {F : Type 0} (honest : Type 0) (means : F → Meaning) (faults : F → FaultCounts) where
   -- A run that takes the lock of this place, or fails to, and does nothing else but make folders that lead to it: on honest files no stop in
   -- it leaves another tree, and none finds another disk; and no fault is forgotten.
   pub record TakesItsLock (place : Path) (before now : F) : Type 0 where
@@ -44,7 +44,7 @@ module _ {F : Type 0} (honest : Type 0) (means : F → Meaning) (faults : F → 
         (AddsLocks (lock_of place ∷ []) (lock_of place ∷ []) (means before).tree)
     pub passes : honest → Passes (means before) (means now)
         (LockingOn (disk_of (means before)) place)
-    pub no_fewer : faults before ≤ faults now
+    pub no_fewer : NoFewer (faults before) (faults now)
 
   -- Why the lock of an edit of this name is not taken. Nothing was added then but folders; and it is `Io` only where the count of faults rose.
   pub record IsNotTaken (name : List ℕ) (lock : Path) (before now : F)
@@ -60,7 +60,7 @@ module _ {F : Type 0} (honest : Type 0) (means : F → Meaning) (faults : F → 
         Leaves (means before) (means now) (FillsLock (means before).tree lock)
     pub passes : honest → Passes (means before) (means now)
         (FillingOn (disk_of (means before)) lock)
-    pub no_fewer : faults before ≤ faults now
+    pub no_fewer : NoFewer (faults before) (faults now)
 
   -- Why an edit with the id of its record is not accepted, by its own cause; and it is `Io` only where the count of faults rose.
   pub record IsNotAccepted (s : Store) (edit : Edit) (Cause : Error → Type 0) (before now : F)

@@ -2,7 +2,8 @@
 use Rattle.std.specs.Prelude.{◌≡◌, ◌≤◌, ◌⊎◌, ℕ, List, [], true, Option, None, Vec, length, map, take}
 use Rattle.std.specs.declared.alloc.Global.{Global}
 use Rattle.gix_ref_hash.specs.declared.hash.Kind.{Kind}
-use Rattle.gix_ref_files.specs.Files.{Meaning, disk_of, Leaves}
+use Rattle.gix_ref_files.specs.declared.files.FileError.{FileError}
+use Rattle.gix_ref_files.specs.Files.{Meaning, disk_of, Leaves, FaultCounts, NoFewer}
 use Rattle.gix_ref_files.specs.Lock.{lock_of}
 use Rattle.gix_ref_files.specs.Tree.{Tree, Path}
 use Rattle.gix_ref_theory.specs.OnRealTrees.{view_of}
@@ -26,12 +27,12 @@ pub record AreReady (s : Store) (kind : Kind) (edits : List Edit) : Type 0 where
 
 -- A run that takes some of these locks and gives them texts, and does nothing else but make folders that lead to them: on honest files no
 -- stop in it leaves another tree, and none finds another disk; and no fault is forgotten.
-pub record OnlyTakes {F : Type 0} (honest : Type 0) (means : F → Meaning) (faults : F → ℕ)
+pub record OnlyTakes {F : Type 0} (honest : Type 0) (means : F → Meaning) (faults : F → FaultCounts)
     (locks : List Path) (before now : F) : Type 0 where
   pub leaves : honest → Leaves (means before) (means now)
       (AddsLocks locks locks (means before).tree)
   pub passes : honest → OnlyLocks locks (means before) (means now)
-  pub no_fewer : faults before ≤ faults now
+  pub no_fewer : NoFewer (faults before) (faults now)
 
 -- All locks of these edits are taken: where the records are `known`, each edit is settled; each lock could be taken, and has a whole text.
 pub record AreTaken (known : Type 0) (s : Store) (mode : Mode) (kind : Kind) (locks : List Path)
@@ -68,7 +69,7 @@ pub record HoldsPackedLock
   pub empty : honest → AreEmpty new (map lock_of (packed_places packed))
   pub free : honest → IsPackedLocked s mode old edits → ⊥
 
-module _ {F : Type 0} (honest : Type 0) (means : F → Meaning) (faults : F → ℕ) where
+module _ {F : Type 0} (honest : Type 0) (means : F → Meaning) (faults : F → FaultCounts) where
   -- Why the locks of edits with the ids of their records are not taken: the first cause; and `Io` only where the count of faults rose.
   pub record IsTakingFault (s : Store) (kind : Kind) (edits : List Edit) (before now : F)
       (error : Error) : Type 0 where
@@ -86,7 +87,7 @@ module _ {F : Type 0} (honest : Type 0) (means : F → Meaning) (faults : F → 
   -- Why no lock is held. Where `packed-refs` is well formed, it is this cause, or a fault of files or of memory; `Packed` is returned for a
   -- `packed-refs` that is refused, and `PackedFind` where the record of an edit is asked for and cannot be read; a fault of files came with a
   -- rise of their count, or a read by a reader failed.
-  pub record IsHeldBack (read : Type 0) (s : Store) (kind : Kind) (edits : List RefEdit)
+  pub record IsHeldBack (read : FileError → Type 0) (s : Store) (kind : Kind) (edits : List RefEdit)
       (Cause : Error → Type 0) (before now : F) (error : Error) : Type 0 where
     pub cause : honest → IsPackedWell kind (view_of (means before).tree s.packed_path) →
         IsIoOrMemory error ⊎ Cause error

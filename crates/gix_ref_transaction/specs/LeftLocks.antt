@@ -2,7 +2,7 @@
 use Rattle.std.specs.Prelude.{◌≡◌, ◌≤◌, ◌<◌, ◌+◌, ◌⊎◌, ℕ, List, [], ◌∷◌, ◌++◌, Bool, true, Vec, vec_len, if◌then◌else◌}
 use Rattle.std.specs.Vec.{vec_capacity}
 use Rattle.std.specs.declared.alloc.Global.{Global}
-use Rattle.gix_ref_files.specs.Files.{Meaning, Leaves, HasRisenBy}
+use Rattle.gix_ref_files.specs.Files.{Meaning, Leaves, HasRisenBy, FaultCounts, NoFewer}
 use Rattle.gix_ref_files.specs.Lock.{lock_of}
 use Rattle.gix_ref_files.specs.Tree.{Path}
 use Rattle.gix_ref_transaction.specs.OwnLocks.{paths_of, is_in, times, OnlyRemoves, RemovesLocks}
@@ -26,15 +26,15 @@ pub record HasRoomForEdits (held : Vec Edit Global) (remains : Remains) : Type 0
 
 -- A run that removes some of these locks, and does nothing else: on honest files no stop in it leaves another tree, and none finds another
 -- disk; and no fault is forgotten.
-pub record OnlyReleases {F : Type 0} (honest : Type 0) (means : F → Meaning) (faults : F → ℕ)
+pub record OnlyReleases {F : Type 0} (honest : Type 0) (means : F → Meaning) (faults : F → FaultCounts)
     (locks : List Path) (before now : F) : Type 0 where
   pub leaves : honest → Leaves (means before) (means now) (RemovesLocks locks (means before).tree)
   pub passes : honest → OnlyRemoves locks (means before) (means now)
-  pub no_fewer : faults before ≤ faults now
+  pub no_fewer : NoFewer (faults before) (faults now)
 
 -- The locks that are left are among these, each is named no more often than it is among them, and the count of faults rose by one for each.
 pub record AreNamedOnce (locks : List Path) (left : Vec (Vec ℕ Global) Global)
-    (before now : ℕ) : Type 0 where
+    (before now : FaultCounts) : Type 0 where
   pub ours : (q : Path) → is_in (paths_of left.items) q ≡ true → is_in locks q ≡ true
   pub once : (q : Path) → times q (paths_of left.items) ≤ times q locks
   pub named : HasRisenBy (vec_len left) before now
@@ -42,7 +42,7 @@ pub record AreNamedOnce (locks : List Path) (left : Vec (Vec ℕ Global) Global)
 -- Some of these locks, so many at the most, are named behind those that were left already, without more memory; and the count of faults rose
 -- by one for each that is left, if it had for those that were left already.
 pub record NamesMore (locks : List Path) (most : ℕ) (old new : Vec (Vec ℕ Global) Global)
-    (before now : ℕ) : Type 0 where
+    (before now : FaultCounts) : Type 0 where
   pub ours : (q : Path) → is_in (paths_of new.items) q ≡ true →
       (is_in (paths_of old.items) q ≡ true) ⊎ (is_in locks q ≡ true)
   pub kept : (q : Path) → is_in (paths_of old.items) q ≡ true → is_in (paths_of new.items) q ≡ true
@@ -50,7 +50,7 @@ pub record NamesMore (locks : List Path) (most : ℕ) (old new : Vec (Vec ℕ Gl
       ≤ times q (paths_of old.items) + times q locks
   pub len : vec_len new ≤ vec_len old + most
   pub room : vec_capacity new ≡ vec_capacity old
-  pub counted : (base : ℕ) → HasRisenBy (vec_len old) base before →
+  pub counted : (base : FaultCounts) → HasRisenBy (vec_len old) base before →
       HasRisenBy (vec_len new) base now
 
 -- The edits are handed back, in their order, with the place and the log of the one at which a commit ended.

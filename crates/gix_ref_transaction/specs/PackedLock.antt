@@ -1,6 +1,6 @@
 -- What the taking of the lock of `packed-refs` leaves, and why it fails.
-use Rattle.std.specs.Prelude.{◌≡◌, ◌⊎◌, ℕ, List, [], Option, Some, map}
-use Rattle.gix_ref_files.specs.Files.{Meaning, disk_of}
+use Rattle.std.specs.Prelude.{◌≡◌, ◌⊎◌, List, [], Option, Some, map}
+use Rattle.gix_ref_files.specs.Files.{Meaning, disk_of, FaultCounts}
 use Rattle.gix_ref_files.specs.Lock.{lock_of}
 use Rattle.gix_ref_files.specs.Settled.{IsWholeAt}
 use Rattle.gix_ref_files.specs.Tree.{Path}
@@ -31,7 +31,7 @@ pub record IsPackedTakenWhereDue (honest : Type 0) (s : Store) (mode : Mode) (ed
 
 -- It is not taken, and nothing is added but folders on these ways, by this cause or by a fault of files or of memory; and `Io` only where
 -- the count of faults rose.
-pub record IsPackedFault {F : Type 0} (honest : Type 0) (means : F → Meaning) (faults : F → ℕ)
+pub record IsPackedFault {F : Type 0} (honest : Type 0) (means : F → Meaning) (faults : F → FaultCounts)
     (ways : List Path) (Cause : Error → Type 0) (before now : F) (error : Error) : Type 0 where
   pub cause : honest → IsIoOrMemory error ⊎ Cause error
   pub kept : honest → AddsLocks [] ways (means before).tree (means now).tree

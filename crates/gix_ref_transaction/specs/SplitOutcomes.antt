@@ -1,7 +1,7 @@
 -- What the splitting of a transaction's edits returns, and why it fails.
-use Rattle.std.specs.Prelude.{◌≡◌, ◌⊎◌, ℕ, List, [], All, vec_len}
+use Rattle.std.specs.Prelude.{◌≡◌, ◌⊎◌, List, [], All, vec_len}
 use Rattle.gix_ref_hash.specs.declared.hash.Kind.{Kind}
-use Rattle.gix_ref_files.specs.Files.{Meaning}
+use Rattle.gix_ref_files.specs.Files.{Meaning, FaultCounts}
 use Rattle.gix_ref_files.specs.Tree.{Tree}
 use Rattle.gix_ref_theory.specs.OnRealTrees.{view_of}
 use Rattle.gix_ref_theory.specs.Readings.{Store}
@@ -27,7 +27,7 @@ pub record IsSplitOf (honest : Type 0) (s : Store) (kind : Kind) (T : Tree) (giv
 
 -- Why there is no split list: a fault of files or of memory, the name of an edit that is looked up, or too many rounds; and `Io` only where the
 -- count of faults rose.
-pub record IsNotSplit {F : Type 0} (honest : Type 0) (means : F → Meaning) (faults : F → ℕ)
+pub record IsNotSplit {F : Type 0} (honest : Type 0) (means : F → Meaning) (faults : F → FaultCounts)
     (s : Store) (given : List RefEdit) (before now : F) (error : Error) : Type 0 where
   pub cause : honest → IsIoOrMemory error
       ⊎ (IsFirstMisnamed s (all_rounds s (view_of (means before).tree) given) error

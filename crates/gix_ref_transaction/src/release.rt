@@ -4,7 +4,7 @@ ghost use Rattle.std.specs.Vec.{vec_capacity};
 ghost use Rattle.std.specs.Bool.{OnFalse};
 ghost use Rattle.gix_ref_files.specs.Lock.{lock_of};
 ghost use Rattle.gix_ref_files.specs.Tree.{Path, is_file};
-ghost use Rattle.gix_ref_files.specs.Files.{AtEveryStop, OnEveryDisk, HasRisen};
+ghost use Rattle.gix_ref_files.specs.Files.{AtEveryStop, OnEveryDisk, HasRisen, NoFewer};
 ghost use Rattle.gix_ref_files.specs.DiskCalls.{RemovingFileOn};
 ghost use Rattle.gix_ref_transaction.specs.OwnLocks.{paths_of, RemovesLocks, is_in};
 ghost use Rattle.gix_ref_transaction.specs.CommitRenames.{lock_at, path_in, stays_at};
@@ -101,7 +101,7 @@ fn remove_lock<F: Files>(files: &mut F, lock: &[u8]) -> bool
         (RemovesLocks (lock.now ∷ [])) }
     ensures passes { F.honest → OnEveryDisk F.means files.old files.new
         (λ D. RemovingFileOn D lock.now) }
-    ensures no_fewer { F.faults files.old ≤ F.faults files.new }
+    ensures no_fewer { NoFewer (F.faults files.old) (F.faults files.new) }
     ensures counted { OnFalse result (HasRisen (F.faults files.old) (F.faults files.new)) }
 {
     match files.remove_file(lock) {
@@ -139,7 +139,7 @@ fn release<F: Files>(files: &mut F, done: usize, at: usize, edit: &Edit) -> bool
         (RemovesLocks (lock_of edit.now.lock ∷ [])) }
     ensures passes { F.honest → OnEveryDisk F.means files.old files.new
         (λ D. RemovingFileOn D (lock_of edit.now.lock)) }
-    ensures no_fewer { F.faults files.old ≤ F.faults files.new }
+    ensures no_fewer { NoFewer (F.faults files.old) (F.faults files.new) }
     ensures counted { OnFalse result (HasRisen (F.faults files.old) (F.faults files.new)) }
 {
     if at < done && edit.effect.is_write() {

@@ -4,7 +4,7 @@ use Rattle.gix_ref_hash.specs.declared.hash.Kind.{Kind}
 use Rattle.gix_ref_hash.specs.declared.hash.ObjectId.{ObjectId}
 use Rattle.gix_ref_base.specs.PackedRecords.{Record}
 use Rattle.gix_ref_files.specs.Disk.{Disk, Lost}
-use Rattle.gix_ref_files.specs.Files.{Meaning}
+use Rattle.gix_ref_files.specs.Files.{Meaning, FaultCounts}
 use Rattle.gix_ref_files.specs.Lock.{lock_of}
 use Rattle.gix_ref_files.specs.Settled.{IsAllSettled}
 use Rattle.gix_ref_files.specs.Tree.{Path, Tree, file_of}
@@ -101,7 +101,7 @@ lost_reading s laws D T settled lost name is =
     kept : (q : Path) → ((p : Path) → q ≢ lock_of p) → view_of T q ≡ view_of D.tree q
     kept q no_lock = lost_holds D T (view_of D.tree q) (λ (file : Option (List ℕ)). file ≡ view_of D.tree q) q (settled q no_lock) refl lost
 
-module _ {F : Type 0} (honest : Type 0) (means : F → Meaning) (faults : F → ℕ) where
+module _ {F : Type 0} (honest : Type 0) (means : F → Meaning) (faults : F → FaultCounts) where
   -- the same view in a store that means the same
   packed_same : (old new : Store F) → IsSameStore old new → (rs : List Record) → ArePackedRecords (kind_of old) (view_in means new (meaning_of old).packed_path) rs → AreRecordsIn means new rs
   packed_same old new same rs are =

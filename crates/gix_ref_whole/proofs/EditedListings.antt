@@ -1,7 +1,8 @@
 -- The items of a listing, by what each reference reads as edited.
-use Rattle.std.proofs.Common.{◌≡◌, ◌⊎◌, inl, inr, ⊎_elim, arith, ℕ, Bool, true, false, List, [], ◌∷◌, ◌++◌, refl, sym, ◌∙◌, ap, subst, Option, Some, None, Result, Ok, Err, IfOk, codes, append-nil, append_assoc}
+use Rattle.std.proofs.Common.{◌≡◌, ◌⊎◌, inl, inr, ℕ, Bool, true, false, List, [], ◌∷◌, ◌++◌, refl, sym, ◌∙◌, ap, subst, Option, Some, None, Result, Ok, Err, IfOk, codes, append-nil, append_assoc}
+use Rattle.gix_ref_files.proofs.Meeting.{no_fewer_joins}
 use Rattle.std.specs.declared.alloc.Global.{Global}
-use Rattle.std.specs.Prelude.{◌≤◌, Vec, ◌&&◌, is_none, is_some, option_to_list}
+use Rattle.std.specs.Prelude.{Vec, ◌&&◌, is_none, is_some, option_to_list}
 use Rattle.std.specs.Iterator.{Yields}
 use Rattle.std.specs.List.{AllByRecursion}
 use Rattle.gix_ref_grammar.specs.NameGrammar.{IsPartialName}
@@ -9,7 +10,7 @@ use Rattle.gix_ref_hash.specs.Bytes.{BeginsWith}
 use Rattle.gix_ref_base.specs.Locations.{is_safe}
 use Rattle.gix_ref_base.specs.PackedRecords.{Record}
 use Rattle.gix_ref_base.proofs.LocationLemmas.{safe_is_tested}
-use Rattle.gix_ref_files.specs.Files.{Meaning}
+use Rattle.gix_ref_files.specs.Files.{Meaning, FaultCounts, NoFewer}
 use Rattle.gix_ref_files.specs.declared.files.ReadAt.{Ghosts}
 use Rattle.gix_ref_files.specs.Tree.{Path, Tree}
 use Rattle.gix_ref_files.proofs.Moments.{starts}
@@ -32,7 +33,8 @@ use Rattle.gix_ref_listing.specs.declared.list.LooseNames.{LooseNames}
 use Rattle.gix_ref_listing.specs.declared.prefix.Error.{Error as PrefixError}
 use Rattle.gix_ref_listing.specs.declared.prefix.Error.TheVariants as no_list
 use Rattle.gix_ref_listing.specs.declared.found.Found.TheVariants.{File, Unlisted}
-use Rattle.gix_ref_listing.proofs.FolderWalks.{risen_on, unchanged_on}
+use Rattle.gix_ref_listing.proofs.FolderWalks.{unchanged_on}
+use Rattle.gix_ref_listing.proofs.Listing.{names_on}
 use Rattle.gix_ref_store.specs.Listings.{AreFirst, IsNoListing, IsWalkedIn, IteratesListing, NextItem, count_in, store_listed, walked_prefix}
 use Rattle.gix_ref_store.specs.Lookup.{AreRecordsIn, LooksUp, settings_of, view_in}
 use Rattle.gix_ref_store.specs.Store.{files_of, folders, kind_of, meaning_of, IsSameStore}
@@ -73,12 +75,12 @@ module _ (settings : Settings) (view : View) (composed : AreComposed settings vi
     all_read [] names there read = tt
     all_read (one ∷ ones) names there read = (subst (λ r. is_there r ≡ true) (sym (agree_at one names.0 there.0)) read.0, all_read ones names.1 there.1 read.1)
 
-    one_item : (before now : ℕ) (one : Listed) (item : Result Reference Error) → reads (listed_key one) ≡ found (listed_key one) → IsItemOf s found before now one item → IsItemOf s reads before now one item
+    one_item : (before now : FaultCounts) (one : Listed) (item : Result Reference Error) → reads (listed_key one) ≡ found (listed_key one) → IsItemOf s found before now one item → IsItemOf s reads before now one item
     one_item before now one (Err e) same item = subst (λ r. IsReadingFault s before now (listed_key one) r e) (sym same) item
     one_item before now one (Ok r) same (name, target) = (name, λ may. subst (λ n. reads n ≡ found n) (sym name) same ∙ target may)
 
-    module _ {F : Type 0} (honest : Type 0) (h : honest) (means : F → Meaning) (faults : F → ℕ) (now : ℕ) where
-      all_items : (items : List (Result Reference Error)) (before : ℕ) (ones : List Listed) → AllByRecursion IsNameItem ones → AllByRecursion (IsInStore settings view records prefix) ones →
+    module _ {F : Type 0} (honest : Type 0) (h : honest) (means : F → Meaning) (faults : F → FaultCounts) (now : FaultCounts) where
+      all_items : (items : List (Result Reference Error)) (before : FaultCounts) (ones : List Listed) → AllByRecursion IsNameItem ones → AllByRecursion (IsInStore settings view records prefix) ones →
           ((l : Listed) → Among (λ x. l ≡ x) ones → Among (λ x. l ≡ x) listed) → AreFirst honest means faults settings view before now ones [] items → AreItemsOf s reads before now ones items
       all_items [] before ones names_are there within first = subst (λ os. AreItemsOf s reads before now os []) (sym first.1) first.0
       all_items (item ∷ items) before ones names_are there within (mid, one, more, same, up, is_item, later) =
@@ -92,7 +94,7 @@ module _ (settings : Settings) (view : View) (composed : AreComposed settings vi
             all_items items mid more names'.1 there'.1 (λ l w. within' l (inr w)) later,
           )
 
-      pub lists_readings : (items : List (Result Reference Error)) (before : ℕ) → AreFirst honest means faults settings view before now listed [] items → ListsReadings s reads before now prefix items
+      pub lists_readings : (items : List (Result Reference Error)) (before : FaultCounts) → AreFirst honest means faults settings view before now listed [] items → ListsReadings s reads before now prefix items
       lists_readings items before first = record {
         listed = listed;
         ascending = is.ascending;
@@ -112,7 +114,7 @@ yields_more steps s t u (first ∷ items) item (mid, one, gave) next = (mid, one
 true_is_not : true ≡ false → ⊥
 true_is_not h = cc
 
-module _ {F : Type 0} (honest : Type 0) (means : F → Meaning) (faults : F → ℕ) where
+module _ {F : Type 0} (honest : Type 0) (means : F → Meaning) (faults : F → FaultCounts) where
   -- one look after another
   pub looks_on : (old mid new : Store F) → LooksUp honest means old mid → LooksUp honest means mid new → LooksUp honest means old new
   looks_on old mid new first second = record {
@@ -161,34 +163,34 @@ module _ {F : Type 0} (honest : Type 0) (means : F → Meaning) (faults : F → 
   -- ---- the whole listing
 
   -- the count of faults does not fall while items are given
-  rises : (settings : Settings) (view : View) (before now : ℕ) (listed rest : List Listed) (items : List (Result Reference Error)) → AreFirst honest means faults settings view before now listed rest items → before ≤ now
+  rises : (settings : Settings) (view : View) (before now : FaultCounts) (listed rest : List Listed) (items : List (Result Reference Error)) → AreFirst honest means faults settings view before now listed rest items → NoFewer before now
   rises settings view before now listed rest [] first = first.0
-  rises settings view before now listed rest (item ∷ items) (mid, one, more, same, up, is, later) = let on = rises settings view mid now more rest items later in omega (arith, up, on)
+  rises settings view before now listed rest (item ∷ items) (mid, one, more, same, up, is, later) = let on = rises settings view mid now more rest items later in no_fewer_joins up on
 
   -- the items of a listing whose iterator ended in the store `new`
   pub items_in : (start new : Store F) (records : List Record) (prefix : List ℕ) (it t : LooseThenPacked F Remaining) (items : List (Result Reference Error)) → IteratesListing honest means faults start records prefix it →
       GivesAll honest means faults it t items → store_listed t ≡ new → AreItemsIn honest means faults start (faults (files_of start)) (faults (files_of new)) records prefix items
   items_in start new records prefix it t items l all is =
       let first = l.runs items all.last all.gives in
-      let last : count_in honest means faults all.last ≤ faults (files_of new) = subst (λ (x : Store F). count_in honest means faults all.last ≤ faults (files_of x)) is all.ends.gives.rises in
+      let last : NoFewer (count_in honest means faults all.last) (faults (files_of new)) = subst (λ (x : Store F). NoFewer (count_in honest means faults all.last) (faults (files_of x))) is all.ends.gives.rises in
       let given = rises (settings_of start) (view_in means start) (count_in honest means faults it) (count_in honest means faults all.last) l.listed first.rest items first.first in
       record {
         listed = l.listed;
         is = l.is;
-        names = ⊎_elim (λ names. inl names) (λ risen. inr (risen_on (faults (files_of start)) (count_in honest means faults it) (faults (files_of new)) risen (omega (arith, last, given)))) l.names;
+        names = names_on (faults (files_of start)) (count_in honest means faults it) (faults (files_of new)) l.listed (no_fewer_joins given last) l.names;
         first = subst (λ rest. AreFirst honest means faults (settings_of start) (view_in means start) (faults (files_of start)) (faults (files_of new)) l.listed rest items) (first.ends t all.ends)
             (first_from honest means faults (settings_of start) (view_in means start) (faults (files_of start)) (count_in honest means faults it) (faults (files_of new)) l.listed first.rest items l.counts
             (first_to honest means faults (settings_of start) (view_in means start) (count_in honest means faults it) (count_in honest means faults all.last) (faults (files_of new)) l.listed first.rest items last first.first));
       }
 
-  one_is_name : (settings : Settings) (view : View) (before now : ℕ) (one : Listed) (item : Result Reference Error) → IsItem honest settings view before now one item → IsNoFolder item → IsNameItem one
+  one_is_name : (settings : Settings) (view : View) (before now : FaultCounts) (one : Listed) (item : Result Reference Error) → IsItem honest settings view before now one item → IsNoFolder item → IsNameItem one
   one_is_name settings view before now (InPacked own) item is plain = tt
   one_is_name settings view before now (Walked (key, File n path)) item is plain = tt
   one_is_name settings view before now (Walked (key, Unlisted path source)) (Ok r) is plain = is
   one_is_name settings view before now (Walked (key, Unlisted path source)) (Err e) is plain = subst (λ (x : Error). IsNoFolder (Err x)) is plain
 
   -- where no item is a folder, each is a name
-  all_names : (settings : Settings) (view : View) (items : List (Result Reference Error)) (before now : ℕ) (ones : List Listed) → AreFirst honest means faults settings view before now ones [] items →
+  all_names : (settings : Settings) (view : View) (items : List (Result Reference Error)) (before now : FaultCounts) (ones : List Listed) → AreFirst honest means faults settings view before now ones [] items →
       AllByRecursion IsNoFolder items → AllByRecursion IsNameItem ones
   all_names settings view [] before now ones first plain = subst (AllByRecursion IsNameItem) (sym first.1) tt
   all_names settings view (item ∷ items) before now ones (mid, one, more, same, up, is, later) plain =

@@ -1,5 +1,6 @@
 -- What a lookup of a full name finds, by what the name reads.
 use Rattle.std.proofs.Common.{◌≡◌, ◌⊎◌, ◌||◌, inl, inr, ℕ, Bool, true, false, List, [], ◌∷◌, ◌++◌, drop, map, refl, sym, ◌∙◌, ap, subst, Option, Some, None, Result, Ok, Err, cond, if◌then◌else◌, codes}
+use Rattle.gix_ref_files.specs.declared.files.FileError.{FileError}
 use Rattle.std.specs.Option.{option_map}
 use Rattle.gix_ref_name.specs.Candidates.{candidates, is_pseudo, is_rooted, remote_head}
 use Rattle.gix_ref_name.specs.declared.name.PartialName.{PartialName}
@@ -10,14 +11,13 @@ use Rattle.gix_ref_theory.specs.Lookups.{Hit, hit, first_hit, hit_or_head, looku
 use Rattle.gix_ref_theory.specs.Readings.{Store, Reading, reading_among, reading_by, reading_of_loose, records_of_file}
 use Rattle.gix_ref_theory.specs.Readings.Reading.{Is, Fault, Absent}
 use Rattle.gix_ref_theory.specs.Views.{View}
-use Rattle.gix_ref_files.specs.Files.{HasRisen}
+use Rattle.gix_ref_files.specs.Files.{FaultCounts}
 use Rattle.gix_ref_files.specs.Tree.{Tree}
 use Rattle.gix_ref_files.specs.declared.files.ReadAt.{Ghosts}
-use Rattle.gix_ref_packed.specs.OpenFiles.{HasReadFault}
 use Rattle.gix_ref_packed.specs.declared.packed.buffer.open.Error.TheVariants.{Iter, HeaderParsing, Io, Memory as open_memory}
 use Rattle.gix_ref_theory.specs.OnRealTrees.{view_of}
 use Rattle.gix_ref_lookup.specs.LooseFiles.{IsUndecodable}
-use Rattle.gix_ref_lookup.specs.Lookups.{ReturnsHit, AreAsked, CandidateFails, FailsAmong, IsSound, asked_names, lookup_of, hit_given, meaning_in, name_asked}
+use Rattle.gix_ref_lookup.specs.Lookups.{ReturnsHit, AreAsked, CandidateFails, FailsAmong, IsSound, asked_names, lookup_of, hit_given, meaning_in, name_asked, IsFaultOf}
 use Rattle.std.specs.Prelude.{option_to_list}
 use Rattle.gix_ref_lookup.specs.declared.settings.Settings.{Settings}
 use Rattle.gix_ref_lookup.specs.declared.loose.error.Error.{Error as Undecoded}
@@ -89,7 +89,7 @@ module _ (s : Store) (view : View) (records : List Record) (same : records_of_fi
         by_reading reads r is (subst (λ (names : List (List ℕ)). ReturnsHit (lookup s view records names (remote_head name)) r) (asked_first name asked.first) plain)
 
     -- and so the result of `find`
-    pub found_as : (failed : Type 0) (reads : Reading) (found : Result Reference Missing) → reading_among s view records name ≡ reads →
+    pub found_as : (failed : FileError → Type 0) (reads : Reading) (found : Result Reference Missing) → reading_among s view records name ≡ reads →
         ((r : Reference) → found ≡ Ok r → ReturnsHit (lookup_of composes s view records name) (Some r)) →
         ((n : PartialName) → found ≡ Err (NotFound n) → ReturnsHit (lookup_of composes s view records name) None) →
         ((e : FindError) → found ≡ Err (Find e) → IsSound e × FailsAs failed reads e) → IsFoundAs s view name failed reads found
@@ -106,12 +106,12 @@ absent_is_none : (a : TargetValue) → Absent ≡ Is a → ⊥
 absent_is_none a is = cc
 
 module _ {R : Type 0} (G : Ghosts R) (honest : Type 0) (h : honest) (settings : Settings) (T : Tree) (records : List Record) (are : AreAsked {G = G} settings.kind (view_of T (meaning_in settings).packed_path) Unopened records)
-    (before now : ℕ) (name : List ℕ) where
+    (before now : FaultCounts) (name : List ℕ) where
   abbrev places : Store
   places = meaning_in settings
 
-  abbrev failed : Type 0
-  failed = HasRisen before now ⊎ HasReadFault G.faults
+  abbrev failed : FileError → Type 0
+  failed = IsFaultOf G.faults before now
 
   -- a place that is prohibited reads a fault
   prohibited : (target : TargetValue) → places.is_prohibited (places.place name) ≡ true → reading_among places (view_of T) records name ≡ Is target → ⊥

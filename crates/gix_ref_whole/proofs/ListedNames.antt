@@ -1,5 +1,6 @@
 -- A listing of files and records gives what each reference reads among them.
 use Rattle.std.proofs.Common.{◌≡◌, inl, inr, ℕ, Bool, true, false, List, [], ◌∷◌, ◌++◌, refl, sym, ◌∙◌, ap, subst, Option, Some, None, Result, Ok, Err}
+use Rattle.gix_ref_files.specs.Files.{FaultCounts}
 use Rattle.std.specs.Prelude.{IsSome, is_some, if◌then◌else◌}
 use Rattle.std.specs.List.{AllByRecursion}
 use Rattle.std.specs.declared.cmp.Ordering.TheVariants.{Less, Equal}
@@ -169,7 +170,7 @@ module _ (settings : Settings) (view : View) (composed : AreComposed settings vi
     only_given names = all_there listed names is.only
 
     -- a file that holds no target reads a fault; and one that is there could not be read only where a call of files failed
-    fault_of : (honest : Type 0) → honest → (before now : ℕ) (name key path : List ℕ) (e : Error) → s.place key ≡ path → name ≡ key → IsSome (view path) → IsUnread honest settings.kind s view before now name path e →
+    fault_of : (honest : Type 0) → honest → (before now : FaultCounts) (name key path : List ℕ) (e : Error) → s.place key ≡ path → name ≡ key → IsSome (view path) → IsUnread honest settings.kind s view before now name path e →
         IsReadingFault s before now key (reads key) e
     fault_of honest h before now name key path (ReadFileContents (file_error source) p) at named there failed = (failed.0, failed.2 ∙ sym at)
     fault_of honest h before now name key path (ReadFileContents DeviceName p) at named there unread = (ap s.is_prohibited at ∙ unread.0, unread.1 ∙ sym at)
@@ -186,7 +187,7 @@ module _ (settings : Settings) (view : View) (composed : AreComposed settings vi
         by false is = is
 
     -- and each reference has the target that it reads
-    pub one_target : (honest : Type 0) → honest → AllByRecursion IsNameItem listed → (before now : ℕ) (one : Listed) (item : Result Reference Error) → IsNameItem one → Among (λ l. one ≡ l) listed → IsInStore settings view records prefix one →
+    pub one_target : (honest : Type 0) → honest → AllByRecursion IsNameItem listed → (before now : FaultCounts) (one : Listed) (item : Result Reference Error) → IsNameItem one → Among (λ l. one ≡ l) listed → IsInStore settings view records prefix one →
         IsItem honest settings view before now one item → IsItemOf s reads before now one item
     one_target honest h names before now (Walked (key, Unlisted path source)) (Err e) is_name within found item = absurd is_name
     one_target honest h names before now (Walked (key, File n path)) (Err e) is_name within (named, file) item =

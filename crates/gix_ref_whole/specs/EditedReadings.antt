@@ -1,5 +1,6 @@
 -- What a reference reads after edits, and what a lookup of its full name finds then.
 use Rattle.std.specs.Prelude.{◌≡◌, ◌||◌, ℕ, List, Bool, true, drop, Option, Some, None, Result, Ok, Err}
+use Rattle.gix_ref_files.specs.declared.files.FileError.{FileError}
 use Rattle.gix_ref_name.specs.Candidates.{candidates, is_pseudo, is_rooted, remote_head}
 use Rattle.gix_ref_name.specs.Names.{full_bytes}
 use Rattle.gix_ref_base.specs.Targets.{target_value}
@@ -11,7 +12,9 @@ use Rattle.gix_ref_theory.specs.Readings.Reading.{Is, Fault, Absent}
 use Rattle.gix_ref_theory.specs.Views.{View}
 use Rattle.gix_ref_lookup.specs.Lookups.{ReturnsHit, IsSound, name_asked}
 use Rattle.gix_ref_lookup.specs.declared.find.error.Error.{Error as FindError}
-use Rattle.gix_ref_lookup.specs.declared.find.error.Error.TheVariants.{Memory}
+use Rattle.gix_ref_lookup.specs.declared.find.error.Error.TheVariants.{Memory, PackedOpen, ReadFileContents}
+use Rattle.gix_ref_lookup.specs.declared.find.error.ReadError.TheVariants.{File as file_error}
+use Rattle.gix_ref_packed.specs.declared.packed.buffer.open.Error.TheVariants.{Io}
 use Rattle.gix_ref_lookup.specs.declared.find.existing.Error.{Error as Missing}
 use Rattle.gix_ref_lookup.specs.declared.find.existing.Error.TheVariants.{Find, NotFound}
 
@@ -43,14 +46,16 @@ AnswersName s view name Absent found = ReturnsHit
 
 -- Why a lookup of such a name has an error: there was no memory; or, where the name reads a target, a call of files failed. Where
 -- it reads a fault, that is one; where it reads nothing, one of the further names may have one.
-abbrev pub FailsAs : (failed : Type 0) → Reading → FindError → Type 0
+abbrev pub FailsAs : (failed : FileError → Type 0) → Reading → FindError → Type 0
 FailsAs failed reading Memory = Unit {0}
-FailsAs failed (Is target) error = failed
+FailsAs failed (Is target) (PackedOpen (Io error)) = failed error
+FailsAs failed (Is target) (ReadFileContents (file_error error) path) = failed error
+FailsAs failed (Is target) error = ⊥
 FailsAs failed Fault error = Unit {0}
 FailsAs failed Absent error = Unit {0}
 
 -- and so as the result of `find`; the error of a lookup is a fault of files, a file that cannot be decoded, or want of memory
-abbrev pub IsFoundAs : Store → View → List ℕ → (failed : Type 0) → Reading →
+abbrev pub IsFoundAs : Store → View → List ℕ → (failed : FileError → Type 0) → Reading →
     Result Reference Missing → Type 0
 IsFoundAs s view name failed reading (Ok r) = AnswersName s view name reading (Some r)
 IsFoundAs s view name failed reading (Err (NotFound partial)) = AnswersName s view name reading None

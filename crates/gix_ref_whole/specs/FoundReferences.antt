@@ -1,7 +1,7 @@
 -- What a lookup in a store finds: what `Store::find` says of it.
 use Rattle.std.specs.Prelude.{◌≡◌, ℕ, List, true, Some, Result, IfOk, IfErr, OnOk}
 use Rattle.gix_ref_base.specs.PackedRecords.{Record}
-use Rattle.gix_ref_files.specs.Files.{Meaning}
+use Rattle.gix_ref_files.specs.Files.{Meaning, FaultCounts}
 use Rattle.gix_ref_files.specs.declared.files.ReadAt.{Ghosts}
 use Rattle.gix_ref_records.specs.declared.raw.Reference.{Reference}
 use Rattle.gix_ref_lookup.specs.declared.find.existing.Error.{Error as Missing}
@@ -10,7 +10,7 @@ use Rattle.gix_ref_store.specs.Lookup.{AreRecordsIn, FindsAmong, HitsIn, LooksUp
 use Rattle.gix_ref_store.specs.Store.{files_of}
 use Rattle.gix_ref_store.specs.declared.file.store.Store.{Store}
 
-module _ {F : Type 0} (honest : Type 0) (means : F → Meaning) (faults : F → ℕ) where
+module _ {F : Type 0} (honest : Type 0) (means : F → Meaning) (faults : F → FaultCounts) where
   -- A lookup of a name in the store `start`, which leaves `new`. Where `packed-refs` is well formed or missing, it finds the first
   -- of the names that the name may be short for that reads something, and `NotFound` says that none does; on any text it finds a
   -- loose file of one of these names, or a record that begins a line. It fails at the first of them that is not passed, for a

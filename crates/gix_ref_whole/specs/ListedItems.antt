@@ -1,15 +1,15 @@
 -- The items of a whole listing of a store.
-use Rattle.std.specs.Prelude.{◌≡◌, ◌⊎◌, ◌++◌, ℕ, Bool, List, [], Option, None, Result, Ok, Err, Vec, is_some, option_to_list}
+use Rattle.std.specs.Prelude.{◌≡◌, ◌++◌, ℕ, Bool, List, [], Option, None, Result, Ok, Err, Vec, is_some, option_to_list}
 use Rattle.std.specs.List.{AllByRecursion}
 use Rattle.std.specs.declared.alloc.Global.{Global}
 use Rattle.std.specs.Iterator.{Yields}
 use Rattle.gix_ref_base.specs.PackedRecords.{Record}
-use Rattle.gix_ref_files.specs.Files.{Meaning, HasRisen}
+use Rattle.gix_ref_files.specs.Files.{Meaning, FaultCounts}
 use Rattle.gix_ref_files.specs.declared.files.ReadAt.{Ghosts}
 use Rattle.gix_ref_records.specs.declared.raw.Reference.{Reference}
 use Rattle.gix_ref_listing.specs.Listings.{Listed}
 use Rattle.gix_ref_listing.specs.CleanPrefixes.{IsAcceptedPrefix}
-use Rattle.gix_ref_listing.specs.WholeListings.{IsListing, IsNameItem}
+use Rattle.gix_ref_listing.specs.WholeListings.{IsListing, IsNameOrMet}
 use Rattle.gix_ref_listing.specs.declared.error.Error.{Error}
 use Rattle.gix_ref_listing.specs.declared.list.LooseNames.{LooseNames}
 use Rattle.gix_ref_listing.specs.declared.prefix.Error.{Error as PrefixError}
@@ -21,7 +21,7 @@ use Rattle.gix_ref_store.specs.declared.file.iter.LooseThenPacked.{LooseThenPack
 use Rattle.gix_ref_store.specs.declared.file.iter.Remaining.{Remaining}
 use Rattle.gix_ref_store.specs.declared.file.store.Store.{Store}
 
-module _ {F : Type 0} (honest : Type 0) (means : F → Meaning) (faults : F → ℕ) where
+module _ {F : Type 0} (honest : Type 0) (means : F → Meaning) (faults : F → FaultCounts) where
   -- the next item was added to those before it, if there was one
   pub record TakesNext (s t : LooseThenPacked F Remaining)
       (before after : List (Result Reference Error)) (more : Bool) : Type 0 where
@@ -38,12 +38,12 @@ module _ {F : Type 0} (honest : Type 0) (means : F → Meaning) (faults : F → 
     pub ends : NextItem honest means faults last None t
 
   -- These are the items of the listing of a prefix in a store, all of them, while the count of faults went from `before` to `now`.
-  -- A folder that could not be listed is among them only where that rose.
-  pub record AreItemsIn (store : Store F) (before now : ℕ) (records : List Record) (prefix : List ℕ)
+  -- A folder that could not be listed is among them only with a fault that was counted.
+  pub record AreItemsIn (store : Store F) (before now : FaultCounts) (records : List Record) (prefix : List ℕ)
       (items : List (Result Reference Error)) : Type 0 where
     pub listed : List Listed
     pub is : IsListing (settings_of store) (view_in means store) records prefix listed
-    pub names : AllByRecursion IsNameItem listed ⊎ HasRisen before now
+    pub names : AllByRecursion (IsNameOrMet before now) listed
     pub first : AreFirst honest means faults (settings_of store)
         (view_in means store) before now listed [] items
 

@@ -1,11 +1,11 @@
 -- What a listing gives, by what each reference reads.
-use Rattle.std.specs.Prelude.{◌≡◌, ◌≤◌, ℕ, List, [], ◌∷◌, ◌++◌, IsSome, Result, Ok, Err, true, false, codes}
+use Rattle.std.specs.Prelude.{◌≡◌, ℕ, List, [], ◌∷◌, ◌++◌, IsSome, Result, Ok, Err, true, false, codes}
 use Rattle.std.specs.List.{AllByRecursion}
 use Rattle.gix_ref_hash.specs.Bytes.{BeginsWith}
 use Rattle.gix_ref_grammar.specs.NameGrammar.{IsPartialName}
 use Rattle.gix_ref_name.specs.Names.{full_bytes}
 use Rattle.gix_ref_base.specs.Targets.{target_value}
-use Rattle.gix_ref_files.specs.Files.{HasRisen}
+use Rattle.gix_ref_files.specs.Files.{FaultCounts, NoFewer, IsMet}
 use Rattle.gix_ref_records.specs.declared.raw.Reference.{Reference}
 use Rattle.gix_ref_theory.specs.Lookups.{is_there}
 use Rattle.gix_ref_theory.specs.Readings.{Store, Reading}
@@ -38,20 +38,20 @@ pub record IsListable (s : Store) (prefix name : List ℕ) : Type 0 where
   pub allowed : IsAllowed s name
 
 -- Why the reference of this name is not given, while the count of faults went from `before` to `now`: its file holds no target, and
--- so it reads a fault; the file could not be read, only where the count rose; its place has the name of a device, and the store
+-- so it reads a fault; the file could not be read, by this fault, which was counted; its place has the name of a device, and the store
 -- prohibits these; or there was no memory.
-abbrev pub IsReadingFault : Store → (before now : ℕ) → (name : List ℕ) → Reading → Error → Type 0
+abbrev pub IsReadingFault : Store → (before now : FaultCounts) → (name : List ℕ) → Reading → Error → Type 0
 IsReadingFault s before now name reading (ReferenceCreation source path) = (reading ≡ Fault)
     × (path.items ≡ name)
 IsReadingFault s before now name reading (ReadFileContents (file_error source) path) =
-    HasRisen before now × (path.items ≡ s.place name)
+    IsMet source before now × (path.items ≡ s.place name)
 IsReadingFault s before now name reading (ReadFileContents DeviceName path) =
     (s.is_prohibited (s.place name) ≡ true) × (path.items ≡ s.place name)
 IsReadingFault s before now name reading Memory = Unit {0}
 IsReadingFault s before now name reading other = ⊥
 
 -- an item is the reference of this name, with the target that it reads; or a fault in its place
-abbrev pub IsItemOf : Store → (List ℕ → Reading) → (before now : ℕ) → Listed →
+abbrev pub IsItemOf : Store → (List ℕ → Reading) → (before now : FaultCounts) → Listed →
     Result Reference Error → Type 0
 IsItemOf s reads before now one (Ok r) =
     (full_bytes r.name ≡ listed_key one)
@@ -60,13 +60,13 @@ IsItemOf s reads before now one (Err error) =
     IsReadingFault s before now (listed_key one) (reads (listed_key one)) error
 
 -- And so each of them, one after the other: each is made between two counts of faults, and the next begins with the second.
-abbrev pub AreItemsOf : Store → (List ℕ → Reading) → (before now : ℕ) → List Listed →
+abbrev pub AreItemsOf : Store → (List ℕ → Reading) → (before now : FaultCounts) → List Listed →
     List (Result Reference Error) → Type 0
-AreItemsOf s reads before now [] [] = before ≤ now
+AreItemsOf s reads before now [] [] = NoFewer before now
 AreItemsOf s reads before now [] (item ∷ items) = ⊥
 AreItemsOf s reads before now (one ∷ listed) [] = ⊥
 AreItemsOf s reads before now (one ∷ listed) (item ∷ items) =
-    (mid : ℕ) × (before ≤ mid) × IsItemOf s reads before mid one item
+    (mid : FaultCounts) × NoFewer before mid × IsItemOf s reads before mid one item
     × AreItemsOf s reads mid now listed items
 
 -- it is no folder that could not be listed
@@ -76,7 +76,7 @@ IsNoFolder other = Unit {0}
 
 -- The items of a listing of the names with this prefix, while the count of faults went from `before` to `now`: by ascending names,
 -- each name that reads something, and no other, with the target that it reads.
-pub record ListsReadings (s : Store) (reads : List ℕ → Reading) (before now : ℕ) (prefix : List ℕ)
+pub record ListsReadings (s : Store) (reads : List ℕ → Reading) (before now : FaultCounts) (prefix : List ℕ)
     (items : List (Result Reference Error)) : Type 0 where
   pub listed : List Listed
   pub ascending : Rises listed

@@ -1,13 +1,14 @@
 -- A transaction that was committed to a store, and what is read, found and listed in the store then.
-use Rattle.std.specs.Prelude.{◌≡◌, ◌⊎◌, ℕ, List, true, Option, Result, Vec, IfOk, codes, length}
+use Rattle.std.specs.Prelude.{◌≡◌, ℕ, List, true, Option, Result, Vec, IfOk, codes, length}
+use Rattle.gix_ref_lookup.specs.Lookups.{IsFaultOf}
+use Rattle.gix_ref_files.specs.declared.files.FileError.{FileError}
 use Rattle.std.specs.declared.alloc.Global.{Global}
 use Rattle.std.specs.List.{AllByRecursion}
 use Rattle.gix_ref_hash.specs.Bytes.{BeginsWith}
 use Rattle.gix_ref_files.specs.Disk.{Lost}
-use Rattle.gix_ref_files.specs.Files.{Meaning, HasRisen, Leaves, Loses, HasRisenBy}
+use Rattle.gix_ref_files.specs.Files.{Meaning, Leaves, Loses, HasRisenBy, FaultCounts}
 use Rattle.gix_ref_files.specs.Tree.{Path, Tree}
 use Rattle.gix_ref_files.specs.declared.files.ReadAt.{Ghosts}
-use Rattle.gix_ref_packed.specs.OpenFiles.{HasReadFault}
 use Rattle.gix_ref_theory.specs.OnRealTrees.{view_of}
 use Rattle.gix_ref_theory.specs.Readings.{Reading, reading}
 use Rattle.gix_ref_records.specs.declared.raw.Reference.{Reference}
@@ -44,7 +45,7 @@ use Rattle.gix_ref_whole.specs.Outside.{IsLock, IsOneOf, OutsideIsAsBefore}
 use Rattle.gix_ref_whole.specs.declared.error.Error.{Error}
 use Rattle.gix_ref_whole.specs.declared.error.Error.TheVariants.{Prepare, Commit}
 
-module _ {F : Type 0} (honest : Type 0) (means : F → Meaning) (faults : F → ℕ) where
+module _ {F : Type 0} (honest : Type 0) (means : F → Meaning) (faults : F → FaultCounts) where
   -- what each reference of a store reads after these edits
   abbrev pub reads_after : Store F → List RefEdit → List ℕ → Reading
   reads_after old edits name = reading_after (meaning_of old) (view_in means old)
@@ -95,10 +96,9 @@ module _ {F : Type 0} (honest : Type 0) (means : F → Meaning) (faults : F → 
     -- and a loss of power meanwhile leaves all outside of the namespace
     pub losses : honest → HasGoodRecords means old → IsAtRest means old → LossesOutside old new
 
-  -- a call of files failed from the store `start` to `new`, or a read of an open file did
-  abbrev pub HasFault : {R : Type 0} (G : Ghosts R) → (start new : Store F) → Type 0
-  HasFault G start new = HasRisen (faults (files_of start)) (faults (files_of new))
-      ⊎ HasReadFault G.faults
+  -- a call of files failed with this fault from the store `start` to `new`, or a read of an open file did
+  abbrev pub HasFault : {R : Type 0} (G : Ghosts R) → (start new : Store F) → FileError → Type 0
+  HasFault G start new = IsFaultOf G.faults (faults (files_of start)) (faults (files_of new))
 
   -- And a lookup after them, in the store `start` that the commit left, says what every lookup says; and of a full name it finds
   -- what that reads as edited.
@@ -134,7 +134,7 @@ module _ {F : Type 0} (honest : Type 0) (means : F → Meaning) (faults : F → 
     pub lists : IfOk items (λ all. ListsNames old start new made.split prefix all.items)
 
 -- of a transaction that does with `packed-refs` as `uses` says, with a finder of objects, if there is one
-module _ {F T : Type 0} (honest : Type 0) (means : F → Meaning) (faults : F → ℕ)
+module _ {F T : Type 0} (honest : Type 0) (means : F → Meaning) (faults : F → FaultCounts)
     (claims : T → Type 0) (meaning : T → ObjectId → Stored) (uses : PackedRefs T) where
   -- these edits are prepared
   abbrev pub Prepares : (old mid : Store F) → List RefEdit → Option Path → List Edit → Type 0
@@ -229,7 +229,7 @@ module _ {F T : Type 0} (honest : Type 0) (means : F → Meaning) (faults : F �
         LossesOutside honest means faults old new
 
   -- Why edits were not committed, and what is left then: they were refused, or their commit failed. `uses` is handed back.
-  abbrev pub IsNotMade : (read : Type 0) → (old new : Store F) → Option SignatureRef →
+  abbrev pub IsNotMade : (read : FileError → Type 0) → (old new : Store F) → Option SignatureRef →
       List RefEdit → Error T → Type 0
   IsNotMade read old new committer given (Prepare refused) =
       RefusesGiven honest read means faults (OfFinder claims uses)

@@ -3,7 +3,7 @@ use Rattle.std.specs.Prelude.{◌≡◌, ◌≢◌, ◌⊎◌, ℕ, List, [], �
 use Rattle.std.specs.List.{All}
 use Rattle.gix_ref_base.specs.Layout.{LiesIn}
 use Rattle.gix_ref_files.specs.Calls.{IsEntryName, entry_name}
-use Rattle.gix_ref_files.specs.Files.{HasRisen}
+use Rattle.gix_ref_files.specs.Files.{FaultCounts, IsMet}
 use Rattle.gix_ref_files.specs.Settled.{IsIn}
 use Rattle.gix_ref_files.specs.Tree.{Tree, Path, is_folder}
 use Rattle.gix_ref_files.specs.declared.files.Entry.{Entry as FolderEntry}
@@ -19,9 +19,9 @@ use Rattle.gix_ref_commit.specs.declared.plan.About.{About}
 use Rattle.gix_ref_commit.specs.declared.run.Unfinished.{Unfinished}
 use Rattle.gix_ref_commit.specs.declared.run.Unfinished.TheVariants.{Memory, Step}
 
--- a fault of files came with a rise of their count; or memory was refused
-abbrev pub IsCountedFault : (before now : ℕ) → FileError → Type 0
-IsCountedFault before now error = (error ≡ no_memory) ⊎ HasRisen before now
+-- a fault of files was counted; or memory was refused
+abbrev pub IsCountedFault : (before now : FaultCounts) → FileError → Type 0
+IsCountedFault before now error = (error ≡ no_memory) ⊎ IsMet error before now
 
 -- folders at a path and in it, and none that leads to a folder of the store
 pub record AreFolders (dirs : Dirs) (path : Path) (folders : List Path) : Type 0 where
@@ -65,25 +65,25 @@ IsWalked dirs path folders = (rest : List Path) × (folders ≡ path ∷ rest)
     × AreFolders dirs path folders
 
 -- Before a step that writes a file, the folder at its path could not be listed.
-pub record IsUnlisted (plan : List Entry) (before now : ℕ) (fault : FileError)
+pub record IsUnlisted (plan : List Entry) (before now : FaultCounts) (fault : FileError)
     (step : Entry) : Type 0 where
   pub seen : List Entry
   pub rest : List Entry
   pub cut : plan ≡ seen ++ step ∷ rest
   pub writes : written_at (bare step.0) ≢ None
-  pub counted : HasRisen before now
+  pub counted : IsMet fault before now
   pub no_want : fault ≢ no_memory
 
 -- why the search before this step ended
-abbrev pub FailsBefore : Planned About → (before now : ℕ) → Unfinished → Type 0
+abbrev pub FailsBefore : Planned About → (before now : FaultCounts) → Unfinished → Type 0
 FailsBefore planned before now Memory = Unit {0}
 FailsBefore planned before now (Step about (File fault)) =
-    (planned.about ≡ about) × (written_at (step_of planned.action) ≢ None) × HasRisen before now
+    (planned.about ≡ about) × (written_at (step_of planned.action) ≢ None) × IsMet fault before now
     × (fault ≢ no_memory)
 FailsBefore planned before now (Step about cause) = ⊥
 
 -- why the search ended
-abbrev pub FailsToList : List Entry → (before now : ℕ) → Unfinished → Type 0
+abbrev pub FailsToList : List Entry → (before now : FaultCounts) → Unfinished → Type 0
 FailsToList plan before now Memory = Unit {0}
 FailsToList plan before now (Step about (File fault)) = (step : Entry) × (step.1 ≡ about)
     × IsUnlisted plan before now fault step

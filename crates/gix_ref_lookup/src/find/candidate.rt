@@ -6,14 +6,14 @@ ghost use Rattle.gix_ref_name.specs.Namespaces.{stripped};
 ghost use Rattle.gix_ref_base.specs.PackedRecords.{Record};
 ghost use Rattle.gix_ref_base.specs.Targets.{target_value};
 ghost use Rattle.gix_ref_base.specs.Targets.TargetValue.{object_id};
-ghost use Rattle.gix_ref_files.specs.Files.{AtEveryStop, HasRisen};
+ghost use Rattle.gix_ref_files.specs.Files.{AtEveryStop};
 ghost use Rattle.gix_ref_files.specs.Calls.{Unchanged};
 ghost use Rattle.gix_ref_theory.specs.OnRealTrees.{contents};
 ghost use Rattle.gix_ref_lookup.specs.StoreLayout.{namespace_text};
 ghost use Rattle.gix_ref_records.specs.Positions.{CannotRead};
 ghost use Rattle.gix_ref_packed.specs.Buffers.{IsRefusedFile};
 ghost use Rattle.gix_ref_packed.specs.OpenFiles.{HasReadFault};
-ghost use Rattle.gix_ref_lookup.specs.Lookups.{meaning_in, packed_refs_in, HasKey, OfKey, IsByRecord, IsLooseTarget, IsNotRead, IsNotReadAt, IsReady, AreAsked, IsOfKey, IsFaultOrMemory, IsNotPacked, AreHonest, IsSearched, IsHitOfKey, OfSearched, IsCandidate, IsSound, IsHit, CandidateFails, FindsNone, HasNoKey, IsMissing, SearchesNone};
+ghost use Rattle.gix_ref_lookup.specs.Lookups.{meaning_in, packed_refs_in, HasKey, OfKey, IsByRecord, IsLooseTarget, IsNotRead, IsNotReadAt, IsReady, AreAsked, IsOfKey, IsFaultOf, IsFaultOrMemory, IsNotPacked, AreHonest, IsSearched, IsHitOfKey, OfSearched, IsCandidate, IsSound, IsHit, CandidateFails, FindsNone, HasNoKey, IsMissing, SearchesNone};
 ghost use Rattle.gix_ref_lookup.specs.Looks.{OnlyLooks};
 
 use crate::find::loose::{Loose, loose_at};
@@ -177,8 +177,7 @@ fn find_at_key<F: Files>(
         (packed_refs_in settings.entry (F.means files.old)) records.old)) }
     ensures failed { (name : List ℕ) → HasKey
         (meaning_in settings.entry) name (full_ref_bytes key.entry) →
-        IfErr result (IsNotPacked (F.honest × AreHonest records.old) (HasRisen (F.faults files.old)
-        (F.faults files.new) ⊎ HasReadFault F.Reader.faults) (OfKey (meaning_in settings.entry) name
+        IfErr result (IsNotPacked (F.honest × AreHonest records.old) (IsFaultOf F.Reader.faults (F.faults files.old) (F.faults files.new)) (OfKey (meaning_in settings.entry) name
         (λ key. OfSearched settings.entry.kind (packed_refs_in settings.entry (F.means files.old))
         records.old (λ k text. CannotRead k text key))) (IsRefusedFile settings.entry.kind
         ((F.means files.old).tree (meaning_in settings.entry).packed_path))) }
@@ -225,7 +224,7 @@ fn find_packed<F: Files>(
         ⊎ FindsNone settings.entry.kind (packed_refs_in settings.entry (F.means files.old))
         records.old)) }
     ensures failed { IfErr result (IsNotPacked (F.honest × AreHonest records.old)
-        (HasRisen (F.faults files.old) (F.faults files.new) ⊎ HasReadFault F.Reader.faults)
+        (IsFaultOf F.Reader.faults (F.faults files.old) (F.faults files.new))
         (OfKey (meaning_in settings.entry) (full_ref_bytes name.entry)
         (λ key. OfSearched settings.entry.kind (packed_refs_in settings.entry (F.means files.old))
         records.old (λ k text. CannotRead k text key))) (IsRefusedFile settings.entry.kind

@@ -3,12 +3,11 @@ ghost use Rattle.std.specs.Prelude.{◌≡◌, ◌⊎◌, ℕ, List, Option, Non
 ghost use Rattle.gix_ref_hash.specs.declared.hash.Kind.{Kind};
 ghost use Rattle.gix_ref_name.specs.Names.{full_ref_bytes};
 ghost use Rattle.gix_ref_base.specs.PackedRecords.{Record};
-ghost use Rattle.gix_ref_files.specs.Files.{HasRisen};
 ghost use Rattle.gix_ref_files.specs.ReadOnly.{OnlyReads};
 ghost use Rattle.gix_ref_packed.specs.Buffers.{buffer_text, buffer_kind, IsRefusedFile};
 ghost use Rattle.gix_ref_packed.specs.FileSearches.{FindsInFile};
 ghost use Rattle.gix_ref_packed.specs.OpenFiles.{HasReadFault};
-ghost use Rattle.gix_ref_lookup.specs.Lookups.{meaning_in, packed_refs_in, ArePackedRecords, AreAsked, IsSearched, IsReady, IsFaultOrMemory, IsNotPacked, AreHonest, IsOpenedText, SearchesNone, of_opening, of_search, as_found};
+ghost use Rattle.gix_ref_lookup.specs.Lookups.{meaning_in, packed_refs_in, ArePackedRecords, AreAsked, IsSearched, IsReady, IsFaultOrMemory, IsFaultOf, IsNotPacked, AreHonest, IsOpenedText, SearchesNone, of_opening, of_search, as_found};
 
 use crate::find::Error;
 use crate::settings::Settings;
@@ -104,8 +103,8 @@ fn open_records<'b, F: Files>(
     ensures honest { F.honest → IfOk result AreHonest }
     ensures none { F.honest → IfOk result (λ r. SearchesNone None r →
         packed_refs_in settings.entry (F.means files.old) ≡ None) }
-    ensures refused { IfErr result (IsNotPacked F.honest (HasRisen (F.faults files.old)
-        (F.faults files.new) ⊎ HasReadFault F.Reader.faults) ⊥ (IsRefusedFile settings.entry.kind
+    ensures refused { IfErr result (IsNotPacked F.honest
+        (IsFaultOf F.Reader.faults (F.faults files.old) (F.faults files.new)) ⊥ (IsRefusedFile settings.entry.kind
         ((F.means files.old).tree (meaning_in settings.entry).packed_path))) }
     ensures no_fault { OnOk result (F.faults files.new ≡ F.faults files.old) }
     ensures reads { OnlyReads F.honest F.means F.faults files.old files.new }
@@ -123,12 +122,11 @@ impl<R: ReadAt + Drop> Records<'_, R> {
     ghost use Rattle.gix_ref_name.specs.Names.{full_ref_bytes};
     ghost use Rattle.gix_ref_base.specs.PackedRecords.{Record, record_named};
     ghost use Rattle.gix_ref_hash.specs.declared.hash.Kind.{Kind};
-    ghost use Rattle.gix_ref_files.specs.Files.{HasRisen};
     ghost use Rattle.gix_ref_records.specs.Positions.{CannotRead};
     ghost use Rattle.gix_ref_packed.specs.Buffers.{IsRefusedFile};
     ghost use Rattle.gix_ref_records.specs.Windows.{AreFound, HitsRecord};
     ghost use Rattle.gix_ref_packed.specs.OpenFiles.{HasReadFault};
-    ghost use Rattle.gix_ref_lookup.specs.Lookups.{meaning_in, packed_refs_in, AreAsked, IsSearched, IsReady, IsNotPacked, AreHonest, IsFaultOrMemory, OfSearched, FindsNone, SearchesNone};
+    ghost use Rattle.gix_ref_lookup.specs.Lookups.{meaning_in, packed_refs_in, AreAsked, IsSearched, IsReady, IsFaultOf, IsNotPacked, AreHonest, IsFaultOrMemory, OfSearched, FindsNone, SearchesNone};
 
     /// Opens `packed-refs`, if it is asked for the first time. `PackedOpen` where it cannot be opened, and `Memory`.
     pub fn open<F: Files<Reader = R>>(
@@ -151,8 +149,8 @@ impl<R: ReadAt + Drop> Records<'_, R> {
         ensures honest { F.honest → AreHonest self.old → OnOk result (AreHonest self.new) }
         ensures none { F.honest → OnOk result (SearchesNone None self.new →
             SearchesNone (packed_refs_in settings.entry (F.means files.old)) self.old) }
-        ensures refused { IfErr result (IsNotPacked F.honest (HasRisen (F.faults files.old)
-            (F.faults files.new) ⊎ HasReadFault R.faults) ⊥ (IsRefusedFile settings.entry.kind
+        ensures refused { IfErr result (IsNotPacked F.honest
+            (IsFaultOf R.faults (F.faults files.old) (F.faults files.new)) ⊥ (IsRefusedFile settings.entry.kind
             ((F.means files.old).tree (meaning_in settings.entry).packed_path))) }
         ensures no_fault { OnOk result (F.faults files.new ≡ F.faults files.old) }
         ensures reads { OnlyReads F.honest F.means F.faults files.old files.new }

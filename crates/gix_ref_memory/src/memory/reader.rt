@@ -1,5 +1,5 @@
 //! A reader of a file in memory, which owns a copy of the bytes.
-ghost use Rattle.std.specs.Prelude.{◌≡◌, ◌+◌, ◌<◌, length, OnOk, IsErrOf, true, is_ok};
+ghost use Rattle.std.specs.Prelude.{◌≡◌, ◌⊎◌, ◌+◌, ◌<◌, length, OnOk, IfErr, IsErrOf, true, is_ok};
 ghost use Rattle.gix_ref_files.specs.Files.{one_more, count_after};
 ghost use Rattle.gix_ref_files.specs.Calls.{IsRead};
 
@@ -18,6 +18,8 @@ pub struct MemoryReader {
 impl ReadAt for MemoryReader {
     ghost use Rattle.gix_ref_memory.specs.Reader.{reader_bytes, reader_faults, reader_calls, reader_plan, reader_turn};
     ghost use Rattle.gix_ref_memory.specs.declared.memory.turns.Turn.TheVariants.{Go};
+    ghost use Rattle.gix_ref_files.specs.declared.files.FileError.TheVariants.{Device};
+    ghost use Rattle.std.specs.declared.io.ErrorKind.TheVariants.{Other};
 
     ghost honest = { Unit {0} };
 
@@ -37,6 +39,8 @@ impl ReadAt for MemoryReader {
         ensures turn { OnOk result (reader_turn self.old ≡ Go) }
         ensures goes { reader_turn self.old ≡ Go →
             place + length buf.old < length (reader_bytes self.old) + 1 → is_ok result ≡ true }
+        ensures planned { IfErr result
+            (λ error. (reader_turn self.old ≡ Go) ⊎ (error ≡ Device Other)) }
         ensures same { reader_bytes self.new ≡ reader_bytes self.old }
         ensures size { length (reader_bytes self.new) ≡ length (reader_bytes self.old) }
         ensures counts { reader_calls self.new ≡ one_more (reader_calls self.old) }

@@ -1,9 +1,11 @@
 //! Which file call fails or stops: a plan, and a count of the calls.
 ghost use Rattle.std.specs.Prelude.{◌≡◌};
-ghost use Rattle.gix_ref_files.specs.Files.{one_more};
+ghost use Rattle.gix_ref_files.specs.Files.{one_more, counted};
+ghost use Rattle.gix_ref_files.specs.FaultCounts.{counts_of};
 ghost use Rattle.gix_ref_memory.specs.Turns.{turn_of};
 ghost use Rattle.gix_ref_files.specs.declared.files.FileError.TheVariants.{Device};
 
+use gix_ref_files::faults::Faults;
 use gix_ref_files::files::FileError;
 use std::io::ErrorKind;
 
@@ -29,12 +31,12 @@ pub enum Turn {
     Stop(usize),
 }
 
-/// The plan, how many calls there were, and how many of them failed.
+/// The plan, how many calls there were, and the faults of these.
 #[derive(Clone, Copy)]
 pub struct Turns {
     pub plan: Plan,
     pub calls: u64,
-    pub faults: u64,
+    pub faults: Faults,
 }
 
 /// What the call with this number is to do.
@@ -69,9 +71,11 @@ impl Turns {
     /// Counts a fault, and gives it.
     pub fn fault(&mut self, kind: ErrorKind) -> FileError
         ensures error { result ≡ Device kind }
-        ensures counted { self.new ≡ record self.old { faults = one_more self.old.faults } }
+        ensures counted { counts_of self.new.faults
+            ≡ counted (Device kind) (counts_of self.old.faults) }
+        ensures rest { self.new ≡ record self.old { faults = self.new.faults } }
     {
-        self.faults = self.faults.saturating_add(1);
+        self.faults.add_device(kind);
         FileError::Device(kind)
     }
 }

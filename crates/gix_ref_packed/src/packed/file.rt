@@ -1,5 +1,6 @@
 //! A `packed-refs` that is searched where it is: opening it, and the search for a full name.
 ghost use Rattle.std.specs.Prelude.{◌≡◌, ℕ, IfOk, IfErr, Err};
+ghost use Rattle.gix_ref_files.specs.Files.{FaultCounts};
 ghost use Rattle.gix_ref_packed.specs.Buffers.{IsRefusedBytes, count_open};
 ghost use Rattle.gix_ref_packed.specs.FileSearches.{IsNoChange, count_read};
 ghost use Rattle.gix_ref_packed.specs.OpenFiles.{OpenedFile, FailsByRead};
@@ -33,7 +34,7 @@ const LINE_BEHIND_HEADER: u64 = 2;
 fn refusal(error: ReadError) -> Error
     requires { IsNoChange error }
     ensures refused { (kind : _) (bytes : _) → IsRefusedBytes kind bytes result }
-    ensures counts { (n : ℕ) → count_read error n ≡ count_open (Err result) n }
+    ensures counts { (n : FaultCounts) → count_read error n ≡ count_open (Err result) n }
 {
     match error {
         ReadError::Io(error) => Error::Io(error),

@@ -352,12 +352,15 @@ impl<R: ReadAt + Drop> SortedFile<R> {
 impl<R: ReadAt + Drop> SearchableRecords for SortedFile<R> {
     ghost use Rattle.std.specs.Prelude.{drop};
     ghost use Rattle.gix_ref_packed.specs.FileSearches.{IsNoChange, count_read};
+    ghost use Rattle.gix_ref_files.specs.Files.{FaultCounts};
 
     ghost honest = { R.honest };
 
     ghost bytes = { λ s. drop s.base (R.bytes s.reader) };
 
     ghost frame = { λ s. (R.bytes s.reader, s.base, R.size s.reader) };
+
+    ghost met = { FaultCounts };
 
     ghost faults = { λ s. R.faults s.reader };
 

@@ -1,6 +1,6 @@
 -- The steps of a commit of `packed-refs`, over the tree.
-use Rattle.std.specs.Prelude.{◌≡◌, ◌≢◌, ◌⊎◌, ℕ, false, true}
-use Rattle.gix_ref_files.specs.Files.{HasRisen}
+use Rattle.std.specs.Prelude.{◌≡◌, ◌≢◌, ◌⊎◌, false, true}
+use Rattle.gix_ref_files.specs.Files.{FaultCounts, IsMet}
 use Rattle.gix_ref_files.specs.Lock.{lock_of}
 use Rattle.gix_ref_files.specs.Tree.{Tree, Path, is_file, is_folder}
 use Rattle.gix_ref_files.specs.declared.files.FileError.TheVariants.{Memory as no_memory}
@@ -13,10 +13,10 @@ abbrev pub IsUnlocked : (place : Path) → (before T : Tree) → Type 0
 IsUnlocked place before T = OnlyLockChanges place before T × (is_file (T (lock_of place)) ≡ false)
 
 -- why a rewrite was not put in place: its rename failed, or a folder is there; or another call of files failed
-abbrev pub IsWhyNotPut : (honest : Type 0) → (place : Path) → (before now : ℕ) → Tree →
+abbrev pub IsWhyNotPut : (honest : Type 0) → (place : Path) → (before now : FaultCounts) → Tree →
     Error → Type 0
 IsWhyNotPut honest place before now T (Commit error) =
-    (HasRisen before now ⊎ (honest → is_folder (T place) ≡ true)) × (error ≢ no_memory)
-IsWhyNotPut honest place before now T (Io error) = HasRisen before now × (error ≢ no_memory)
+    (IsMet error before now ⊎ (honest → is_folder (T place) ≡ true)) × (error ≢ no_memory)
+IsWhyNotPut honest place before now T (Io error) = IsMet error before now × (error ≢ no_memory)
 IsWhyNotPut honest place before now T (Iteration line) = ⊥
 IsWhyNotPut honest place before now T Memory = ⊥

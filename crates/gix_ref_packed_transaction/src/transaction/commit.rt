@@ -4,7 +4,7 @@ ghost use Rattle.std.specs.Prelude.{◌≡◌, ◌≤◌, ◌⊎◌, OnOk, IfOk,
 ghost use Rattle.gix_ref_files.specs.Calls.{Renaming, Unchanged};
 ghost use Rattle.gix_ref_files.specs.Disk.{folder_of, folder_synced};
 ghost use Rattle.gix_ref_files.specs.DiskCalls.{RemovingFileOn, RenamingOn, SyncingOn};
-ghost use Rattle.gix_ref_files.specs.Files.{AtEveryStop, OnEveryDisk, disk_of, DiskBecomes};
+ghost use Rattle.gix_ref_files.specs.Files.{AtEveryStop, OnEveryDisk, disk_of, DiskBecomes, NoFewer};
 ghost use Rattle.gix_ref_files.specs.Lock.{lock_of};
 ghost use Rattle.gix_ref_files.specs.Tree.{is_file, is_folder, moved};
 ghost use Rattle.gix_ref_repack.specs.Changes.{change_values};
@@ -52,7 +52,7 @@ fn unlock<F: Files>(files: &mut F, lock: &LockFile) -> Result<(), Error>
         (λ D. RemovingFileOn D (lock_of lock.now)) }
     ensures why { IfErr result (IsWhyNotPut F.honest lock.now (F.faults files.old)
         (F.faults files.new) (F.means files.new).tree) }
-    ensures no_fewer { F.faults files.old ≤ F.faults files.new }
+    ensures no_fewer { NoFewer (F.faults files.old) (F.faults files.new) }
 {
     match files.remove_file(lock.path()) {
         Ok(_) => Ok(()),
@@ -70,7 +70,7 @@ fn settle<F: Files>(files: &mut F, lock: &LockFile) -> Result<(), Error>
         (DiskBecomes F.means files.old files.new (λ D. folder_synced D (folder_of lock.now))) }
     ensures why { IfErr result (IsWhyNotPut F.honest lock.now (F.faults files.old)
         (F.faults files.new) (F.means files.new).tree) }
-    ensures no_fewer { F.faults files.old ≤ F.faults files.new }
+    ensures no_fewer { NoFewer (F.faults files.old) (F.faults files.new) }
 {
     match files.sync_folder(folder(lock.place())) {
         Ok(_) => Ok(()),
@@ -90,7 +90,7 @@ fn remove_both<F: Files>(files: &mut F, lock: &LockFile) -> Result<(), Error>
         (SettlesPackedRefs lock.now (disk_of (F.means files.old)) (disk_of (F.means files.new))) }
     ensures why { IfErr result (IsWhyNotPut F.honest lock.now (F.faults files.old)
         (F.faults files.new) (F.means files.new).tree) }
-    ensures no_fewer { F.faults files.old ≤ F.faults files.new }
+    ensures no_fewer { NoFewer (F.faults files.old) (F.faults files.new) }
 {
     if let Err(error) = files.remove_file(lock.place()) {
         return Err(Error::Io(error));
@@ -111,7 +111,7 @@ fn move_lock<F: Files>(files: &mut F, lock: &LockFile) -> Result<(), Error>
         (λ D. RenamingOn D (lock_of lock.now) lock.now) }
     ensures why { IfErr result (IsWhyNotPut F.honest lock.now (F.faults files.old)
         (F.faults files.new) (F.means files.new).tree) }
-    ensures no_fewer { F.faults files.old ≤ F.faults files.new }
+    ensures no_fewer { NoFewer (F.faults files.old) (F.faults files.new) }
 {
     match files.rename(lock.path(), lock.place()) {
         Ok(Rename::Moved) => Ok(()),
@@ -142,7 +142,7 @@ fn put_text<F: Files>(
         (F.faults files.new) (F.means files.new).tree) }
     ensures renamed { F.honest → renamed.new ≡ true → (renamed.old ≡ true)
         ⊎ (is_file ((F.means files.new).tree (lock_of lock.now)) ≡ false) }
-    ensures no_fewer { F.faults files.old ≤ F.faults files.new }
+    ensures no_fewer { NoFewer (F.faults files.old) (F.faults files.new) }
 {
     if let Err(error) = write_text(files, lock, text) {
         return Err(Error::Io(error));
@@ -171,7 +171,7 @@ pub(crate) fn put_rewrite<F: Files>(
         (F.faults files.new) (F.means files.new).tree) }
     ensures renamed { F.honest → renamed.new ≡ true → (renamed.old ≡ true)
         ⊎ (is_file ((F.means files.new).tree (lock_of lock.now)) ≡ false) }
-    ensures no_fewer { F.faults files.old ≤ F.faults files.new }
+    ensures no_fewer { NoFewer (F.faults files.old) (F.faults files.new) }
 {
     match rewrite {
         Rewrite::Unchanged => unlock(files, lock),

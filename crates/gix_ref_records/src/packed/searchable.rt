@@ -71,8 +71,11 @@ pub trait SearchableRecords {
     /// What else a probe leaves as it is.
     ghost frame: { Self → List ℕ × ℕ × ℕ };
 
-    /// How many faults its probes met.
-    ghost faults: { Self → ℕ };
+    /// What tells which faults its probes met.
+    ghost met: { Type 0 };
+
+    /// The faults that its probes met.
+    ghost faults: { Self → met };
 
     /// Why a probe failed.
     type Error: Drop;
@@ -80,8 +83,8 @@ pub trait SearchableRecords {
     /// By which errors a probe at an honest text may fail.
     ghost can_fail: { Self.Error → Type 0 };
 
-    /// The count of faults after a probe that failed so.
-    ghost count: { Self.Error → ℕ → ℕ };
+    /// The faults that were met after a probe that failed so.
+    ghost count: { Self.Error → met → met };
 
     /// The number of bytes.
     fn len(&self) -> u64
@@ -121,7 +124,9 @@ impl<'a> SearchableRecords for InMemory<'a> {
 
     ghost frame = { λ text. (text.bytes.now, 0, 0) };
 
-    ghost faults = { λ _. 0 };
+    ghost met = { Unit {0} };
+
+    ghost faults = { λ _. tt };
 
     type Error = Infallible;
 

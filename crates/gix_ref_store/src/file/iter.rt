@@ -1,5 +1,6 @@
 //! Listing references (`git for-each-ref`).
 ghost use Rattle.std.specs.Prelude.{◌≡◌};
+ghost use Rattle.gix_ref_files.specs.Files.{NoFewer};
 ghost use Rattle.std.specs.Borrow.{sem, RestsIfErr};
 ghost use Rattle.gix_ref_store.specs.Listings.{of_open, prefix_of_all};
 
@@ -124,7 +125,7 @@ impl<'s, F: Files> Platform<'s, F> {
     ghost use Rattle.gix_ref_listing.specs.declared.prefix.Error.TheVariants.{Memory};
     ghost use Rattle.gix_ref_listing.specs.CleanPrefixes.{IsAcceptedPrefix, IsRefusedPrefix};
     ghost use Rattle.gix_ref_store.specs.Lookup.{AreRecordsIn, LooksUp};
-    ghost use Rattle.gix_ref_store.specs.Listings.{IteratesListing, IteratesPseudo, IsNoPlatformListing, prefix_of_all, platform_store};
+    ghost use Rattle.gix_ref_store.specs.Listings.{IteratesListing, IteratesPseudo, IsNoPlatformListing, LacksNoneIn, prefix_of_all, platform_store};
 
     /// The references below `refs/`, or in a namespace all of its references, as `iter_packed` gives them. The folders are walked
     /// first, and then `packed-refs` is opened. As gix-ref's `Platform::all`.
@@ -145,6 +146,9 @@ impl<'s, F: Files> Platform<'s, F> {
             AreRecordsIn F.means (platform_store self.entry.now) records →
             IfOk result (IteratesListing F.honest F.means F.faults (platform_store self.entry.now)
             records (prefix_of_all (platform_store self.entry.now).namespace)) }
+        ensures complete { F.honest → IfOk result (LacksNoneIn F.honest F.means F.faults
+            (platform_store self.entry.now)
+            (prefix_of_all (platform_store self.entry.now).namespace)) }
         ensures refused { IfErr result (IsNoPlatformListing F.honest F.means
             (platform_store self.entry.now) (λ _. ⊥)) }
     {
@@ -176,6 +180,8 @@ impl<'s, F: Files> Platform<'s, F> {
             AreRecordsIn F.means (platform_store self.entry.now) records →
             IfOk result (IteratesListing F.honest F.means F.faults
             (platform_store self.entry.now) records prefix.now) }
+        ensures complete { F.honest → IfOk result (LacksNoneIn F.honest F.means F.faults
+            (platform_store self.entry.now) prefix.now) }
         ensures taken { OnOk result
             (IsAcceptedPrefix (platform_store self.entry.now).namespace prefix.now) }
         ensures refused { IfErr result (IsNoPlatformListing F.honest F.means
@@ -225,7 +231,9 @@ impl<F: Files> Store<F> {
     ghost use Rattle.gix_ref_listing.specs.CleanPrefixes.{IsAcceptedPrefix, IsRefusedPrefix};
     ghost use Rattle.gix_ref_listing.specs.Steps.{AreYet, GivesNext, GivesRecord};
     ghost use Rattle.gix_ref_store.specs.Store.{files_of, IsSameStore};
-    ghost use Rattle.gix_ref_store.specs.Listings.{AreHeldFor, IteratesListing, IteratesPseudo, IsNotOpened, IsWalkedIn, LeavesUnopened, prefix_of_all, walked_prefix};
+    ghost use Rattle.gix_ref_listing.specs.OwedNames.{Text, IsTextFor};
+    ghost use Rattle.gix_ref_listing.specs.WholeListings.{key_in};
+    ghost use Rattle.gix_ref_store.specs.Listings.{AreHeldFor, LacksNone, IteratesListing, IteratesPseudo, IsNotOpened, IsWalkedIn, LeavesUnopened, prefix_of_all, walked_prefix};
     ghost use Rattle.gix_ref_store.specs.contracts.file.store.Store.{the_row};
 
     /// The next item of a listing.
@@ -270,6 +278,9 @@ impl<F: Files> Store<F> {
         ensures lists { F.honest → (records : List Record) →
             AreHeldFor self.entry.now prefix.now packed.entry records → IfOk result
             (IteratesListing F.honest F.means F.faults self.entry.now records prefix.now) }
+        ensures complete { F.honest → (text : Text) →
+            IsTextFor (key_in (settings_of self.entry.now) prefix.now) packed.entry text →
+            IfOk result (LacksNone F.honest F.means F.faults (settings_of self.entry.now) text) }
         ensures memory { IfErr result (λ error. error ≡ Memory) }
     {
         let settings = settings!(self);
@@ -303,7 +314,7 @@ impl<F: Files> Store<F> {
         ensures taken { OnOk result (IsAcceptedPrefix self.old.namespace prefix.now) }
         ensures refused { IfErr result (λ error. (error ≡ Memory)
             ⊎ IsRefusedPrefix self.old.namespace prefix.now error) }
-        ensures counts { F.faults (files_of self.old) ≤ F.faults (files_of self.new) }
+        ensures counts { NoFewer (F.faults (files_of self.old)) (F.faults (files_of self.new)) }
         ensures unchanged { LooksUp F.honest F.means self.old self.new }
     {
         match check_prefix(&self.namespace, prefix) {
@@ -333,6 +344,11 @@ impl<F: Files> Store<F> {
             IsWalkedIn F.honest F.means F.faults start self.entry.now names →
             AreHeldFor self.entry.now (walked_prefix names) packed.entry records → IfOk result
             (IteratesListing F.honest F.means F.faults start records (walked_prefix names)) }
+        ensures complete { F.honest → (start : Store F) (text : Text) →
+            IsWalkedIn F.honest F.means F.faults start self.entry.now names →
+            IsTextFor (key_in (settings_of self.entry.now) (walked_prefix names)) packed.entry
+            text → IfOk result (LacksNone F.honest F.means F.faults (settings_of self.entry.now)
+            text) }
         ensures memory { IfErr result (λ error. error ≡ Memory) }
     {
         let settings = settings!(self);
@@ -349,7 +365,8 @@ impl<F: Files> Store<F> {
     /// is given (`git for-each-ref`). Names are without the namespace. As gix-ref's `file::Store::iter_packed`.
     ///
     /// The folders of the loose references are listed now, one call of files each; a file is read when its reference is given,
-    /// and a record is decoded when it is given. A folder that cannot be listed is an item.
+    /// and a record is decoded when it is given. A folder that cannot be listed is an item, a fault; so is a line of the buffer that is
+    /// no record. Where no item is a fault none of the records is missing, as long as their names ascend.
     ///
     /// Beside a program that packs loose references, one that it packs between the opening of the buffer and this call is in
     /// neither: there walk first, by `walk_prefixed`, or list by a `Platform`.
@@ -377,6 +394,10 @@ impl<F: Files> Store<F> {
             (prefix_of_all self.entry.now.namespace) packed.entry records →
             IfOk result (IteratesListing F.honest F.means F.faults self.entry.now records
             (prefix_of_all self.entry.now.namespace)) }
+        ensures complete { F.honest → (text : Text) → IsTextFor (key_in
+            (settings_of self.entry.now) (prefix_of_all self.entry.now.namespace)) packed.entry
+            text → IfOk result (LacksNone F.honest F.means F.faults (settings_of self.entry.now)
+            text) }
         ensures memory { IfErr result (λ error. error ≡ Memory) }
     {
         let prefix = prefix_of_all(&self.namespace);
@@ -410,6 +431,9 @@ impl<F: Files> Store<F> {
         ensures lists { F.honest → (records : List Record) →
             AreHeldFor self.entry.now prefix.now packed.entry records → IfOk result
             (IteratesListing F.honest F.means F.faults self.entry.now records prefix.now) }
+        ensures complete { F.honest → (text : Text) →
+            IsTextFor (key_in (settings_of self.entry.now) prefix.now) packed.entry text →
+            IfOk result (LacksNone F.honest F.means F.faults (settings_of self.entry.now) text) }
         ensures taken { OnOk result (IsAcceptedPrefix self.entry.now.namespace prefix.now) }
         ensures refused { IfErr result (λ error. (error ≡ Memory)
             ⊎ IsRefusedPrefix self.entry.now.namespace prefix.now error) }

@@ -30,9 +30,12 @@ impl<F: Files> Store<F> {
     ghost use Rattle.gix_ref_files.specs.Tree.{is_file};
     ghost use Rattle.gix_ref_packed.specs.Buffers.{count_open};
     ghost use Rattle.gix_ref_packed.specs.OpenFiles.{CountsRefusal};
-    ghost use Rattle.gix_ref_store.specs.Store.{files_of};
+    ghost use Rattle.gix_ref_listing.specs.PrefixedRecords.{HoldsAskedOf};
+    ghost use Rattle.gix_ref_listing.specs.WholeListings.{key_in};
+    ghost use Rattle.gix_ref_lookup.specs.Lookups.{packed_refs_in};
+    ghost use Rattle.gix_ref_store.specs.Store.{files_of, kind_of};
     ghost use Rattle.gix_ref_store.specs.Listings.{IsReadFor};
-    ghost use Rattle.gix_ref_store.specs.Lookup.{CanBeOpened, LooksUp, OpensBuffer, RefusesBuffer, AreRecordsIn, packed_refs_at};
+    ghost use Rattle.gix_ref_store.specs.Lookup.{settings_of, CanBeOpened, LooksUp, OpensBuffer, RefusesBuffer, AreRecordsIn, packed_refs_at};
 
     /// The `packed-refs` of the store in memory; `None` where there is no such file. `Io` where it cannot be read,
     /// `HeaderParsing` where it begins with `#` and has no header, `Iter` at the first line that is no record where the records
@@ -96,6 +99,9 @@ impl<F: Files> Store<F> {
     ) -> Result<Option<Buffer>, Error>
         ensures holds { F.honest → (records : List Record) → AreRecordsIn F.means self.old records →
             IfOk result (λ found. IsReadFor self.old prefix.now found records) }
+        ensures asked { F.honest → IfOk result (HoldsAskedOf (kind_of self.old)
+            (packed_refs_in (settings_of self.old) (F.means (files_of self.old)))
+            (key_in (settings_of self.old) prefix.now)) }
         ensures there { F.honest → IfOk result
             (λ found. is_some found ≡ is_file (packed_refs_at F.means self.old)) }
         ensures refused { F.honest → IfErr result (RefusesBuffer F.means self.old) }

@@ -10,7 +10,7 @@ use std::alloc::{AllocError, Global};
 impl<F: Files> Store<F> {
     ghost use Rattle.std.specs.Prelude.{◌⊎◌, IfOk};
     ghost use Rattle.gix_ref_name.specs.Names.{full_ref_bytes};
-    ghost use Rattle.gix_ref_files.specs.Files.{HasRisen};
+    ghost use Rattle.gix_ref_listing.specs.Walks.{IsAnyMet};
     ghost use Rattle.gix_ref_listing.specs.PristineStores.{Says};
     ghost use Rattle.gix_ref_store.specs.Store.{files_of};
     ghost use Rattle.gix_ref_store.specs.Lookup.{LooksUp};
@@ -38,7 +38,7 @@ impl<F: Files> Store<F> {
         ensures says { IfOk result (Says (F.honest → IsPristineStore F.means self.old
             (full_ref_bytes default_ref.entry)) (F.honest → IsStoreInUse F.means self.old
             (full_ref_bytes default_ref.entry)) ((F.honest → HasNoHead F.means self.old)
-            ⊎ HasRisen (F.faults (files_of self.old)) (F.faults (files_of self.new)))) }
+            ⊎ IsAnyMet (F.faults (files_of self.old)) (F.faults (files_of self.new)))) }
         ensures unchanged { LooksUp F.honest F.means self.old self.new }
     {
         let settings = settings!(self);

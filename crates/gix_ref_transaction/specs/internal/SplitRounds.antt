@@ -1,4 +1,5 @@
 -- Rounds of splits, by where each edit leads.
+use Rattle.gix_ref_files.specs.Files.{FaultCounts}
 use Rattle.std.specs.Prelude.{◌≡◌, ◌⊎◌, ℕ, suc, List, [], ◌∷◌, ◌++◌, Option, Some, None, false, map, All, IsSome, length, vec_len}
 use Rattle.std.specs.Option.{option_map}
 use Rattle.gix_ref_hash.specs.declared.hash.Kind.{Kind}
@@ -124,7 +125,7 @@ pub record IsSplitRound (honest : Type 0) (s : Store) (T : Tree) (first : ℕ)
   pub can_follow : All (CanFollow s) (values_of old)
 
 -- Why a round fails: a fault of files or of memory, or the name of an edit that is looked up; and `Io` only where the count of faults rose.
-pub record IsRoundFault (s : Store) (edits : List RefEdit) (before now : ℕ)
+pub record IsRoundFault (s : Store) (edits : List RefEdit) (before now : FaultCounts)
     (error : Error) : Type 0 where
   pub cause : IsIoOrMemory error ⊎ IsFirstMisnamed s (values_of edits) error
   pub counted : IsCounted before now error

@@ -9,7 +9,8 @@ use Rattle.gix_ref_records.specs.Positions.{CannotRead}
 use Rattle.gix_ref_records.specs.Windows.{HitsRecord}
 use Rattle.gix_ref_records.specs.declared.packed.window.Found.{Found}
 use Rattle.gix_ref_base.specs.PackedRecords.{Record}
-use Rattle.gix_ref_files.specs.Files.{Meaning}
+use Rattle.gix_ref_files.specs.declared.files.FileError.{FileError}
+use Rattle.gix_ref_files.specs.Files.{Meaning, FaultCounts}
 use Rattle.gix_ref_files.specs.Tree.{Content}
 use Rattle.gix_ref_theory.specs.OnRealTrees.{view_of}
 use Rattle.gix_ref_theory.specs.Readings.{Store}
@@ -68,7 +69,7 @@ pub record IsSearchFault {R : Type 0} {G : Ghosts R} (records : Records R G) (Ba
 -- Why the records of edits are not found, which asks for `packed-refs` at first: where that is well formed, by a fault of files or of memory;
 -- `Packed` is returned for a `packed-refs` that is refused, and `PackedFind` where the record of an edit cannot be read; a fault of files came
 -- with a rise of their count, or a read by a reader failed.
-pub record AreNotFound {F : Type 0} (honest read : Type 0) (means : F → Meaning) (faults : F → ℕ)
+pub record AreNotFound {F : Type 0} (honest : Type 0) (read : FileError → Type 0) (means : F → Meaning) (faults : F → FaultCounts)
     (s : Store) (kind : Kind) (edits : List RefEdit) (before now : F) (error : Error) : Type 0 where
   pub sound : honest → (rs : List Record) → ArePackedRecords kind
       (view_of (means before).tree s.packed_path) rs → IsIoOrMemory error

@@ -1,6 +1,6 @@
 //! The records of the edits of a transaction in `packed-refs`.
 ghost use Rattle.std.specs.Prelude.{◌≡◌, ◌⊎◌, ℕ, List, Option, None, true, OnOk, IfOk, IfErr, is_some};
-ghost use Rattle.gix_ref_files.specs.Files.{count_after};
+ghost use Rattle.gix_ref_files.specs.Files.{count_after, FaultCounts};
 ghost use Rattle.gix_ref_hash.specs.declared.hash.Kind.{Kind};
 ghost use Rattle.gix_ref_name.specs.Names.{full_ref_bytes};
 ghost use Rattle.gix_ref_base.specs.PackedRecords.{Record, record_named};
@@ -49,7 +49,7 @@ fn id_at<R: ReadAt + Drop>(
         (IsSearchedId kind records.old (full_ref_bytes key.entry)) }
     ensures failed { IfErr result (IsSearchFault records.old
         (λ kind. IsStuckKey kind records.old (full_ref_bytes key.entry))) }
-    ensures counted { (before now : ℕ) → IfErr result
+    ensures counted { (before now : FaultCounts) → IfErr result
         (IsCountedWith (AreHonest records.old) (HasReadFault R.faults) before now) }
     ensures still { (kind : Kind) → AreStillAsked kind None records.old records.new }
     ensures ready { IsReady records.new }
@@ -76,7 +76,7 @@ fn id_of<R: ReadAt + Drop>(
         (setting_of settings.now) kind records.old (full_ref_bytes name.entry)) }
     ensures failed { IfErr result (IsSearchFault records.old (λ kind. OfKey
         (setting_of settings.now) (full_ref_bytes name.entry) (IsStuckKey kind records.old))) }
-    ensures counted { (before now : ℕ) → IfErr result
+    ensures counted { (before now : FaultCounts) → IfErr result
         (IsCountedWith (AreHonest records.old) (HasReadFault R.faults) before now) }
     ensures still { (kind : Kind) → AreStillAsked kind None records.old records.new }
     ensures ready { IsReady records.new }

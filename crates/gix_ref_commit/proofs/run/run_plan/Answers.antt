@@ -1,4 +1,5 @@
-use Rattle.std.proofs.Common.{◌≡◌, List, ap, ◌∙◌, subst, sym, arith}
+use Rattle.std.proofs.Common.{◌≡◌, List, ap, ◌∙◌, subst, sym}
+use Rattle.gix_ref_files.proofs.Meeting.{no_fewer_starts, fewer_same}
 use Rattle.gix_ref_files.specs.Files.{disk_of}
 use Rattle.gix_ref_files.specs.Steps.{IsLeftBy}
 use Rattle.gix_ref_files.specs.DiskSteps.{IsReachedBy}
@@ -20,7 +21,7 @@ returns-in_default-clause-runs g c =
     record {
       leaves = λ h. starts now (IsLeftBy (bare_steps planned) now.tree) (none_begun (bare_steps planned) now.tree);
       passes = λ h. passes_starts now (IsReachedBy (steps_in planned) (disk_of now)) (none_reached (steps_in planned) (disk_of now));
-      no_fewer = omega arith;
+      no_fewer = no_fewer_starts _;
     }
 
 pub returns-in_default-clear-clause-runs : goal.returns-in_default-clear-clause-runs
@@ -30,7 +31,7 @@ returns-in_default-clear-clause-runs g c =
     record {
       leaves = λ h. starts now (IsLeftBy (bare_steps planned) now.tree) (none_begun (bare_steps planned) now.tree);
       passes = λ h. passes_starts now (IsReachedBy (steps_in planned) (disk_of now)) (none_reached (steps_in planned) (disk_of now));
-      no_fewer = omega arith;
+      no_fewer = no_fewer_starts _;
     }
 
 pub returns-in-Ok-run_steps-clause-finished : goal.returns-in-Ok-run_steps-clause-finished
@@ -43,7 +44,7 @@ pub returns-in-Ok-run_steps-clause-runs : goal.returns-in-Ok-run_steps-clause-ru
 returns-in-Ok-run_steps-clause-runs g c = record {
   leaves = λ h. rw (bares_are c.deref.result.now _ (ap entries c.deref.ensures.value ∙ (c.in-Ok-clear.ensures ∙ ap (cleared (folder_lists c.args.ways.now)) c.in-Ok.ensures))) at (c.run_steps.ensures.leaves h);
   passes = λ h. rw (synced_are c.deref.result.now _ (ap entries c.deref.ensures.value ∙ (c.in-Ok-clear.ensures ∙ ap (cleared (folder_lists c.args.ways.now)) c.in-Ok.ensures))) at (c.run_steps.ensures.passes h);
-  no_fewer = omega (arith, c.in-Ok-run_steps.ensures.count);
+  no_fewer = fewer_same _ _ c.in-Ok-run_steps.ensures.count;
 }
 
 pub returns-clause-runs : goal.returns-clause-runs

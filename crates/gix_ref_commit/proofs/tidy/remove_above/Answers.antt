@@ -1,4 +1,5 @@
 use Rattle.std.proofs.Common.{arith, ◌∷◌, []}
+use Rattle.gix_ref_files.proofs.Meeting.{no_fewer_starts, no_fewer_joins}
 use Rattle.gix_ref_commit.proofs.LostFolders.{passes_losing, starts_losing}
 use Rattle.gix_ref_commit.proofs.Tidying.{leaves_starts, leaves_then, only_starts, only_then}
 use Rattle.gix_ref_commit.proofs.tidy.remove_above.Goals as goal
@@ -10,7 +11,7 @@ loop-end-init g c =
       leaves = λ h. leaves_starts c.args.dirs.now (c.args.path.now ∷ []) now;
       passes = λ h. only_starts c.args.dirs.now now;
       loses = λ h. starts_losing now;
-      no_fewer = omega arith;
+      no_fewer = no_fewer_starts _;
       end = omega arith;
     }
 
@@ -37,6 +38,6 @@ loop-end-preserved g c =
       leaves = λ h. leaves_then c.args.dirs.now (c.args.path.now ∷ []) old mid new (x.leaves h) (e.leaves h);
       passes = λ h. only_then c.args.dirs.now old mid new (x.passes h) (e.passes h);
       loses = λ h. passes_losing old mid new (x.loses h) (e.loses h);
-      no_fewer = omega (arith, x.no_fewer, e.no_fewer);
+      no_fewer = no_fewer_joins x.no_fewer e.no_fewer;
       end = omega (arith, x.end, c.loop-end-test.true);
     }

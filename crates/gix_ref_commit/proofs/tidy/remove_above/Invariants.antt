@@ -1,5 +1,5 @@
 use Rattle.std.proofs.Common.{◌≤◌, ◌∷◌, [], length}
-use Rattle.gix_ref_files.specs.Files.{disk_of, Leaves, Passes}
+use Rattle.gix_ref_files.specs.Files.{disk_of, Leaves, Passes, NoFewer}
 use Rattle.gix_ref_commit.specs.Cleared.{FoldersGo, LosesNoMore, OnlyFolders}
 use Rattle.gix_ref_commit.proofs.tidy.remove_above.Given as goal
 
@@ -9,7 +9,7 @@ invariant-loop-end g l = record {
   leaves : g.F.Files.honest → Leaves (g.F.Files.means l.fn.files) (g.F.Files.means l.files) (FoldersGo l.dirs (l.path ∷ []) (g.F.Files.means l.fn.files).tree);
   passes : g.F.Files.honest → OnlyFolders l.dirs (g.F.Files.means l.fn.files) (g.F.Files.means l.files);
   loses : g.F.Files.honest → Passes (g.F.Files.means l.fn.files) (g.F.Files.means l.files) (LosesNoMore (disk_of (g.F.Files.means l.fn.files)));
-  no_fewer : g.F.Files.faults l.fn.files ≤ g.F.Files.faults l.files;
+  no_fewer : NoFewer (g.F.Files.faults l.fn.files) (g.F.Files.faults l.files);
   end : l.end ≤ length l.path;
 }
 

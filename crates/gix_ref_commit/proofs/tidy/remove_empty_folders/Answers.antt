@@ -1,4 +1,5 @@
-use Rattle.std.proofs.Common.{◌∙◌, ℕ, Vec, ap, arith}
+use Rattle.std.proofs.Common.{◌∙◌, ℕ, Vec, ap}
+use Rattle.gix_ref_files.proofs.Meeting.{no_fewer_starts, no_fewer_joins}
 use Rattle.std.specs.declared.alloc.Global.{Global}
 use Rattle.gix_ref_files.proofs.Moments.{weaken}
 use Rattle.gix_ref_transaction.specs.OwnLocks.{paths_of}
@@ -13,7 +14,7 @@ loop-path-init g c =
       leaves = λ h. leaves_starts c.args.dirs.now (paths_of c.args.paths.now) now;
       passes = λ h. only_starts c.args.dirs.now now;
       loses = λ h. starts_losing now;
-      no_fewer = omega arith;
+      no_fewer = no_fewer_starts _;
     }
 
 pub loop-path-preserved : goal.loop-path-preserved
@@ -28,5 +29,5 @@ loop-path-preserved g c =
           (weaken (e.leaves h) (λ T goes. go_among c.args.dirs.now c.args.paths.now c.loop-path.path-index c.path-item.result c.deref.result.now mid.tree T c.loop-path-test.true (c.deref.ensures.value ∙ ap (λ (v : Vec ℕ Global). v.items) c.path-item.is) goes));
       passes = λ h. only_then c.args.dirs.now old mid new (x.passes h) (e.passes h);
       loses = λ h. passes_losing old mid new (x.loses h) (e.loses h);
-      no_fewer = omega (arith, x.no_fewer, e.no_fewer);
+      no_fewer = no_fewer_joins x.no_fewer e.no_fewer;
     }

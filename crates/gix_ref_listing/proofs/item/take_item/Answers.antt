@@ -2,6 +2,8 @@ use Rattle.std.proofs.Common.{List, Some, sym, subst}
 use Rattle.gix_ref_listing.specs.Listings.{Listed, merged_listing}
 use Rattle.gix_ref_listing.specs.Steps.{GivesItem}
 use Rattle.gix_ref_listing.proofs.TakenItems.{counts_none, gives_taken}
+use Rattle.gix_ref_theory.specs.OnRealTrees.{contents}
+use Rattle.gix_ref_listing.proofs.OwedLemmas.{item_pays}
 use Rattle.gix_ref_listing.proofs.item.take_item.Goals as goal
 
 pub returns-in-Some-clause-next : goal.returns-in-Some-clause-next
@@ -13,6 +15,8 @@ returns-in-Some-clause-next g c =
       gives = λ listed yet.
           subst (λ (l : List Listed). GivesItem F.honest F.means F.faults c.args.settings before now l (Some c.item.result) c.take.new.self) (sym yet.2)
           (gives_taken F.honest F.means F.faults c.args.settings before now (merged_listing c.args.merge.now.found.entries yet.0) c.in-Some.taken c.item.result c.take.new.self (c.in-Some.ensures.takes yet.0 yet.1) c.item.ensures.item);
+      pays = λ text names owes.
+          item_pays c.args.settings text F.honest (contents F.means before) (F.faults before) (F.faults now) names c.in-Some.taken c.item.result c.take.new.self c.item.ensures.item (c.in-Some.ensures.pays text names owes);
       rises = c.item.ensures.looks.no_fewer;
       counts = counts_none (F.faults before) (F.faults now) c.item.result c.item.ensures.no_fault;
       leaves = c.item.ensures.looks.leaves;

@@ -2,10 +2,14 @@ use Rattle.std.proofs.Common.{◌∙◌, ap, subst, ◌++◌, List}
 use Rattle.gix_ref_base.specs.PackedRecords.{Record}
 use Rattle.gix_ref_records.specs.Prefixes.{records_prefixed}
 use Rattle.gix_ref_packed.specs.YetToGive.{IsYet}
+use Rattle.std.proofs.Common.{[], Some, sym}
+use Rattle.gix_ref_packed.specs.Buffers.{buffer_kind, buffer_text}
+use Rattle.gix_ref_listing.specs.OwedNames.{Text, OwesOthers}
+use Rattle.gix_ref_listing.proofs.OwedLemmas.{owes_all}
 use Rattle.gix_ref_listing.proofs.list.records_of.Goals as goal
 
-pub returns-in_ok-key-in-Some : goal.returns-in_ok-key-in-Some
-returns-in_ok-key-in-Some c records given =
+pub returns-in_ok-key-in-Some-clause-asked : goal.returns-in_ok-key-in-Some-clause-asked
+returns-in_ok-key-in-Some-clause-asked c records given =
     let holds = rw c.in-Some.is at given in
     let key = c.in_ok-key-in-Some.ensures ∙ ap (λ n. n ++ c.args.prefix.now) c.text_of.ensures.text in
     record {
@@ -14,3 +18,10 @@ returns-in_ok-key-in-Some c records given =
       named = holds.named;
       yet = subst (λ (rs : List Record). IsYet c.iter_prefixed.result rs) (ap (λ k. records_prefixed k holds.part) key ∙ holds.kept) (c.iter_prefixed.ensures.yet holds.part holds.lines holds.rising);
     }
+
+pub returns-in_ok-key-in-Some-clause-owes : goal.returns-in_ok-key-in-Some-clause-owes
+returns-in_ok-key-in-Some-clause-owes c settings text given =
+    let of = rw c.in-Some.is at given in
+    let key = c.in_ok-key-in-Some.ensures ∙ ap (λ n. n ++ c.args.prefix.now) c.text_of.ensures.text in
+    subst (λ (t : Text). OwesOthers settings t [] (Some c.iter_prefixed.result)) (sym of.0)
+    (owes_all settings (buffer_kind c.in-Some.buffer.now) (buffer_text c.in-Some.buffer.now) _ _ key c.iter_prefixed.result (c.iter_prefixed.ensures.owes of.1))

@@ -1,13 +1,12 @@
 use Rattle.std.proofs.Common.{◌≡◌, false, true, inl, inr, ⊎_elim, sym, subst}
 use Rattle.std.specs.List.{All}
 use Rattle.std.proofs.lemmas.List.Elements.{All-cons, All-head, All-tail}
-use Rattle.gix_ref_files.specs.Files.{HasRisen}
 use Rattle.gix_ref_files.specs.Tree.{Tree}
 use Rattle.gix_ref_theory.specs.OnRealTrees.{view_of}
 use Rattle.gix_ref_listing.specs.PlainSettings.{plain}
 use Rattle.gix_ref_listing.specs.PristineStores.{IsReadableFile, IsUnreadableFile}
-use Rattle.gix_ref_listing.specs.Walks.{FoundEntry, IsFile}
-use Rattle.gix_ref_listing.proofs.FolderWalks.{risen_from}
+use Rattle.gix_ref_listing.specs.Walks.{FoundEntry, IsAnyMet, IsFile}
+use Rattle.gix_ref_listing.proofs.FolderWalks.{any_from}
 use Rattle.gix_ref_listing.proofs.PristineLemmas.{says, none_left, found_file}
 use Rattle.gix_ref_listing.proofs.StoreWalks.{all_none}
 use Rattle.gix_ref_lookup.proofs.Looks.{looks_more}
@@ -46,7 +45,7 @@ returns-in-None-clause-says g c all =
     let first : FoundEntry = (c.in-Some.field-0-0, c.in-Some.one) in
     let here = All-head IsFile first c.pop_first.new.self.entries (subst (All IsFile) c.in-Some.ensures.removal (before.files all)) in
     let said = rw c.in-None.is at c.in_ok-is.ensures.says in
-    risen_from (F.faults c.args.files.now) (F.faults c.loop-one.files) (F.faults c.is_readable.new.files) before.looks.no_fewer (said (found_file first here))
+    any_from (F.faults c.args.files.now) (F.faults c.loop-one.files) (F.faults c.is_readable.new.files) before.looks.no_fewer (said (found_file first here))
 
 pub returns-clause-says : goal.returns-clause-says
 returns-clause-says g c =
@@ -54,5 +53,5 @@ returns-clause-says g c =
     let left = c.loop-one.found.entries in
     let none = none_left _ (λ below. let bad : false ≡ true = c.in_default.ensures.variant.1 below in absurd (cc)) in
     let F = g.F.Files in
-    says _ _ (All IsFile c.args.found.entries → HasRisen (F.faults c.args.files.now) (F.faults c.loop-one.files)) c.loop-one.any (λ is h. c.loop-one.invariant.some is h)
+    says _ _ (All IsFile c.args.found.entries → IsAnyMet (F.faults c.args.files.now) (F.faults c.loop-one.files)) c.loop-one.any (λ is h. c.loop-one.invariant.some is h)
     (λ is h. c.loop-one.invariant.none is h (all_none (λ (e : FoundEntry). IsUnreadableFile (plain c.args.settings) view e.1) left none))

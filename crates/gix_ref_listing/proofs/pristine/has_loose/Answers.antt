@@ -5,8 +5,8 @@ use Rattle.gix_ref_theory.specs.OnRealTrees.{view_of}
 use Rattle.gix_ref_listing.specs.PlainSettings.{plain}
 use Rattle.gix_ref_listing.specs.PristineStores.{IsReadableFile, IsUnreadableFile}
 use Rattle.gix_ref_listing.specs.Walks.{FoundEntry}
-use Rattle.gix_ref_listing.proofs.FolderWalks.{risen_from, risen_on}
-use Rattle.gix_ref_listing.proofs.PristineLemmas.{says_too, has_one, has_none}
+use Rattle.gix_ref_listing.proofs.FolderWalks.{any_from, any_on}
+use Rattle.gix_ref_listing.proofs.PristineLemmas.{says_too, files_or_met, has_one, has_none}
 use Rattle.gix_ref_listing.proofs.pristine.has_loose.Goals as goal
 use Rattle.gix_ref_lookup.specs.Lookups.{Among}
 
@@ -23,4 +23,4 @@ returns-clause-says g c =
     says_too c.any_readable.result
     (λ reads h. has_one settings view prefix es (c.in-Ok.ensures.there h) (subst (λ (T : Tree). Among (λ (e : FoundEntry). IsReadableFile (plain settings) (view_of T) e.1) es) (c.walk_store.ensures.looks.leaves h).tree (reads h)))
     (λ reads h. has_none settings view prefix es (c.in-Ok.ensures.there h) (c.in-Ok.ensures.finds h) (subst (λ (T : Tree). All (λ (e : FoundEntry). IsUnreadableFile (plain settings) (view_of T) e.1) es) (c.walk_store.ensures.looks.leaves h).tree (reads h)))
-    (λ risen. ⊎_elim (λ files. risen_from before mid now c.walk_store.ensures.looks.no_fewer (risen files)) (λ first. risen_on before mid now first c.any_readable.ensures.looks.no_fewer) c.in-Ok.ensures.files) c.any_readable.ensures.says
+    (λ unread. ⊎_elim (λ files. any_from before mid now c.walk_store.ensures.looks.no_fewer (unread files)) (λ first. any_on before mid now first c.any_readable.ensures.looks.no_fewer) (files_or_met before mid es c.in-Ok.ensures.files)) c.any_readable.ensures.says

@@ -1,4 +1,4 @@
-use Rattle.std.proofs.Common.{refl, ⊎_elim, inl, inr, []}
+use Rattle.std.proofs.Common.{refl, []}
 use Rattle.gix_ref_theory.specs.OnRealTrees.{view_of}
 use Rattle.gix_ref_listing.specs.Listings.{merged_listing}
 use Rattle.gix_ref_listing.proofs.Listing.{found_rises, all_names}
@@ -13,6 +13,6 @@ returns-clause-lists g c h =
     record {
       listed = merged_listing es [];
       is = pseudo_listing settings (view_of (g.F.Files.means c.args.files.now).tree) es (found_rises es c.len.ensures.ordered) (c.in-Ok.ensures.finds h) (c.in-Ok.ensures.there h);
-      names = ⊎_elim (λ files. inl (all_names es [] files)) (λ risen. inr risen) c.in-Ok.ensures.files;
-      yet = to_plain settings record { found = c.in-Ok.found; packed = c.of-packed.result } (merged_listing es []) ([], c.of-packed.ensures [] refl, refl);
+      names = all_names (g.F.Files.faults c.args.files.now) (g.F.Files.faults c.walk_pseudo.new.files) es [] c.in-Ok.ensures.files;
+      yet = to_plain settings record { found = c.in-Ok.found; packed = c.of-packed.result } (merged_listing es []) ([], c.of-packed.ensures.ahead [] refl, refl);
     }

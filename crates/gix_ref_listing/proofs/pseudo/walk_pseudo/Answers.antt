@@ -1,10 +1,11 @@
-use Rattle.std.proofs.Common.{◌≢◌, ◌∙◌, refl, inl, inr, ⊎_elim, subst, sym, ap, length, List, ℕ, [], Vec}
+use Rattle.std.proofs.Common.{◌≢◌, ◌∙◌, refl, inl, ⊎_elim, subst, sym, ap, length, List, ℕ, [], Vec}
+use Rattle.gix_ref_files.proofs.Meeting.{no_fewer_starts}
 use Rattle.std.specs.List.{All}
 use Rattle.std.specs.declared.alloc.Global.{Global}
 use Rattle.gix_ref_base.specs.Layout.{below}
 use Rattle.gix_ref_lookup.specs.StoreLayout.{namespace_text}
 use Rattle.gix_ref_theory.specs.OnRealTrees.{view_of}
-use Rattle.gix_ref_listing.specs.Walks.{Holds, IsFile, IsInnerPath, IsThereOr}
+use Rattle.gix_ref_listing.specs.Walks.{Holds, IsFileOrMet, IsInnerPath, IsThereOr}
 use Rattle.gix_ref_listing.specs.PseudoListings.{IsPseudoFound}
 use Rattle.gix_ref_listing.proofs.CleanFolders.{clean_named}
 use Rattle.gix_ref_listing.proofs.StoreWalks.{all_none}
@@ -29,8 +30,10 @@ returns-clause-finds g c h name listed =
 
 pub returns-clause-files : goal.returns-clause-files
 returns-clause-files g c =
-    ⊎_elim (λ files. inl (subst (All IsFile) (sym c.keep_pseudo.ensures) (all_kept IsFile IsFile (λ e is kept. is) c.walk_folder.new.found.entries files))) (λ risen. inr risen)
-    (c.in_ok-walk_folder.ensures.files (all_none IsFile c.new-found.result.entries c.new-found.ensures.len))
+    let old = g.F.Files.faults c.args.files.now in
+    let Met = IsFileOrMet old (g.F.Files.faults c.walk_folder.new.files) in
+    subst (All Met) (sym c.keep_pseudo.ensures) (all_kept Met Met (λ e is kept. is) c.walk_folder.new.found.entries
+    (c.in_ok-walk_folder.ensures.files old (no_fewer_starts old) (all_none (IsFileOrMet old old) c.new-found.result.entries c.new-found.ensures.len)))
 
 pub returns-clause-there : goal.returns-clause-there
 returns-clause-there g c h =

@@ -1,10 +1,12 @@
 use Rattle.std.proofs.Common.{◌≢◌, [], sym, subst, List, ℕ}
+use Rattle.gix_ref_files.proofs.Meeting.{no_fewer_starts}
 use Rattle.std.specs.List.{All}
 use Rattle.gix_ref_base.specs.Layout.{below}
 use Rattle.gix_ref_files.specs.Tree.{Tree}
 use Rattle.gix_ref_theory.specs.OnRealTrees.{view_of}
 use Rattle.gix_ref_lookup.specs.StoreLayout.{namespace_text}
 use Rattle.gix_ref_listing.specs.LooseListings.{IsFoundIn, LooseIn}
+use Rattle.gix_ref_listing.specs.Walks.{IsFileOrMet}
 use Rattle.gix_ref_listing.proofs.CleanFolders.{clean_named}
 use Rattle.gix_ref_listing.proofs.StoreWalks.{found_either, all_none}
 use Rattle.gix_ref_listing.proofs.store_walk.walk_store.Goals as goal
@@ -38,3 +40,13 @@ pub walk_in-requires-2-clause-folder : goal.walk_in-requires-2-clause-folder
 walk_in-requires-2-clause-folder g c =
     let dirs = c.args.settings.dirs.now in
     subst (λ (p : List ℕ). p ≢ []) (sym c.deref.ensures.value) (clean_named dirs.git_dir dirs.common_dir dirs.clean).0
+
+pub returns-then-eq-clause-files : goal.returns-then-eq-clause-files
+returns-then-eq-clause-files g c =
+    let old = g.F.Files.faults c.args.files.now in
+    c.in_ok-walk_in.ensures.files old (no_fewer_starts old) (all_none (IsFileOrMet old old) c.new-found.result.entries c.new-found.ensures.len)
+
+pub returns-clause-files : goal.returns-clause-files
+returns-clause-files g c =
+    let old = g.F.Files.faults c.args.files.now in
+    c.in_ok-walk_in-2.ensures.files old c.walk_in.ensures.looks.no_fewer (c.in_ok-walk_in.ensures.files old (no_fewer_starts old) (all_none (IsFileOrMet old old) c.new-found.result.entries c.new-found.ensures.len))

@@ -1,5 +1,5 @@
 use Rattle.std.proofs.Common.{sym, ◌∙◌, ap, ◌++◌}
-use Rattle.gix_ref_listing.proofs.WalkLemmas.{unlisted_stays, unlisted_holds, unlisted_there}
+use Rattle.gix_ref_listing.proofs.WalkLemmas.{unlisted_stays, unlisted_holds, unlisted_met, unlisted_there}
 use Rattle.gix_ref_listing.proofs.walk.keep_unlisted.Goals as goal
 
 pub returns-clause-stays : goal.returns-clause-stays
@@ -12,3 +12,6 @@ pub returns-clause-there : goal.returns-clause-there
 returns-clause-there c others root view all other at =
     let copied = c.in_ok-to_vec.ensures.items_if_clones_equal (λ x y e. e) in
     unlisted_there c.args.found.now.entries c.insert.new.self.entries _ _ c.args.error c.in_ok-insert.ensures.entries others root view all other (at ∙ ap (λ f. root.path.now ++ f) (sym copied))
+
+pub returns-clause-files : goal.returns-clause-files
+returns-clause-files c before now met all = unlisted_met c.args.found.now.entries c.insert.new.self.entries _ _ c.args.error c.in_ok-insert.ensures.entries before now met all

@@ -1,4 +1,5 @@
-use Rattle.std.proofs.Common.{◌≡◌, ◌∙◌, arith, List, ℕ, sym, ap, subst}
+use Rattle.std.proofs.Common.{◌≡◌, ◌∙◌, List, ℕ, sym, ap, subst}
+use Rattle.gix_ref_files.proofs.Meeting.{fewer_same}
 use Rattle.std.specs.Option.{option_map}
 use Rattle.gix_ref_store.specs.Listings.{AreHeldFor, walked_prefix}
 use Rattle.gix_ref_store.specs.Store.{files_of}
@@ -32,7 +33,7 @@ returns-in-Ok-open_packed_prefixed-clause-prints g c =
     subst (λ (p : List ℕ). Prints (ListRan F.honest F.means F.faults G start new p) before after c.print_among.result) (sym asked)
     (prints_more (ListRanAmong F.honest F.means F.faults now new names Are) (ListRan F.honest F.means F.faults G start new prefix) before after c.print_among.result
     (listed_from F.honest F.means F.faults G start now new prefix names Are c.in-Ok.ensures.taken c.in-Ok.ensures.asked
-    (λ h. walked_on F.honest F.means F.faults start mid now names (c.in-Ok.ensures.walks h) opened.ensures.unchanged (omega (arith, opened.ensures.no_fault)))
+    (λ h. walked_on F.honest F.means F.faults start mid now names (c.in-Ok.ensures.walks h) opened.ensures.unchanged (fewer_same _ _ opened.ensures.no_fault))
     (λ h records are.
     subst (λ (p : List ℕ). AreHeldFor now p c.as_ref.result records) (sym c.in-Ok.ensures.asked)
     (read_for F.honest F.means mid now prefix opened.packed c.as_ref.result records opened.ensures.unchanged c.as_ref.ensures.value (opened.ensures.holds h records (records_on F.honest F.means start mid records h c.in-Ok.ensures.unchanged are)))))

@@ -1,3 +1,4 @@
+use Rattle.gix_ref_files.proofs.Meeting.{no_fewer_starts, no_fewer_joins}
 use Rattle.gix_ref_transaction.proofs.Faults.{risen_by_none_left}
 use Rattle.std.proofs.Common.{◌≡◌, ⊎_elim, ℕ, List, map, refl, sym, ◌∙◌, ap, arith, Vec, Global}
 use Rattle.std.specs.Prelude.{bytes_eq}
@@ -21,7 +22,7 @@ returns-clause-releases g c =
     record {
       leaves = λ h. both_leave xs ys old mid new (first.leaves h) (second.leaves h);
       passes = λ h. both_remove xs ys old mid new (first.passes h) (second.passes h);
-      no_fewer = omega (arith, first.no_fewer, second.no_fewer);
+      no_fewer = no_fewer_joins first.no_fewer second.no_fewer;
     }
 
 pub returns-clause-named : goal.returns-clause-named
@@ -41,5 +42,5 @@ returns-clause-named g c =
           let none : times q (paths_of c.args.remains.left.items) ≡ 0 = ap (λ (l : List (Vec ℕ Global)). times q (paths_of l)) no_locks in
           omega (arith, none, first.once q, second.once q, times_append q xs ys);
       named = second.counted (g.F.Files.faults c.args.files.now)
-          (first.counted (g.F.Files.faults c.args.files.now) (risen_by_none_left c.args.remains.left _ _ no_locks (omega arith)));
+          (first.counted (g.F.Files.faults c.args.files.now) (risen_by_none_left c.args.remains.left (g.F.Files.faults c.args.files.now) (g.F.Files.faults c.args.files.now) no_locks (no_fewer_starts (g.F.Files.faults c.args.files.now))));
     }

@@ -1,3 +1,4 @@
+use Rattle.gix_ref_files.proofs.Meeting.{no_fewer_joins}
 use Rattle.std.proofs.Common.{◌≡◌, ◌≤◌, ◌<◌, ◌+◌, inr, ⊎_elim, ℕ, List, [], ◌∷◌, ◌++◌, Bool, true, false, not, ◌&&◌, if◌then◌else◌, refl, sym, ◌∙◌, ap, subst, arith, reverse, vec_len, length, append_assoc}
 use Rattle.std.specs.Prelude.{nat_lt, nat_eq}
 use Rattle.std.specs.Bool.{OnFalse}
@@ -60,7 +61,7 @@ loop-edit-preserved g c =
     let names = paths_of c.loop-edit.remains.left.items in
     let named : paths_of c.add.new.self.left.items ≡ names ++ (if removed then [] else lock ∷ []) = c.add.ensures.adds.left in
     record {
-      no_fewer = omega (arith, x.no_fewer, c.release-removed.ensures.no_fewer);
+      no_fewer = no_fewer_joins x.no_fewer c.release-removed.ensures.no_fewer;
       counted = λ base so_far. risen_by_lock removed (vec_len c.loop-edit.remains.left) (vec_len c.add.new.self.left) base _ _ c.release-removed.ensures.no_fewer c.add.ensures.adds.len (λ is. omega (arith, c.add.new.self.left.ok, c.loop-edit.remains.left.ok, ap length (c.add.ensures.adds.same is)))
           (λ kept. subst (λ b. OnFalse b (HasRisen (g.F.Files.faults c.loop-edit.files) (g.F.Files.faults c.release-removed.new.files))) kept c.release-removed.ensures.counted) (x.counted base so_far);
       room = omega (arith, x.room, c.in-Some.ensures.len, c.add.ensures.adds.len, c.add.ensures.adds.room);

@@ -1,6 +1,6 @@
 use Rattle.std.proofs.Common.{◌≡◌, ◌≤◌, ◌<◌, ◌+◌, ◌⊎◌, ℕ, List, ◌++◌, true, false, reverse, vec_len}
 use Rattle.std.specs.Vec.{vec_capacity}
-use Rattle.gix_ref_files.specs.Files.{Leaves, HasRisenBy}
+use Rattle.gix_ref_files.specs.Files.{Leaves, HasRisenBy, FaultCounts, NoFewer}
 use Rattle.gix_ref_files.specs.Tree.{Path, is_file}
 use Rattle.gix_ref_transaction.specs.CommitRenames.{lock_at, log_at, path_in, place_at, stays_at}
 use Rattle.gix_ref_transaction.specs.PrepareSteps.{lock_paths, updates}
@@ -19,8 +19,8 @@ invariant-loop-edit g l =
     let before = paths_of l.fn.remains.left.items in
     let left = paths_of l.remains.left.items in
     record {
-      no_fewer : faults l.fn.files ≤ faults l.files;
-      counted : (base : ℕ) → HasRisenBy (vec_len l.fn.remains.left) base (faults l.fn.files) → HasRisenBy (vec_len l.remains.left) base (faults l.files);
+      no_fewer : NoFewer (faults l.fn.files) (faults l.files);
+      counted : (base : FaultCounts) → HasRisenBy (vec_len l.fn.remains.left) base (faults l.fn.files) → HasRisenBy (vec_len l.remains.left) base (faults l.files);
       room : vec_len l.edits + vec_len l.remains.left ≤ vec_capacity l.remains.left;
       room_for_edits : vec_len l.edits + vec_len l.remains.edits ≤ vec_capacity l.remains.edits;
       len : vec_len l.remains.left + vec_len l.edits ≤ vec_len l.fn.remains.left + vec_len l.fn.edits;

@@ -1,4 +1,5 @@
-use Rattle.std.proofs.Common.{arith, sym, subst, List, ℕ}
+use Rattle.std.proofs.Common.{sym, subst, List, ℕ}
+use Rattle.gix_ref_files.proofs.Meeting.{fewer_same}
 use Rattle.gix_ref_store.specs.Listings.{AreHeldFor, walked_prefix}
 use Rattle.gix_ref_store.specs.Store.{files_of}
 use Rattle.gix_ref_store.proofs.Walked.{read_for, records_on, refused_before, walked_on}
@@ -15,7 +16,7 @@ returns-in-Ok-open_packed_prefixed-clause-lists g c =
     let names = c.in-Ok.names in
     let prefix = c.args.prefix.now in
     listed_from F.honest F.means F.faults g.F.Reader.ReadAt start now c.list_among.new.store prefix names (AreHeldFor now (walked_prefix names) c.as_ref.result) c.in-Ok.ensures.taken c.in-Ok.ensures.asked
-    (λ h. walked_on F.honest F.means F.faults start mid now names (c.in-Ok.ensures.walks h) opened.ensures.unchanged (omega (arith, opened.ensures.no_fault)))
+    (λ h. walked_on F.honest F.means F.faults start mid now names (c.in-Ok.ensures.walks h) opened.ensures.unchanged (fewer_same _ _ opened.ensures.no_fault))
     (λ h records are.
     subst (λ (p : List ℕ). AreHeldFor now p c.as_ref.result records) (sym c.in-Ok.ensures.asked)
     (read_for F.honest F.means mid now prefix opened.packed c.as_ref.result records opened.ensures.unchanged c.as_ref.ensures.value (opened.ensures.holds h records (records_on F.honest F.means start mid records h c.in-Ok.ensures.unchanged are))))

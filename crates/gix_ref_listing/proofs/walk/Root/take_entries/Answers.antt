@@ -17,6 +17,6 @@ loop-entry-preserved c =
           (λ k d below. stays_taken c.args.self c.args.folder.now c.loop-entry.found.entries c.take_entry.new.found.entries c.loop-entry.next.items c.take_entry.new.next.items (slice_index_or entries k d) step.stays step.stays_below (before.taken k d below))
           c.loop-entry-test.true c.entry-item.is c.in_ok-take_entry.ensures.taken;
       paths = λ all. step.paths (before.paths all);
-      files = λ all. step.files (before.files all);
+      files = λ first last all. step.files first last (before.files first last all);
       there = λ others view all of. step.there others view (before.there others view all of) (subst (IsFileOf c.args.self view c.args.folder.now) (sym c.entry-item.is) (of i c.entry-item.result c.loop-entry-test.true));
     }

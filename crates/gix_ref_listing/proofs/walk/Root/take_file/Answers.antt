@@ -21,7 +21,7 @@ returns-else-not-contains_key-clause-holds c listed =
     subst (λ n. Among (Holds n) c.args.found.now.entries) (key ∙ (own.1 ∙ listed.1)) (known_holds c.args.found.now.entries c.in_ok-key.key (sym c.contains_key.ensures ∙ c.if-not-contains_key.false))
 
 pub returns-in_ok-insert-clause-files : goal.returns-in_ok-insert-clause-files
-returns-in_ok-insert-clause-files c all = file_is_file _ c.in-Some.field-0.name c.in-Some.field-0.path c.args.found.now.entries c.insert.new.self.entries c.in_ok-insert.ensures.entries all
+returns-in_ok-insert-clause-files c before now all = file_is_file _ c.in-Some.field-0.name c.in-Some.field-0.path c.args.found.now.entries c.insert.new.self.entries c.in_ok-insert.ensures.entries before now all
 
 pub returns-in_ok-insert-clause-there : goal.returns-in_ok-insert-clause-there
 returns-in_ok-insert-clause-there c others view all there =

@@ -1,9 +1,9 @@
 use Rattle.std.proofs.Common.{inl, inr, ⊎_elim, ℕ, List, sym, subst, Vec, Global}
+use Rattle.gix_ref_files.proofs.Meeting.{no_fewer_joins}
 use Rattle.std.specs.List.{All}
 use Rattle.gix_ref_files.specs.Tree.{Tree}
 use Rattle.gix_ref_theory.specs.OnRealTrees.{view_of}
 use Rattle.gix_ref_listing.specs.Walks.{IsThereOr, IsLooseName, IsBelow}
-use Rattle.gix_ref_listing.proofs.FolderWalks.{files_still}
 use Rattle.gix_ref_lookup.proofs.Looks.{looks_more}
 use Rattle.gix_ref_listing.proofs.walk.Root.walk.Goals as goal
 
@@ -25,7 +25,7 @@ loop-preserved g c =
           (λ below. done.reaches h name in_mid (subst (λ (fs : List (Vec ℕ Global)). IsBelow fs name) (sym c.deref.ensures.value) below))
           (before.reaches h name loose);
       paths = λ k d below. inr (done.paths k d below);
-      files = files_still (F.faults c.args.files.now) (F.faults c.loop.files) (F.faults c.walk_level.new.files) before.looks.no_fewer step.looks.no_fewer before.files done.files;
+      files = λ start le all. done.files start (no_fewer_joins le before.looks.no_fewer) (before.files start le all);
       there = λ h others all. subst (λ (T : Tree). All (IsThereOr others root (view_of T)) found) (before.looks.leaves h).tree (done.there h others (subst (λ (T : Tree). All (IsThereOr others root (view_of T)) c.loop.found.entries) (sym (before.looks.leaves h).tree) (before.there h others all)));
       looks = looks_more _ _ _ _ _ _ before.looks step.looks;
     }

@@ -1,9 +1,10 @@
 use Rattle.gix_ref_files.specs.declared.files.FileError.TheVariants.{Memory}
-use Rattle.std.proofs.Common.{◌≡◌, ◌≢◌, inl, inr, sym, ◌∙◌, ap, ◌++◌, ◌∷◌, [], subst, false, rules}
+use Rattle.gix_ref_files.proofs.Meeting.{no_fewer_starts, met_wider, met_after, fewer_same}
+use Rattle.std.proofs.Common.{◌≡◌, ◌≢◌, inl, sym, ◌∙◌, ap, ◌++◌, ◌∷◌, [], subst, false, rules}
 use Rattle.gix_ref_files.specs.Tree.{is_folder}
 use Rattle.gix_ref_files.specs.Calls.{ListsFolder}
 use Rattle.gix_ref_theory.specs.OnRealTrees.{view_of}
-use Rattle.gix_ref_listing.proofs.FolderWalks.{path_of_folder, entries_there, entries_reach, folder_is_there, fault_rises, counts_up}
+use Rattle.gix_ref_listing.proofs.FolderWalks.{path_of_folder, entries_there, entries_reach, folder_is_there, counts_up, met_on}
 use Rattle.gix_ref_listing.proofs.WalkLemmas.{not_both}
 use Rattle.gix_ref_listing.proofs.walk.Root.walk_folder.Goals as goal
 
@@ -46,8 +47,23 @@ returns-in-Ok-keep_unlisted g c =
       stays_below = λ name had. had;
       reaches = λ h path name loose begins. inl (c.in-Ok-keep_unlisted.ensures.holds name begins);
       paths = λ all. all;
-      files = λ all. inr (fault_rises c.in-Err.error _ _ other c.in-Err.ensures.count);
+      files = λ start le all.
+          let old = g.F.Files.faults c.args.files.now in
+          let new = g.F.Files.faults c.list.new.self in
+          c.keep_unlisted.ensures.files start new (met_wider le (no_fewer_starts new) (met_after c.in-Err.error old new other c.in-Err.ensures.count)) (met_on start old new c.args.found.now.entries (counts_up c.in-Err.error old new c.in-Err.ensures.count) all);
       there = λ h at others all. let way = path_of_folder c.args.self.path.now c.args.folder.now c.requires at in c.keep_unlisted.ensures.there others c.args.self (view_of (g.F.Files.means c.args.files.now).tree) all other (ap (λ p. p ++ 47 ∷ []) (c.in-Ok.ensures way.0 way.2) ∙ sym way.2);
       looks = record { leaves = c.list.ensures.leaves; no_fewer = counts_up c.in-Err.error _ _ c.in-Err.ensures.count };
       memory = _;
     }
+
+pub returns-in-Ok-take_entries-clause-files : goal.returns-in-Ok-take_entries-clause-files
+returns-in-Ok-take_entries-clause-files g c start le all =
+    let old = g.F.Files.faults c.args.files.now in
+    let new = g.F.Files.faults c.list.new.self in
+    c.in-Ok-take_entries.ensures.files start new (met_on start old new c.args.found.now.entries (fewer_same old new c.in-Ok-Some.ensures.count) all)
+
+pub returns-in-Ok-None-clause-files : goal.returns-in-Ok-None-clause-files
+returns-in-Ok-None-clause-files g c start le all =
+    let old = g.F.Files.faults c.args.files.now in
+    let new = g.F.Files.faults c.list.new.self in
+    met_on start old new c.args.found.now.entries (fewer_same old new c.in-Ok-None.ensures.count) all

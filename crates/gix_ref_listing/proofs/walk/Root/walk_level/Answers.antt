@@ -1,10 +1,11 @@
 use Rattle.std.proofs.Common.{◌⊎◌, ◌≤◌, length, inl, inr, ⊎_elim, ℕ, sym, subst, Vec, Global, drop, ◌+◌, arith}
+use Rattle.gix_ref_files.proofs.Meeting.{no_fewer_joins}
 use Rattle.std.specs.List.{All}
 use Rattle.gix_ref_hash.specs.Bytes.{BeginsWith}
 use Rattle.gix_ref_files.specs.Tree.{Tree}
 use Rattle.gix_ref_theory.specs.OnRealTrees.{view_of}
 use Rattle.gix_ref_listing.specs.Walks.{Holds, IsThereOr, IsLooseName, IsFolderPath, IsBelow}
-use Rattle.gix_ref_listing.proofs.FolderWalks.{files_still, among_next, among_none}
+use Rattle.gix_ref_listing.proofs.FolderWalks.{among_next, among_none}
 use Rattle.gix_ref_lookup.proofs.Looks.{looks_more}
 use Rattle.gix_ref_listing.proofs.walk.Root.walk_level.Goals as goal
 use Rattle.gix_ref_lookup.specs.Lookups.{Among}
@@ -35,7 +36,7 @@ loop-folder-preserved g c =
           (λ rest. ⊎_elim here (λ others. inr (inr others)) (among_next (λ (f : Vec ℕ Global). BeginsWith name f.items) folders i folder c.loop-folder-test.true c.folder-item.is rest)) more)
           (before.reaches h name loose below);
       paths = done.paths before.paths;
-      files = files_still (F.faults c.args.files.now) (F.faults c.loop-folder.files) (F.faults c.walk_folder.new.files) before.looks.no_fewer step.looks.no_fewer before.files done.files;
+      files = λ start le all. done.files start (no_fewer_joins le before.looks.no_fewer) (before.files start le all);
       there = λ h others all. subst (λ (T : Tree). All (IsThereOr others root (view_of T)) found) (before.looks.leaves h).tree (done.there h at others (subst (λ (T : Tree). All (IsThereOr others root (view_of T)) c.loop-folder.found.entries) (sym (before.looks.leaves h).tree) (before.there h others all)));
       looks = looks_more _ _ _ _ _ _ before.looks step.looks;
     }

@@ -1,11 +1,10 @@
-use Rattle.std.proofs.Common.{◌⊎◌, inr, None}
+use Rattle.std.proofs.Common.{inr, None}
 use Rattle.gix_ref_name.specs.Names.{full_ref_bytes}
 use Rattle.gix_ref_records.specs.Positions.{CannotRead}
 use Rattle.gix_ref_lookup.specs.StoreLayout.{namespace_text}
-use Rattle.gix_ref_lookup.specs.Lookups.{meaning_in, packed_refs_in, AreHonest, OfSearched, OfKey}
+use Rattle.gix_ref_lookup.specs.Lookups.{meaning_in, packed_refs_in, AreHonest, OfSearched, OfKey, IsFaultOf}
 use Rattle.gix_ref_packed.specs.OpenFiles.{HasReadFault}
 use Rattle.gix_ref_packed.specs.Buffers.{IsRefusedFile}
-use Rattle.gix_ref_files.specs.Files.{HasRisen}
 use Rattle.gix_ref_lookup.proofs.NamedRecords.{of_key}
 use Rattle.gix_ref_lookup.proofs.Opening.{if_ok, if_some, if_err, hit_wider, searched_wider, not_packed_wider}
 use Rattle.gix_ref_lookup.proofs.Missing.{any_file, if_none, none_wider}
@@ -45,14 +44,14 @@ returns-in-Ok-clause-failed g c name keyed =
     let file = packed_refs_in settings before in
     let key = full_ref_bytes c.args.key in
     let fault = HasReadFault g.F.Reader.ReadAt.faults in
-    let risen = HasRisen (g.F.Files.faults c.args.files.now) (g.F.Files.faults c.open.new.files) in
+    let either = IsFaultOf g.F.Reader.ReadAt.faults (g.F.Files.faults c.args.files.now) (g.F.Files.faults c.open.new.files) in
     if_err c.find_key.result
     (λ error why. not_packed_wider (AreHonest {R = g.row.F-Reader.Denot} {G = g.F.Reader.ReadAt} new) (g.F.Files.honest × AreHonest {R = g.row.F-Reader.Denot} {G = g.F.Reader.ReadAt} old)
-    fault (risen ⊎ fault)
+    fault either
     (OfSearched {R = g.row.F-Reader.Denot} {G = g.F.Reader.ReadAt} settings.kind None new (λ k text. CannotRead k text key))
     (OfKey s name (λ k. OfSearched {R = g.row.F-Reader.Denot} {G = g.F.Reader.ReadAt} settings.kind file old (λ of_kind text. CannotRead of_kind text k)))
     (λ e. ⊥) (IsRefusedFile settings.kind (before.tree s.packed_path)) error
-    (λ k. c.in-Ok.ensures.honest k.0 k.1) (λ f. inr f)
+    (λ k. c.in-Ok.ensures.honest k.0 k.1) (λ e f. inr f)
     (λ k bad. (key, keyed, searched_wider settings.kind None file new old (λ of_kind text. CannotRead of_kind text key) (c.in-Ok.ensures.searched k.0) bad))
     (λ k e none. absurd none) why)
     (c.find_key.ensures.failed settings.kind)

@@ -4,7 +4,7 @@ use Rattle.gix_ref_hash.specs.declared.hash.Kind.{Kind}
 use Rattle.gix_ref_name.specs.Candidates.{candidates}
 use Rattle.gix_ref_name.specs.Names.{partial_ref_bytes}
 use Rattle.gix_ref_base.specs.PackedRecords.{Record}
-use Rattle.gix_ref_files.specs.Files.{Leaves}
+use Rattle.gix_ref_files.specs.Files.{FaultCounts, Leaves}
 use Rattle.gix_ref_files.specs.Calls.{Unchanged}
 use Rattle.gix_ref_theory.specs.Lookups.{first_hit}
 use Rattle.gix_ref_theory.specs.OnRealTrees.{view_of}
@@ -30,7 +30,7 @@ invariant-loop-front g l =
       none : g.F.Files.honest → SearchesNone file l.records → SearchesNone file l.fn.records;
       missing : g.F.Files.honest → AreHonest l.fn.records → AllByRecursion (IsMissing settings view l.fn.records) rest → AllByRecursion (IsMissing settings view l.fn.records) names;
       passed : g.F.Files.honest → (rs : List Record) → AreAsked settings.kind file l.fn.records rs → first_hit s view rs names ≡ first_hit s view rs rest;
-      fails : (now : ℕ) (error : Error) → FailsAmong g.F.Files.honest settings first.tree l.fn.records (g.F.Files.faults l.fn.files) now rest error →
+      fails : (now : FaultCounts) (error : Error) → FailsAmong g.F.Files.honest settings first.tree l.fn.records (g.F.Files.faults l.fn.files) now rest error →
           FailsAmong g.F.Files.honest settings first.tree l.fn.records (g.F.Files.faults l.fn.files) now names error;
       no_fault : g.F.Files.faults l.files ≡ g.F.Files.faults l.fn.files;
       leaves : g.F.Files.honest → Leaves first now (Unchanged first.tree);

@@ -28,7 +28,7 @@ pub returns-clause-why : goal.returns-clause-why
 returns-clause-why g c =
     let t = c.args.self in
     subst (SaysWhyPacked g.F.Files.honest (transaction_kind t) (records_of t) (transaction_place t) (g.F.Files.faults c.args.files.now) (g.F.Files.faults c.release-in-Err-2.new.files) (g.F.Files.means c.release-in-Err-2.new.files).tree) (sym c.release-in-Err-2.ensures.error)
-    (why_after g.F.Files.honest (transaction_kind t) (records_of t) (transaction_place t) _ _ _ _ _ _ c.release-in-Err-2.ensures.no_fewer (λ honest. (c.release-in-Err-2.ensures.leaves honest).tree) c.in-Err-put_rewrite.ensures.why)
+    (why_after g.F.Files.honest (transaction_kind t) (records_of t) (transaction_place t) (g.F.Files.faults c.args.files.now) _ (g.F.Files.faults c.release-in-Err-2.new.files) _ _ _ c.release-in-Err-2.ensures.no_fewer (λ honest. (c.release-in-Err-2.ensures.leaves honest).tree) c.in-Err-put_rewrite.ensures.why)
 
 pub returns-in-Err-clause-kept : goal.returns-in-Err-clause-kept
 returns-in-Err-clause-kept g c honest unbegun = (c.release.ensures.leaves honest).tree

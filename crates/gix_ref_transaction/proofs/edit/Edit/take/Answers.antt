@@ -1,3 +1,4 @@
+use Rattle.gix_ref_files.proofs.Meeting.{fewer_after}
 use Rattle.std.proofs.Common.{rules, refl, subst}
 use Rattle.gix_ref_files.specs.Lock.{MakesLock, lock_of}
 use Rattle.gix_ref_files.specs.declared.files.Create.{Create}
@@ -22,7 +23,7 @@ returns-in-Ok-Made-clause-takes g c =
     record {
       leaves = λ h. weaken (c.take_lock.ensures.leaves h) (acquiring_adds (g.F.Files.means c.args.files.now).tree place (lock_of place) refl);
       passes = c.take_lock.ensures.passes;
-      no_fewer = search rules;
+      no_fewer = fewer_after c.take_lock.result _ _ c.take_lock.ensures.count;
     }
 
 pub returns-in-Ok-Standing-clause-refused : goal.returns-in-Ok-Standing-clause-refused
@@ -43,7 +44,7 @@ returns-in-Ok-Standing-clause-takes g c =
     record {
       leaves = λ h. weaken (c.take_lock.ensures.leaves h) (acquiring_adds (g.F.Files.means c.args.files.now).tree place (lock_of place) refl);
       passes = c.take_lock.ensures.passes;
-      no_fewer = search rules;
+      no_fewer = fewer_after c.take_lock.result _ _ c.take_lock.ensures.count;
     }
 
 pub returns-in-Ok-Blocked-clause-refused : goal.returns-in-Ok-Blocked-clause-refused
@@ -64,7 +65,7 @@ returns-in-Ok-Blocked-clause-takes g c =
     record {
       leaves = λ h. weaken (c.take_lock.ensures.leaves h) (acquiring_adds (g.F.Files.means c.args.files.now).tree place (lock_of place) refl);
       passes = c.take_lock.ensures.passes;
-      no_fewer = search rules;
+      no_fewer = fewer_after c.take_lock.result _ _ c.take_lock.ensures.count;
     }
 
 pub returns-in-Err-clause-refused : goal.returns-in-Err-clause-refused
@@ -82,5 +83,5 @@ returns-in-Err-clause-takes g c =
     record {
       leaves = λ h. weaken (c.take_lock.ensures.leaves h) (acquiring_adds (g.F.Files.means c.args.files.now).tree place (lock_of place) refl);
       passes = c.take_lock.ensures.passes;
-      no_fewer = search rules;
+      no_fewer = fewer_after c.take_lock.result _ _ c.take_lock.ensures.count;
     }

@@ -133,7 +133,7 @@ returns-in-Ok-clause-removed g c =
       named = record {
         ours = λ q left. subst (λ (u : List RefEdit). is_in (locks_of s u) q ≡ true) U (is.named.ours q left);
         once = λ q. subst (λ (u : List RefEdit). times q (paths_of failure.locks_left.items) ≤ times q (locks_of s u)) U (is.named.once q);
-        named = risen_by_before _ _ _ _ c.find_and_peel.ensures.reads.no_fewer is.named.named;
+        named = risen_by_before _ (F.faults c.args.files.now) (F.faults c.find_and_peel.new.files) (F.faults c.lock_all_or_none.new.files) c.find_and_peel.ensures.reads.no_fewer is.named.named;
       };
     }) c.lock_all_or_none.ensures.removed
 

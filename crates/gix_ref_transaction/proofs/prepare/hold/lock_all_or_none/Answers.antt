@@ -1,3 +1,4 @@
+use Rattle.gix_ref_files.proofs.Meeting.{no_fewer_joins}
 use Rattle.gix_ref_transaction.proofs.Faults.{risen_by_none_left}
 use Rattle.std.proofs.Common.{rules, ◌≡◌, ⊎_elim, ℕ, List, [], ◌++◌, true, false, None, take, drop, length, refl, sym, ◌∙◌, ap, subst, arith, Vec}
 use Rattle.std.specs.declared.alloc.Global.{Global}
@@ -118,5 +119,5 @@ returns-in-Err-clause-takes g c =
       passes = λ h locked staying D own here.
           let run = (rw c.deref_mut.ensures.value at (c.take_locks.ensures.takes.passes h)) locked staying D own here in
           passes_joins run (next.passes h locked staying [] D (λ q within. own q (known q within)) run.disk);
-      no_fewer = omega (arith, c.take_locks.ensures.takes.no_fewer, next.no_fewer);
+      no_fewer = no_fewer_joins c.take_locks.ensures.takes.no_fewer next.no_fewer;
     }

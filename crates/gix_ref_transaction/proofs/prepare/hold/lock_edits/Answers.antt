@@ -1,3 +1,4 @@
+use Rattle.gix_ref_files.proofs.Meeting.{no_fewer_joins}
 use Rattle.gix_ref_transaction.proofs.Faults.{risen_by_before, risen_by_none_left}
 use Rattle.std.proofs.Common.{◌≡◌, ◌≢◌, ◌+◌, ◌∙◌, refl, inl, inr, ⊎_elim, ℕ, List, [], ◌∷◌, ◌++◌, Option, true, map, sym, ap, subst, arith, Vec, Global}
 use Rattle.gix_ref_files.specs.Files.{disk_of, Leaves}
@@ -179,7 +180,7 @@ returns-in-Err-find_and_lock-clause-refused g c =
           (why.cause h (subst (IsPackedWell kind) (sym (same_packed s kind old.tree mid.tree (off h) apart.packed_lock)) good));
       opened = λ h. subst (λ (content : Option Content). IsPackedRefusal kind content error) (off_way s kind old.tree mid.tree (off h) apart.packed_lock s.packed_path apart.packed_lock apart.packed_way) (why.opened h);
       unread = λ h. find_cause_on s kind old.tree mid.tree (off h) apart.packed_lock U error apart.packed_locks (why.unread h);
-      counted = counted_on _ _ _ _ _ error c.take_packed.ensures.takes.no_fewer (counted_after _ _ _ _ _ error c.release_packed.ensures.releases.no_fewer why.counted);
+      counted = counted_on _ _ (F.faults c.args.files.now) (F.faults c.take_packed.new.files) (F.faults c.release_packed.new.files) error c.take_packed.ensures.takes.no_fewer (counted_after _ _ (F.faults c.take_packed.new.files) (F.faults c.find_and_lock.new.files) (F.faults c.release_packed.new.files) error c.release_packed.ensures.releases.no_fewer why.counted);
     }
 
 pub returns-in-Err-find_and_lock-clause-removed : goal.returns-in-Err-find_and_lock-clause-removed
@@ -213,7 +214,7 @@ returns-in-Err-find_and_lock-clause-removed g c =
             let both : times q (lock_of s.packed_path ∷ all) ≡ times q (lock_of s.packed_path ∷ []) + times q all = times_append q (lock_of s.packed_path ∷ []) all in
             omega (arith, both, c.release_packed.ensures.named.once q, removed.named.once q, times_packed s q c.in-Ok.packed c.in-Ok.ensures.taken.place);
         named = c.release_packed.ensures.named.counted (F.faults c.args.files.now)
-            (risen_by_before _ _ _ _ c.take_packed.ensures.takes.no_fewer removed.named.named);
+            (risen_by_before _ (F.faults c.args.files.now) (F.faults c.take_packed.new.files) (F.faults c.find_and_lock.new.files) c.take_packed.ensures.takes.no_fewer removed.named.named);
       };
     }
 
@@ -244,7 +245,7 @@ returns-in-Err-find_and_lock-clause-takes g c =
           (subst (λ (l : List Path). Leaves end new (RemovesLocks l end.tree)) (held h) (less.leaves h));
       passes = λ h. takes_less xs all old end new (both.passes h)
           (subst (λ (l : List Path). OnlyRemoves l end new) (held h) (less.passes h));
-      no_fewer = omega (arith, both.no_fewer, less.no_fewer);
+      no_fewer = no_fewer_joins both.no_fewer less.no_fewer;
     }
 
 pub find_and_lock-requires-clause-absent : goal.find_and_lock-requires-clause-absent

@@ -4,11 +4,13 @@ use Rattle.gix_ref_files.specs.Lock.{MakesLock, lock_of}
 use Rattle.gix_ref_files.specs.Tree.{Path, Tree}
 use Rattle.gix_ref_files.specs.declared.files.Create.{Create}
 use Rattle.gix_ref_files.specs.declared.files.Create.TheVariants as create
+use Rattle.gix_ref_files.proofs.Meeting.{fewer_after}
 use Rattle.gix_ref_files.proofs.Moments.{weaken}
 use Rattle.gix_ref_transaction.specs.Causes.{IsInTheWay}
 use Rattle.gix_ref_transaction.specs.OwnLocks.{AddsLocks}
 use Rattle.gix_ref_transaction.proofs.Adds.{clash}
 use Rattle.gix_ref_transaction.proofs.Locking.{acquiring_adds, blocked_there, made_new, readying_adds, standing_there}
+use Rattle.gix_ref_transaction.proofs.Faults.{told_fault}
 use Rattle.gix_ref_transaction.proofs.PackedLocks.{no_some}
 use Rattle.gix_ref_transaction.proofs.prepare.packed_lock.take_lock.Goals as goal
 
@@ -38,7 +40,7 @@ pub returns-in-Made-clause-takes : goal.returns-in-Made-clause-takes
 returns-in-Made-clause-takes g c = record {
   leaves = λ h. weaken (c.take_lock.ensures.leaves h) (acquiring_adds (g.F.Files.means c.args.files.now).tree c.args.lock (lock_of c.args.lock) refl);
   passes = c.take_lock.ensures.passes;
-  no_fewer = search rules;
+  no_fewer = fewer_after c.take_lock.result _ _ c.take_lock.ensures.count;
 }
 
 pub returns-in-Standing-clause-refused : goal.returns-in-Standing-clause-refused
@@ -55,7 +57,7 @@ pub returns-in-Standing-clause-takes : goal.returns-in-Standing-clause-takes
 returns-in-Standing-clause-takes g c = record {
   leaves = λ h. weaken (c.take_lock.ensures.leaves h) (acquiring_adds (g.F.Files.means c.args.files.now).tree c.args.lock (lock_of c.args.lock) refl);
   passes = c.take_lock.ensures.passes;
-  no_fewer = search rules;
+  no_fewer = fewer_after c.take_lock.result _ _ c.take_lock.ensures.count;
 }
 
 pub returns-in_err-take_lock-clause-refused : goal.returns-in_err-take_lock-clause-refused
@@ -64,12 +66,12 @@ returns-in_err-take_lock-clause-refused g c =
     rw (told.1, told.2) (record {
       cause = search rules;
       kept = λ h. readying_adds (g.F.Files.means c.args.files.now).tree c.args.lock (lock_of c.args.lock) refl (g.F.Files.means c.take_lock.new.files).tree (c.in_err-take_lock.ensures.failed h);
-      counted = search rules;
+      counted = told_fault _ _ _ c.in_err-take_lock.ensures.count;
     })
 
 pub returns-in_err-take_lock-clause-takes : goal.returns-in_err-take_lock-clause-takes
 returns-in_err-take_lock-clause-takes g c = record {
   leaves = λ h. weaken (c.take_lock.ensures.leaves h) (acquiring_adds (g.F.Files.means c.args.files.now).tree c.args.lock (lock_of c.args.lock) refl);
   passes = c.take_lock.ensures.passes;
-  no_fewer = search rules;
+  no_fewer = fewer_after c.take_lock.result _ _ c.take_lock.ensures.count;
 }

@@ -1,4 +1,8 @@
-use Rattle.std.proofs.Common.{rules, ◌≡◌, inl, inr, ⊎_elim, List, [], ◌∷◌, true, false, IsSome, arith, Option, Some, map, sym, ◌∙◌, ap, subst}
+use Rattle.gix_ref_transaction.proofs.Faults.{told_fault}
+use Rattle.std.proofs.lemmas.Result.{err_from_is_err_and}
+use Rattle.gix_ref_files.proofs.Meeting.{fewer_same, fewer_after}
+use Rattle.gix_ref_files.proofs.Meeting.{no_fewer_joins}
+use Rattle.std.proofs.Common.{rules, ◌≡◌, inl, inr, ⊎_elim, List, [], ◌∷◌, true, false, IsSome, Option, Some, map, sym, ◌∙◌, ap, subst}
 use Rattle.gix_ref_files.specs.Tree.{Tree, Path, is_file, node_at}
 use Rattle.gix_ref_files.specs.Disk.{Disk}
 use Rattle.gix_ref_files.specs.Files.{disk_of}
@@ -39,7 +43,7 @@ pub returns-in_err-kind-clause-takes : goal.returns-in_err-kind-clause-takes
 returns-in_err-kind-clause-takes g c = record {
   leaves = λ h. weaken (c.kind.ensures.leaves h) (λ R is q. inl (ap (λ (U : Tree). U q) is));
   passes = λ h locked staying first own here. passes_weaken (c.kind.ensures.passes h) (λ (E : Disk) is. subst (IsAsBefore locked staying first) (sym is) here);
-  no_fewer = search rules;
+  no_fewer = fewer_after c.kind.result _ _ c.kind.ensures.count;
 }
 
 pub take_lock-requires : goal.take_lock-requires
@@ -132,7 +136,7 @@ returns-then-may_change-clause-takes g c =
           let mine : IsOwnLock locked (lock_of lock) = own (lock_of lock) (subst (λ (l : List Path). is_in l (lock_of lock) ≡ true) (locks h) (in_here (lock_of s.packed_path) (lock_of lock) [] (ap lock_of (sym at)))) in
           passes_joins (passes_weaken (c.kind.ensures.passes h) (λ (E : Disk) is. subst (IsAsBefore locked staying first) (sym is) here))
           (passes_weaken (takes.passes h) (λ (E : Disk) found. locking_as_before locked staying first _ E lock mine (subst (IsAsBefore locked staying first) (sym still) here) found));
-      no_fewer = omega (arith, takes.no_fewer, c.in_ok-kind.ensures.count);
+      no_fewer = no_fewer_joins (fewer_same _ _ c.in_ok-kind.ensures.count) takes.no_fewer;
     }
 
 pub returns-else-may_change-clause-taken : goal.returns-else-may_change-clause-taken
@@ -200,5 +204,14 @@ returns-else-may_change-clause-takes g c =
           let still = (c.kind.ensures.passes h).disk in
           passes_joins (passes_weaken (c.kind.ensures.passes h) (λ (E : Disk) is. subst (IsAsBefore locked staying first') (sym is) here))
           (passes_weaken (reads.passes h) (λ (E : Disk) is. subst (IsAsBefore locked staying first') (sym (is ∙ still)) here));
-      no_fewer = omega (arith, reads.no_fewer, c.in_ok-kind.ensures.count);
+      no_fewer = no_fewer_joins (fewer_same _ _ c.in_ok-kind.ensures.count) reads.no_fewer;
     }
+
+pub returns-in_err-kind-clause-refused : goal.returns-in_err-kind-clause-refused
+returns-in_err-kind-clause-refused g c =
+    let told = err_from_is_err_and c.from_residual-in_err-kind.result c.from_residual-in_err-kind.ensures.1 in
+    rw (told.1, told.2) (record {
+      cause = search rules;
+      kept = search rules;
+      counted = told_fault _ _ _ c.in_err-kind.ensures.count;
+    })

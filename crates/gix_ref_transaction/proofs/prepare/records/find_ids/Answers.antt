@@ -45,7 +45,7 @@ returns-in_err-edit-clause-failed g c =
 pub returns-in_err-edit-clause-counted : goal.returns-in_err-edit-clause-counted
 returns-in_err-edit-clause-counted g c =
     let told = err_from_is_err_and c.from_residual.result c.from_residual.ensures.1 in
-    rw (told.1, told.2) (counted_by _ _ _ _ _ _ (c.loop-edit.invariant.still Sha1).readers (counted_on _ _ _ _ _ _ c.loop-edit.invariant.reads.no_fewer c.in_err-edit.ensures.counted))
+    rw (told.1, told.2) (counted_by _ _ _ (g.F.Files.faults c.args.files.now) (g.F.Files.faults c.id_unless_hidden.new.files) _ (c.loop-edit.invariant.still Sha1).readers (counted_on _ _ (g.F.Files.faults c.args.files.now) (g.F.Files.faults c.loop-edit.files) (g.F.Files.faults c.id_unless_hidden.new.files) _ c.loop-edit.invariant.reads.no_fewer c.in_err-edit.ensures.counted))
 
 pub loop-edit-preserved : goal.loop-edit-preserved
 loop-edit-preserved g c =

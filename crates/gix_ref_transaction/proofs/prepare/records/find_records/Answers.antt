@@ -40,7 +40,7 @@ returns-in-Ok-clause-failed g c =
       unread = λ h. find_wider (OfSomeKey asked stuck s edits) (OfSomeKey still bad s edits) e
           (keys_wider asked still stuck bad s edits (λ edit is hidden. is h (subst (λ (T : Tree). IsHidden s (view_of T) edit) (sym (c.open.ensures.reads.leaves h).tree) hidden)) (λ key at. record { of_kind = at.of_kind; text = at.text; opened = c.unopened-records.ensures.searched settings.kind at.of_kind file at.text (c.in-Ok.ensures.searched h at.of_kind at.text at.searched); has = at.has }))
           (why.unread (readers h) settings.kind);
-      counted = counted_by _ _ _ _ _ e readers (counted_on _ _ _ _ _ e c.open.ensures.reads.no_fewer told);
+      counted = counted_by _ _ _ (g.F.Files.faults c.args.files.now) (g.F.Files.faults c.find_ids.new.files) e readers (counted_on _ _ (g.F.Files.faults c.args.files.now) (g.F.Files.faults c.open.new.files) (g.F.Files.faults c.find_ids.new.files) e c.open.ensures.reads.no_fewer told);
     }) c.find_ids.ensures.failed c.find_ids.ensures.counted
 
 pub returns-in-Ok-clause-opened : goal.returns-in-Ok-clause-opened

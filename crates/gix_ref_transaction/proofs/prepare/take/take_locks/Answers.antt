@@ -1,3 +1,4 @@
+use Rattle.gix_ref_files.proofs.Meeting.{no_fewer_starts, no_fewer_joins}
 use Rattle.std.proofs.Common.{rules, ◌≡◌, ◌≤◌, ◌∙◌, length, refl, sym, subst, arith, false}
 use Rattle.std.proofs.lemmas.List.{length-map}
 use Rattle.std.proofs.lemmas.Result.{err_from_is_err_and}
@@ -13,7 +14,7 @@ loop-i-init g c =
     let s = setting_of c.args.settings.now in
     let first = g.F.Files.means c.args.files.now in
     record {
-      no_fewer = omega arith;
+      no_fewer = no_fewer_starts _;
       same = refl;
       counted = c.requires.none;
       goes = λ h. goes_first s c.args.settings.now.kind (updates c.args.edits.now) first;
@@ -77,7 +78,7 @@ returns-in_err-take-clause-takes g c =
     record {
       leaves = λ h. took_leaves s old t kind c.requires.ready.apart c.requires.ready.places first mid (x.goes h) (g.F.Files.means c.take.new.files) (c.take.ensures.takes.leaves h);
       passes = λ h. took_passes s old t kind c.requires.ready.apart c.requires.ready.places first mid (x.goes h) (g.F.Files.means c.take.new.files) (c.take.ensures.takes.passes h);
-      no_fewer = omega (arith, x.no_fewer, c.take.ensures.takes.no_fewer);
+      no_fewer = no_fewer_joins x.no_fewer c.take.ensures.takes.no_fewer;
     }
 
 pub compare_and_write-requires : goal.compare_and_write-requires
@@ -176,7 +177,7 @@ returns-in_err-compare_and_write-clause-takes g c =
           let two = g.F.Files.means c.compare_and_write.new.files in
           let fills = c.compare_and_write.ensures.fills.leaves h new.empty in
           text_passes s old t kind c.requires.ready.apart c.requires.ready.places first mid (x.goes h) one took new two fills (c.take.ensures.takes.passes h) (c.compare_and_write.ensures.fills.passes h);
-      no_fewer = omega (arith, x.no_fewer, c.take.ensures.takes.no_fewer, c.compare_and_write.ensures.fills.no_fewer);
+      no_fewer = no_fewer_joins x.no_fewer (no_fewer_joins c.take.ensures.takes.no_fewer c.compare_and_write.ensures.fills.no_fewer);
     }
 
 pub loop-i-preserved : goal.loop-i-preserved
@@ -189,7 +190,7 @@ loop-i-preserved g c =
     let mid = g.F.Files.means c.loop-i.files in
     let t = turn old c.loop-i.edits x.same c.loop-i.i c.index-edits-i.result (omega arith) c.index-edits-i.is in
     record {
-      no_fewer = omega (arith, c.take.ensures.takes.no_fewer, c.compare_and_write.ensures.fills.no_fewer, x.no_fewer);
+      no_fewer = no_fewer_joins x.no_fewer (no_fewer_joins c.take.ensures.takes.no_fewer c.compare_and_write.ensures.fills.no_fewer);
       same = same_then s old t c.compare_and_write.new.self c.compare_and_write.ensures.given;
       counted = refl;
       goes = λ h.

@@ -1,4 +1,5 @@
-use Rattle.std.proofs.Common.{◌≡◌, ◌≤◌}
+use Rattle.gix_ref_files.specs.Files.{NoFewer}
+use Rattle.std.proofs.Common.{◌≡◌}
 use Rattle.gix_ref_transaction.specs.Packing.{mode_of_packing}
 use Rattle.gix_ref_transaction.specs.PrepareSteps.{setting_of, all_given, ids_in, packed_ids, updates}
 use Rattle.gix_ref_transaction.proofs.EditRounds.{Goes, Finds}
@@ -13,7 +14,7 @@ invariant-loop-i g l =
     let kind = l.settings.kind in
     let all = updates l.fn.edits in
     record {
-      no_fewer : g.F.Files.faults l.fn.files ≤ g.F.Files.faults l.files;
+      no_fewer : NoFewer (g.F.Files.faults l.fn.files) (g.F.Files.faults l.files);
       same : all_given l.edits ≡ all_given l.fn.edits;
       counted : l.taken ≡ l.i;
       goes : g.F.Files.honest → Goes s kind all first l.i now;

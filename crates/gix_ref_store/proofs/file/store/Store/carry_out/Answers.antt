@@ -1,8 +1,9 @@
-use Rattle.std.proofs.Common.{◌≡◌, ◌∙◌, ◌<◌, ◌≤◌, ℕ, List, None, false, length, sym, ap, subst, arith, vec_len, Vec, Global}
+use Rattle.std.proofs.Common.{◌≡◌, ◌∙◌, ◌<◌, ℕ, List, None, false, length, sym, ap, subst, arith, vec_len, Vec, Global}
+use Rattle.gix_ref_files.proofs.Meeting.{no_fewer_starts, no_fewer_joins}
 use Rattle.std.specs.Prelude.{if◌then◌else◌}
 use Rattle.std.specs.List.{flat_map}
 use Rattle.std.proofs.lemmas.List.{length-map}
-use Rattle.gix_ref_files.specs.Files.{disk_of, HasRisenBy, Leaves, Passes}
+use Rattle.gix_ref_files.specs.Files.{disk_of, HasRisenBy, Leaves, Passes, FaultCounts, NoFewer}
 use Rattle.gix_ref_files.specs.DiskSteps.{IsReachedBy, IsSyncedAfter}
 use Rattle.gix_ref_files.specs.Steps.{IsAfter, IsLeftBy}
 use Rattle.gix_ref_files.specs.Tree.{Path, Tree}
@@ -32,7 +33,7 @@ use Rattle.gix_ref_store.proofs.FolderRuns.{folders_stay, no_folder_gone}
 use Rattle.gix_ref_store.proofs.file.store.Store.carry_out.Goals as goal
 
 -- the locks that are named where they were released, of which each had a fault
-left_over : (left : Vec (Vec ℕ Global) Global) (a b d e : ℕ) → a ≤ b → HasRisenBy (vec_len left) b d → d ≤ e → HasRisenBy (length (paths_of left.items)) a e
+left_over : (left : Vec (Vec ℕ Global) Global) (a b d e : FaultCounts) → NoFewer a b → HasRisenBy (vec_len left) b d → NoFewer d e → HasRisenBy (length (paths_of left.items)) a e
 left_over left a b d e before rose after =
     risen_by_paths left.items a e (subst (λ n. HasRisenBy n a e) (omega (arith, left.ok)) (risen_by_before (vec_len left) a b e before (risen_by_on (vec_len left) b d e after rose)))
 
@@ -80,7 +81,7 @@ returns-in-Err-clause-kept g c =
       folders = λ h empty.
           no_folder_gone start.dirs packed (written_in F.honest F.means F.faults start c.args.committer packed held) (flat_map (deleted_by (meaning_of start)) held) (held_locks packed c.decide.new.edits.items) (F.means start.files).tree (F.means c.decide.new.self.files).tree (F.means c.release_all-remains.new.files).tree
           empty (c.decide.ensures.fills.leaves h empty).tree (c.release_all-remains.ensures.releases.leaves h).tree;
-      named = left_over c.release_all-remains.result.left (g.F.Files.faults c.args.self.now.files) (g.F.Files.faults c.decide.new.self.files) (g.F.Files.faults c.release_all-remains.new.files) (g.F.Files.faults c.release_all-remains.new.files) c.decide.ensures.fills.no_fewer c.release_all-remains.ensures.named.named (omega arith);
+      named = left_over c.release_all-remains.result.left (g.F.Files.faults c.args.self.now.files) (g.F.Files.faults c.decide.new.self.files) (g.F.Files.faults c.release_all-remains.new.files) (g.F.Files.faults c.release_all-remains.new.files) c.decide.ensures.fills.no_fewer c.release_all-remains.ensures.named.named (no_fewer_starts _);
     }
 
 pub failure-requires : goal.failure-requires
@@ -136,7 +137,7 @@ returns-in-Err-publish-clause-failed g c =
           run_fails F.honest F.means F.faults start new c.args.committer packed held ran.items alike c.in-Ok.ensures.decided.texts.logs c.in-Ok.ensures.decided.texts.logged c.in-Ok.ensures.decided.texts.passed rewrite c.in-Ok.ensures.decided.texts.repacked decided.tree mid.tree released.tree ways c.in-Ok.ensures.decided.in_way
           (λ h empty. c.in-Ok.ensures.decided.texts.filled h empty) (λ h. held_less F.honest F.means F.faults start new c.args.committer packed held ran.items alike renamed mid.tree released.tree (less h)) tidies
           place log told u c.failure.result ends (record { here = here; logged = logged; at_packed = c.in-Ok.ensures.decided.texts.path }) says
-          (raised_wider (F.faults start.files) (F.faults c.decide.new.self.files) (F.faults c.publish.new.self.files) (F.faults c.remove_empty_folders.new.files) u c.decide.ensures.fills.no_fewer (omega (arith, e.releases.no_fewer, c.remove_empty_folders.ensures.no_fewer)) c.in-Err-publish.ensures.stopped.counted)
+          (raised_wider (F.faults start.files) (F.faults c.decide.new.self.files) (F.faults c.publish.new.self.files) (F.faults c.remove_empty_folders.new.files) u c.decide.ensures.fills.no_fewer (no_fewer_joins e.releases.no_fewer c.remove_empty_folders.ensures.no_fewer) c.in-Err-publish.ensures.stopped.counted)
           (λ none h empty.
           let still' : mid.tree ≡ decided.tree = ap (λ files. (F.means files).tree) (c.in-Err-publish.ensures.stopped.memory none) in
           only_locks F.honest F.means F.faults start new c.args.committer packed held ran.items alike renamed decided.tree (c.decide.ensures.fills.leaves h empty).tree
@@ -249,7 +250,7 @@ returns-in-Err-publish-clause-kept g c =
           folders_stay (meaning_of start) start.dirs held ran.items packed rewrite (folder_lists ways) first.tree decided.tree mid.tree released.tree tidied.tree (held_locks (if renamed then None else packed) ran.items) (outcomes_in F.honest F.means F.faults start c.args.committer held)
           c.decide.ensures.alike (logs_are (line_rules start c.args.committer) (view_of first.tree) 0 held ran.items (c.in-Ok.ensures.decided.texts.logs h)) (c.in-Ok.ensures.decided.texts.logs h) empty (c.decide.ensures.fills.leaves h empty).tree (c.in-Ok.ensures.decided.in_way h) left releases.tree tidies;
       named = left_over c.release_all-edits.result.left (g.F.Files.faults c.args.self.now.files) (g.F.Files.faults c.publish.new.self.files) (g.F.Files.faults c.release_all-edits.new.files) (g.F.Files.faults c.remove_empty_folders.new.files)
-          (omega (arith, c.decide.ensures.fills.no_fewer, c.publish.ensures.runs.no_fewer)) c.release_all-edits.ensures.named.named c.remove_empty_folders.ensures.no_fewer;
+          (no_fewer_joins c.decide.ensures.fills.no_fewer c.publish.ensures.runs.no_fewer) c.release_all-edits.ensures.named.named c.remove_empty_folders.ensures.no_fewer;
     }
 
 pub returns-clause-safe : goal.returns-clause-safe
@@ -351,7 +352,7 @@ returns-clause-kept g c =
           folders_stay (meaning_of start) start.dirs held ran.items packed rewrite (folder_lists ways) first.tree decided.tree mid.tree released.tree tidied.tree (held_locks (if renamed then None else packed) ran.items) (outcomes_in F.honest F.means F.faults start c.args.committer held)
           c.decide.ensures.alike (logs_are (line_rules start c.args.committer) (view_of first.tree) 0 held ran.items (c.in-Ok.ensures.decided.texts.logs h)) (c.in-Ok.ensures.decided.texts.logs h) empty (c.decide.ensures.fills.leaves h empty).tree (c.in-Ok.ensures.decided.in_way h) left releases.tree tidies;
       named = left_over c.release_all-released.result.left (g.F.Files.faults c.args.self.now.files) (g.F.Files.faults c.publish.new.self.files) (g.F.Files.faults c.release_all-released.new.files) (g.F.Files.faults c.remove_empty_folders-2.new.files)
-          (omega (arith, c.decide.ensures.fills.no_fewer, c.publish.ensures.runs.no_fewer)) c.release_all-released.ensures.named.named c.remove_empty_folders-2.ensures.no_fewer;
+          (no_fewer_joins c.decide.ensures.fills.no_fewer c.publish.ensures.runs.no_fewer) c.release_all-released.ensures.named.named c.remove_empty_folders-2.ensures.no_fewer;
     }
 
 pub returns-clause-committed : goal.returns-clause-committed

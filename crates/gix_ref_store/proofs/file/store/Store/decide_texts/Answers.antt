@@ -83,7 +83,7 @@ returns-in-Err-decide_packed-clause-failed g c =
     let new = with_files start c.decide_packed.new.files in
     subst (IsUndecided F.honest F.means F.faults start new c.args.committer held.items) (sym c.undecided.ensures)
     (undecided_by F.honest F.means F.faults start new c.args.committer held.items c.deref.result.now error alike
-    (counted_from _ _ _ error c.decide_logs.ensures.reads.no_fewer e.counted)
+    (counted_from (F.faults start.files) (F.faults c.decide_logs.new.files) (F.faults c.decide_packed.new.files) error c.decide_logs.ensures.reads.no_fewer e.counted)
     (λ h. subst (λ (T : Tree). IsRefusedRewrite (kind_of start) (T (meaning_of start).packed_path) error) (c.decide_logs.ensures.reads.leaves h).tree (e.refused h))
     (λ h apart rs are. e.sound h apart rs
     (subst (λ (T : Tree). ArePackedRecords (kind_of start) (view_of T (meaning_of start).packed_path) rs) (sym (c.decide_logs.ensures.reads.leaves h).tree) are))

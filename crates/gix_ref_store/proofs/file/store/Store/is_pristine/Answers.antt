@@ -1,7 +1,7 @@
 use Rattle.std.proofs.Common.{◌⊎◌, List, ℕ, subst}
+use Rattle.gix_ref_listing.specs.Walks.{IsAnyMet}
 use Rattle.std.specs.Prelude.{IfOk}
 use Rattle.gix_ref_name.specs.Names.{full_ref_bytes}
-use Rattle.gix_ref_files.specs.Files.{HasRisen}
 use Rattle.gix_ref_listing.specs.PristineStores as listings
 use Rattle.gix_ref_store.specs.Lookup.{settings_of}
 use Rattle.gix_ref_store.specs.Pristine.{HasNoHead}
@@ -15,5 +15,5 @@ returns-clause-says g c =
     let name = full_ref_bytes c.args.default_ref in
     subst
     (λ (p : List ℕ). IfOk c.is_pristine.result (listings.Says (F.honest → listings.IsPristine (settings_of store) T p name) (F.honest → listings.IsInUse (settings_of store) T p name)
-    ((F.honest → HasNoHead F.means store) ⊎ HasRisen (F.faults store.files) (F.faults c.is_pristine.new.files))))
+    ((F.honest → HasNoHead F.means store) ⊎ IsAnyMet (F.faults store.files) (F.faults c.is_pristine.new.files))))
     c.prefix_of_all-prefix.ensures c.is_pristine.ensures.says

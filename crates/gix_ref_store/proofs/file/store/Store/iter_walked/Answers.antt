@@ -7,6 +7,7 @@ use Rattle.gix_ref_store.specs.Listings.{walked_prefix}
 use Rattle.gix_ref_store.specs.Lookup.{settings_of, view_in}
 use Rattle.gix_ref_store.specs.Store.{files_of}
 use Rattle.gix_ref_store.proofs.ListingRuns.{all_there, each_run, same_settings}
+use Rattle.gix_ref_store.proofs.CompleteListings.{lacks_none}
 use Rattle.gix_ref_store.proofs.file.store.Store.iter_walked.Goals as goal
 
 pub returns-in-Ok : goal.returns-in-Ok
@@ -37,6 +38,14 @@ returns-in-Ok g c = (
           names = found.names;
           runs = each_run F.honest F.means F.faults start _ found.listed h (sym same) (ap view_of (walked.looks_up.leaves h).tree) found.yet (all_there (settings_of start) view records prefix found.listed found.is.only);
         };
+    complete = λ h start text walked of.
+        let F = g.F.Files in
+        let store = c.args.self.now in
+        let same = same_settings start store walked.looks_up.same in
+        let before = F.faults (files_of start) in
+        let now = F.faults (files_of store) in
+        lacks_none F.honest F.means F.faults (settings_of store) text _ refl
+        (c.in-Ok.ensures.owes (view_in F.means start) before now text (subst (λ (x : Settings). IsWalkOf x (view_in F.means start) before now c.args.names) same walked.walk) of);
     memory = _;
   },
 )

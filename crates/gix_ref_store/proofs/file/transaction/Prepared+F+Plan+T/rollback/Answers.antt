@@ -22,7 +22,7 @@ returns-clause-rolled g c =
           (any_cases (λ r. bytes_eq r q) (map lock_of (packed_places plan.packed)) (lock_paths held) within);
       ours = e.named.ours;
       once = e.named.once;
-      named = paths_risen c.release_all-remains.result.left _ _ e.named.named;
+      named = paths_risen c.release_all-remains.result.left (F.faults c.args.self.store.now.files) (F.faults c.release_all-remains.new.files) e.named.named;
       leaves = e.releases.leaves;
       removes = e.releases.passes;
       lost = λ h places own. removing_loses F.means _ _ (held_locks plan.packed held) places (e.releases.passes h) own;

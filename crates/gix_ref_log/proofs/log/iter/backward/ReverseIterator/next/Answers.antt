@@ -1,9 +1,6 @@
 use Rattle.std.proofs.Common.{◌≡◌, ◌≢◌, ℕ, ◌<◌, ◌^◌, List, length, refl, sym, ◌∙◌, ap, subst, arith, Some, Err}
 use Rattle.gix_ref_log.specs.declared.log.iter.stage.Stage.{Stage}
 use Rattle.gix_ref_log.specs.declared.log.iter.stage.Stage.TheVariants.{Unread, Done}
-use Rattle.gix_ref_files.specs.Files.{count_with, one_more}
-use Rattle.gix_ref_files.specs.declared.files.FileError.{FileError}
-use Rattle.gix_ref_files.specs.declared.files.FileError.TheVariants.{Device, NotUtf8, Memory}
 use Rattle.gix_ref_log.specs.LogItems.{count_of}
 use Rattle.gix_ref_log.proofs.BackwardSteps.{start_none, start_fault, start_line}
 use Rattle.gix_ref_log.proofs.log.iter.backward.ReverseIterator.next.Goals as goal
@@ -16,12 +13,6 @@ some n other = omega arith
 
 not_done : (s : Stage) → s ≡ Unread → s ≡ Done → ⊥
 not_done s is done = let e : Unread ≡ Done = sym is ∙ done in cc
-
--- a fault that is not `Memory` is counted
-counted : (e : FileError) (n : ℕ) → e ≢ Memory → count_with e n ≡ one_more n
-counted (Device kind) n other = refl
-counted NotUtf8 n other = refl
-counted Memory n other = absurd (other refl)
 
 pub returns-then-self-eq0-clause-steps : goal.returns-then-self-eq0-clause-steps
 returns-then-self-eq0-clause-steps g c =
@@ -59,7 +50,7 @@ returns-in-Err-clause-steps g c =
     record {
       same_reference = e.only.log.same_reference;
       same_bytes = e.only.log.same_bytes;
-      counts = e.counts.count ∙ counted c.in-Err.error _ (λ is. e.counts.memory (ap Err is));
+      counts = e.counts.count;
       done = (refl, λ is. e.counts.memory (ap Err is));
       stays_done = λ done. absurd (not_done s.stage c.in-Unread.is done);
       gives = λ honest tied. (

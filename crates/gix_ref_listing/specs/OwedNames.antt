@@ -1,0 +1,105 @@
+-- What a listing owes over any text of `packed-refs`: the name of each record that is asked for, or a fault.
+use denote.Ref.{Bor}
+use Rattle.std.specs.Prelude.{◌≡◌, ℕ, List, ◌∷◌, Option, Some, None, Result, Ok, Err}
+use Rattle.std.specs.List.{All, Contains}
+use Rattle.gix_ref_hash.specs.declared.hash.Kind.{Kind}
+use Rattle.gix_ref_name.specs.Names.{full_bytes, full_ref_bytes}
+use Rattle.gix_ref_base.specs.PackedRecords.{Record}
+use Rattle.gix_ref_records.specs.declared.raw.Reference.{Reference}
+use Rattle.gix_ref_records.specs.Prefixes.{NamesAscend}
+use Rattle.gix_ref_packed.specs.Buffers.{buffer_kind, buffer_text}
+use Rattle.gix_ref_packed.specs.YetToGive.{IsAsked, Owes}
+use Rattle.gix_ref_packed.specs.declared.packed.buffer.Buffer.{Buffer}
+use Rattle.gix_ref_packed.specs.declared.packed.iter.Iter.{Iter}
+use Rattle.gix_ref_packed.specs.declared.packed.iter.error.Error.{Error as LineError}
+use Rattle.gix_ref_lookup.specs.declared.settings.Settings.{Settings}
+use Rattle.gix_ref_listing.specs.OwnRecords.{own_name}
+use Rattle.gix_ref_listing.specs.Walks.{FoundEntry}
+use Rattle.gix_ref_listing.specs.declared.error.Error.{Error}
+use Rattle.gix_ref_listing.specs.declared.found.Found.TheVariants.{File, Unlisted}
+use Rattle.gix_ref_listing.specs.declared.merge.Merge.{Merge}
+use Rattle.gix_ref_listing.specs.declared.merge.Taken.{Taken}
+use Rattle.gix_ref_listing.specs.declared.merge.Taken.TheVariants as taking
+use Rattle.gix_ref_listing.specs.declared.own_records.OwnRecord.{OwnRecord}
+use Rattle.gix_ref_listing.specs.declared.own_records.OwnRecords.{OwnRecords}
+
+-- A text of `packed-refs`, whose records are asked for by the beginning of their keys.
+pub record Text : Type 0 where
+  pub kind : Kind
+  pub bytes : List ℕ
+  pub key : List ℕ
+
+-- the text of this buffer, which is asked for a key, where its names ascend, whatever its other lines are
+abbrev pub IsTextFor : (key : List ℕ) → Option (Bor Buffer) → Text → Type 0
+IsTextFor key None text = ⊥
+IsTextFor key (Some buffer) text = (text ≡ record { kind = buffer_kind buffer.now; bytes = buffer_text buffer.now; key = key })
+    × NamesAscend (buffer_kind buffer.now) (buffer_text buffer.now)
+
+-- A record of the text that is asked for has this name: it begins a line, whatever the other lines are.
+pub record IsDue (settings : Settings) (text : Text) (name : List ℕ) : Type 0 where
+  pub of : Record
+  pub asked : IsAsked text.kind text.bytes text.key of
+  pub own : own_name settings of.name ≡ Some name
+
+-- each name that is due was given
+abbrev pub AreAllGiven : Settings → Text → (names : List (List ℕ)) → Type 0
+AreAllGiven settings text names = (name : List ℕ) → IsDue settings text name → Contains names name
+
+-- the names of these records are among these
+abbrev pub HaveNames : Settings → List Record → (names : List (List ℕ)) → Type 0
+HaveNames settings records names = (r : Record) → Contains records r → (name : List ℕ) →
+    own_name settings r.name ≡ Some name → Contains names name
+
+-- where these names were given, an iterator owes the records of the others
+abbrev pub OwesOthers : Settings → Text → (names : List (List ℕ)) → Option Iter → Type 0
+OwesOthers settings text names None = AreAllGiven settings text names
+OwesOthers settings text names (Some it) = (given : List Record) × HaveNames settings given names
+    × Owes text.kind text.bytes text.key given it
+
+-- and so where the next record was taken; after a line that is no record it owes nothing
+abbrev pub OwesAfter : Settings → Text → (names : List (List ℕ)) →
+    Option (Result OwnRecord LineError) → Option Iter → Type 0
+OwesAfter settings text names None records = AreAllGiven settings text names
+OwesAfter settings text names (Some (Ok own)) records =
+    OwesOthers settings text (full_ref_bytes own.name ∷ names) records
+OwesAfter settings text names (Some (Err e)) records = Unit {0}
+
+-- and so of records whose first is read ahead
+abbrev pub OwesOwn : Settings → Text → (names : List (List ℕ)) → OwnRecords → Type 0
+OwesOwn settings text names o = OwesAfter settings text names o.first o.records
+
+-- what they owe once the next was taken
+abbrev pub PaysOwn : Settings → Text → (names : List (List ℕ)) →
+    Option (Result OwnRecord LineError) → OwnRecords → Type 0
+PaysOwn settings text names None t = AreAllGiven settings text names
+PaysOwn settings text names (Some (Ok own)) t = OwesOwn settings text
+    (full_ref_bytes own.name ∷ names) t
+PaysOwn settings text names (Some (Err e)) t = Unit {0}
+
+-- a file was found under its name
+abbrev pub IsUnderItsName : FoundEntry → Type 0
+IsUnderItsName (key, File name path) = full_bytes name ≡ key.items
+IsUnderItsName (key, Unlisted path error) = Unit {0}
+
+-- What is yet to come of a listing has each other name that is due, where these were given; or a fault is yet to come.
+pub record OwesNames (settings : Settings) (text : Text) (names : List (List ℕ))
+    (m : Merge) : Type 0 where
+  pub found : All IsUnderItsName m.found.entries
+  pub packed : OwesOwn settings text names m.packed
+
+-- and so once the next was taken; with a fault nothing is owed any more
+abbrev pub PaysTaken : Settings → Text → (names : List (List ℕ)) → Option Taken → Merge → Type 0
+PaysTaken settings text names None t = AreAllGiven settings text names
+PaysTaken settings text names (Some (taking.Walked (File name path))) t = OwesNames settings text
+    (full_bytes name ∷ names) t
+PaysTaken settings text names (Some (taking.Walked (Unlisted path error))) t = Unit {0}
+PaysTaken settings text names (Some (taking.Packed (Ok own))) t = OwesNames settings text
+    (full_ref_bytes own.name ∷ names) t
+PaysTaken settings text names (Some (taking.Packed (Err error))) t = Unit {0}
+
+-- and so once the next was given as an item; at the end each name that is due was given
+abbrev pub PaysItem : Settings → Text → (names : List (List ℕ)) →
+    Option (Result Reference Error) → Merge → Type 0
+PaysItem settings text names None t = AreAllGiven settings text names
+PaysItem settings text names (Some (Ok r)) t = OwesNames settings text (full_bytes r.name ∷ names) t
+PaysItem settings text names (Some (Err error)) t = Unit {0}
