@@ -3,7 +3,6 @@
 //! `update-many` makes one transaction of TURNS updates with log lines, and `prepare-many` only prepares it; `delete-many` makes one of
 //! TURNS deletions, of the names in `peers-names.txt`. `pack-many` makes one of TURNS updates without log lines that go into `packed-refs`
 //! in place of their loose files, and `pack-many-beside` one that writes these too. These sync nothing.
-use gix_ref_base::target::Target;
 use gix_ref_edits::transaction::{Change, LogChange, PreviousValue, RefEdit, RefLog};
 use gix_ref_files::disk::Disk;
 use gix_ref_files::files::Files;
@@ -14,6 +13,7 @@ use gix_ref_object::object::{Data, Find, FindError};
 use gix_ref_store::file::Store;
 use gix_ref_store::file::transaction::PackedRefs;
 use gix_ref_store::store::{Options, WriteReflog};
+use gix_ref_target::target::Target;
 use std::alloc::Global;
 
 /// A finder for which each id is that of a commit.

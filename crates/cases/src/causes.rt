@@ -2,7 +2,7 @@
 use anyhow::Result;
 use bstr::ByteSlice;
 use gix_ref_follow::peel::to_object;
-use gix_ref_lines::create_or_update;
+use gix_ref_reflog::create_or_update;
 use gix_ref_store::file::iter::loose_then_packed;
 use gix_ref_store::file::transaction::{commit, prepare};
 use gix_ref_store::file::{find, log};

@@ -8,10 +8,10 @@
 use crate::texts::{Texts, split};
 use anyhow::{Context, Result, bail};
 use bstr::ByteSlice;
-use gix_ref_base::target::Target;
 use gix_ref_edits::transaction::{Change, LogChange, PreviousValue, RefEdit, RefLog};
 use gix_ref_hash::hash::ObjectId;
 use gix_ref_name::name::{FullName, FullNameRef};
+use gix_ref_target::target::Target;
 use std::alloc::Global;
 
 /// The options of an edit.

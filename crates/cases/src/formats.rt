@@ -22,8 +22,8 @@ use gix_ref_lookup::loose;
 use gix_ref_name::name::{FullNameRef, PartialNameRef};
 use gix_ref_packed::packed::iter::Error as ItemError;
 use gix_ref_packed::packed::{Buffer, Iter};
-use gix_ref_records::packed::Reference;
-use gix_ref_records::packed::decode::{
+use gix_ref_packed_text::packed::Reference;
+use gix_ref_packed_text::packed::decode::{
     Peeled, header, name_at_record_start, record_start_at_offset, reference,
 };
 use std::alloc::Global;

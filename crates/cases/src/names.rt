@@ -11,11 +11,11 @@ use crate::transactions::{Said, line};
 use crate::world::World;
 use anyhow::{Context, Result, bail};
 use bstr::ByteSlice;
-use gix_ref_base::layout::RefLayout;
 use gix_ref_hash::hash::{Kind, ObjectId};
 use gix_ref_name::name::compose::{compose, decompose};
 use gix_ref_name::name::{Category, FullNameRef, PartialNameRef};
 use gix_ref_name::namespace::{Namespace, expand};
+use gix_ref_target::layout::RefLayout;
 use std::alloc::Global;
 
 /// A category in words.

@@ -17,15 +17,15 @@ use gix_ref_files::lock::{Acquire, Lock};
 use gix_ref_name::name::PartialNameRef;
 use gix_ref_packed::packed::Buffer;
 use gix_ref_packed_transaction::Transaction;
+use gix_ref_read_back::error::Error;
+use gix_ref_read_back::find::commit_then_find;
+use gix_ref_read_back::list::commit_then_list;
+use gix_ref_read_back::make::make;
+use gix_ref_read_back::read::commit_then_read;
 use gix_ref_store::file::Store;
 use gix_ref_store::file::find::existing;
 use gix_ref_store::file::iter::{self, loose_then_packed};
 use gix_ref_store::raw::Reference;
-use gix_ref_whole::error::Error;
-use gix_ref_whole::find::commit_then_find;
-use gix_ref_whole::list::commit_then_list;
-use gix_ref_whole::make::make;
-use gix_ref_whole::read::commit_then_read;
 use std::alloc::Global;
 
 /// The edits of a transaction.

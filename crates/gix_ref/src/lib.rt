@@ -15,7 +15,6 @@ pub mod log;
 pub mod packed;
 pub mod theorems;
 
-pub use gix_ref_base::{layout, target};
 pub use gix_ref_edits::transaction;
 pub use gix_ref_files::{lock, steps};
 pub use gix_ref_follow::peel;
@@ -25,3 +24,4 @@ pub use gix_ref_name::{name, namespace};
 pub use gix_ref_object::object;
 pub use gix_ref_packed::raw;
 pub use gix_ref_store::store;
+pub use gix_ref_target::{layout, target};

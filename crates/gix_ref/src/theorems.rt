@@ -6,7 +6,7 @@ pub use gix_ref_log::laws::{lines_read_back, signatures_read_back};
 pub use gix_ref_lookup::laws::loose_texts_are_read;
 pub use gix_ref_name::laws::shown_names;
 pub use gix_ref_object::laws::ends_of_chains;
+pub use gix_ref_theory::example::worked_example;
 pub use gix_ref_theory::theorems::{
     every_loss, every_stop, every_synced_run, every_tree, places_keep_the_laws,
 };
-pub use gix_ref_worked_example::theorems::worked_example;

@@ -4,11 +4,11 @@ use Rattle.std.specs.Prelude.{◌&&◌, ◌||◌, is_some, slice_index_or}
 use Rattle.std.specs.List.{list_any}
 use Rattle.gix_ref_hash.specs.declared.hash.ObjectId.{ObjectId}
 use Rattle.gix_ref_hash.specs.declared.hash.Kind.{Kind}
-use Rattle.gix_ref_grammar.specs.NameGrammar.{IsFullName}
+use Rattle.gix_ref_name.specs.NameGrammar.{IsFullName}
 use Rattle.gix_ref_name.specs.Names.{full_bytes}
 use Rattle.gix_ref_name.specs.declared.name.FullName.{FullName}
-use Rattle.gix_ref_base.specs.PackedRecords.{Record}
-use Rattle.gix_ref_base.specs.Targets.{TargetValue}
+use Rattle.gix_ref_target.specs.PackedRecords.{Record}
+use Rattle.gix_ref_target.specs.Targets.{TargetValue}
 use Rattle.gix_ref_files.specs.Tree.{Path}
 use Rattle.gix_ref_theory.specs.Edits as plan
 use Rattle.gix_ref_theory.specs.Edits.{Mode}
@@ -27,8 +27,8 @@ use Rattle.gix_ref_transaction.specs.declared.edit.Edit.{Edit}
 use Rattle.gix_ref_transaction.specs.CommitRenames.{written_flags}
 use Rattle.gix_ref_transaction.specs.Effects.{is_write}
 use Rattle.gix_ref_transaction.proofs.EditsApart.{heads}
-use Rattle.gix_ref_repack.specs.Repacks.{AllCanBePut, alters_record}
-use Rattle.gix_ref_lines.specs.AskedEdits.{ButLog, all_but_logs}
+use Rattle.gix_ref_packed_transaction.specs.Repacks.{AllCanBePut, alters_record}
+use Rattle.gix_ref_reflog.specs.AskedEdits.{ButLog, all_but_logs}
 use Rattle.gix_ref_commit.specs.LogEffects.{AreLogsOf, Extra, IsLogOf, but_lines, edit_with, extra_in, extras_in, lines_in, with_ends, with_extras}
 
 -- one edit

@@ -6,19 +6,19 @@ use Rattle.gix_ref_hash.specs.Bytes.{BeginsWith, is_slash}
 use Rattle.gix_ref_hash.specs.declared.hash.Kind.{Kind}
 use Rattle.gix_ref_hash.specs.declared.hash.ObjectId.{ObjectId}
 use Rattle.gix_ref_hash.proofs.ByteLemmas.{no_byte}
-use Rattle.gix_ref_grammar.specs.NameGrammar.{IsFullName, IsPartialName}
-use Rattle.gix_ref_grammar.proofs.PartialNames.{IsPath, first_component, name_of_rules, rules_of}
+use Rattle.gix_ref_name.specs.NameGrammar.{IsFullName, IsPartialName}
+use Rattle.gix_ref_name.proofs.PartialNames.{IsPath, first_component, name_of_rules, rules_of}
 use Rattle.gix_ref_name.specs.Names.{full_bytes}
 use Rattle.gix_ref_name.specs.Namespaces.{namespace_bytes}
 use Rattle.gix_ref_name.specs.declared.name.FullName.{FullName}
 use Rattle.gix_ref_name.specs.declared.namespace.Namespace.{Namespace}
 use Rattle.gix_ref_name.proofs.CandidateNames.{full_with_slash}
-use Rattle.gix_ref_base.specs.Layout.{RefPaths}
-use Rattle.gix_ref_base.specs.Locations.{Location, row_of}
-use Rattle.gix_ref_base.specs.Locations.Location.{Common, ThisWorktree, MainWorktree, LinkedWorktree}
-use Rattle.gix_ref_base.specs.Targets.{TargetValue, target_value}
-use Rattle.gix_ref_base.specs.Targets.TargetValue.{object_id, symbolic_name}
-use Rattle.gix_ref_base.proofs.LocationLemmas.{HasSpot, IsBy, has_spot, test_no_slash}
+use Rattle.gix_ref_target.specs.Layout.{RefPaths}
+use Rattle.gix_ref_target.specs.Locations.{Location, row_of}
+use Rattle.gix_ref_target.specs.Locations.Location.{Common, ThisWorktree, MainWorktree, LinkedWorktree}
+use Rattle.gix_ref_target.specs.Targets.{TargetValue, target_value}
+use Rattle.gix_ref_target.specs.Targets.TargetValue.{object_id, symbolic_name}
+use Rattle.gix_ref_target.proofs.LocationLemmas.{HasSpot, IsBy, has_spot, test_no_slash}
 use Rattle.gix_ref_object.specs.Objects.{Stored}
 use Rattle.gix_ref_theory.specs.ConcreteStore.{store_of}
 use Rattle.gix_ref_theory.specs.Edits as plan
@@ -27,7 +27,7 @@ use Rattle.gix_ref_theory.specs.Readings.{Store}
 use Rattle.gix_ref_theory.proofs.PlaceLaws.{known, row_by}
 use Rattle.gix_ref_lookup.specs.StoreLayout.{folders_of, git_options, namespace_text}
 use Rattle.gix_ref_lookup.specs.declared.folders.Dirs.{Dirs}
-use Rattle.gix_ref_rewrite.specs.Laws.{IsIdIfAny}
+use Rattle.gix_ref_packed_text.specs.Laws.{IsIdIfAny}
 use Rattle.gix_ref_edits.specs.RefEdits.{name_of, mode_of, new_of, is_of_reference}
 use Rattle.gix_ref_edits.specs.declared.transaction.Change.{Change}
 use Rattle.gix_ref_edits.specs.declared.transaction.Change.TheVariants as changes
@@ -42,7 +42,7 @@ use Rattle.gix_ref_transaction.specs.declared.edit.Edit.{Edit}
 use Rattle.gix_ref_transaction.specs.declared.edit.PackedObject.{PackedObject}
 use Rattle.gix_ref_transaction.proofs.Adds.{any_right}
 use Rattle.gix_ref_transaction.proofs.EditsApart.{heads}
-use Rattle.gix_ref_repack.specs.Repacks.{AllCanBePut, CanBePut}
+use Rattle.gix_ref_packed_transaction.specs.Repacks.{AllCanBePut, CanBePut}
 use Rattle.gix_ref_commit.proofs.Alike.{AreSame}
 
 this_differs : (k n : List ℕ) → ThisWorktree k ≢ Common n

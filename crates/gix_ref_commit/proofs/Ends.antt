@@ -4,7 +4,7 @@ use Rattle.std.proofs.Common.{◌≡◌, ◌≢◌, ⊎_elim, ℕ, List, [], ◌
 use Rattle.std.specs.Prelude.{bytes_eq}
 use Rattle.gix_ref_hash.specs.declared.hash.Kind.{Kind}
 use Rattle.gix_ref_name.specs.declared.namespace.Namespace.{Namespace}
-use Rattle.gix_ref_base.specs.PackedRecords.{Record}
+use Rattle.gix_ref_target.specs.PackedRecords.{Record}
 use Rattle.gix_ref_files.specs.Tree.{Tree, Path, is_file}
 use Rattle.gix_ref_files.specs.Disk.{Disk, Lost}
 use Rattle.gix_ref_files.specs.Files.{Meaning, disk_of, Passes}
@@ -35,7 +35,7 @@ use Rattle.gix_ref_theory.proofs.Plans.{edit_behind, edit_in_front}
 use Rattle.gix_ref_theory.proofs.Trees as trees
 use Rattle.gix_ref_lookup.specs.Lookups.{ArePackedRecords}
 use Rattle.gix_ref_lookup.specs.declared.folders.Dirs.{Dirs}
-use Rattle.gix_ref_rewrite.specs.declared.outcome.Rewrite.{Rewrite}
+use Rattle.gix_ref_packed_text.specs.declared.outcome.Rewrite.{Rewrite}
 use Rattle.gix_ref_edits.specs.declared.transaction.RefEdit.{RefEdit}
 use Rattle.gix_ref_transaction.specs.Causes.{IsPackedWell, locks_of}
 use Rattle.gix_ref_transaction.specs.OwnLocks.{is_in, OnlyRemoves, RemovesLocks}
@@ -48,7 +48,7 @@ use Rattle.gix_ref_transaction.proofs.PackedLocks.{taken_was_free}
 use Rattle.gix_ref_commit.specs.Entries.{Entry, planned_entries, bare, bare_steps, steps_in}
 use Rattle.gix_ref_commit.specs.CommittedTrees.{AreCommitted}
 use Rattle.gix_ref_commit.specs.LogEffects.{but_lines, extras_in, with_extras}
-use Rattle.gix_ref_repack.specs.Repacks.{IsRepack}
+use Rattle.gix_ref_packed_transaction.specs.Repacks.{IsRepack}
 use Rattle.gix_ref_commit.specs.Cleared.{commit_entries, folder_lists}
 use Rattle.gix_ref_commit.specs.declared.folders.InWay.{InWay}
 use Rattle.gix_ref_commit.proofs.Carries as carries

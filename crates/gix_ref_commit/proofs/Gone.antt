@@ -9,8 +9,8 @@ use Rattle.gix_ref_files.specs.Steps.Step.{Create, Append, Line, Rename, RemoveF
 use Rattle.gix_ref_files.proofs.Between.{done_is_begun}
 use Rattle.gix_ref_files.proofs.Puts.{put_at, put_other}
 use Rattle.gix_ref_lookup.specs.declared.folders.Dirs.{Dirs}
-use Rattle.gix_ref_rewrite.specs.declared.outcome.Rewrite.{Rewrite}
-use Rattle.gix_ref_rewrite.specs.declared.outcome.Rewrite.TheVariants.{Unchanged, Removed, Text}
+use Rattle.gix_ref_packed_text.specs.declared.outcome.Rewrite.{Rewrite}
+use Rattle.gix_ref_packed_text.specs.declared.outcome.Rewrite.TheVariants.{Unchanged, Removed, Text}
 use Rattle.gix_ref_theory.proofs.Trees as trees
 use Rattle.gix_ref_transaction.proofs.Adds.{either_way, same_path, is_same_path, clash}
 use Rattle.gix_ref_transaction.specs.declared.edit.Edit.{Edit}

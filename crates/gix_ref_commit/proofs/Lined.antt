@@ -2,10 +2,10 @@
 use Rattle.std.proofs.Common.{◌≡◌, ◌≢◌, inl, inr, ℕ, List, [], ◌∷◌, Bool, Option, None, refl, sym, ◌∙◌, ap, if◌then◌else◌}
 use Rattle.std.specs.Prelude.{◌&&◌, ◌||◌}
 use Rattle.gix_ref_hash.specs.declared.hash.Kind.{Kind}
-use Rattle.gix_ref_base.specs.PackedRecords.{Record, record_named}
-use Rattle.gix_ref_base.specs.Targets.TargetValue.{object_id, symbolic_name}
-use Rattle.gix_ref_rewrite.specs.declared.outcome.Rewrite.{Rewrite}
-use Rattle.gix_ref_rewrite.specs.declared.outcome.Rewrite.TheVariants.{Unchanged, Removed, Text}
+use Rattle.gix_ref_target.specs.PackedRecords.{Record, record_named}
+use Rattle.gix_ref_target.specs.Targets.TargetValue.{object_id, symbolic_name}
+use Rattle.gix_ref_packed_text.specs.declared.outcome.Rewrite.{Rewrite}
+use Rattle.gix_ref_packed_text.specs.declared.outcome.Rewrite.TheVariants.{Unchanged, Removed, Text}
 use Rattle.gix_ref_theory.specs.Between.{AreEdits, IsEdit, MergesRecords}
 use Rattle.gix_ref_theory.specs.Edits.{Change, Edit, Mode, alters_change, alters_packed, is_key, merged_record, edited_record}
 use Rattle.gix_ref_theory.specs.Edits.Change.{Update, Delete}
@@ -14,7 +14,7 @@ use Rattle.gix_ref_edits.specs.RefEdits.{name_of, mode_of, is_of_reference}
 use Rattle.gix_ref_edits.specs.declared.transaction.RefEdit.{RefEdit}
 use Rattle.gix_ref_transaction.specs.CarriedEdits.{change_of, edit_of}
 use Rattle.gix_ref_transaction.specs.CommittedEdits.{planned}
-use Rattle.gix_ref_repack.specs.Repacks.{IsRepack}
+use Rattle.gix_ref_packed_transaction.specs.Repacks.{IsRepack}
 use Rattle.gix_ref_commit.specs.LogEffects.{Extra, but_line, but_lines, edit_with, with_extras}
 
 -- each is one of the edits without its line

@@ -12,11 +12,11 @@ use Rattle.gix_ref_transaction.specs.PrepareSteps.{updates}
 use Rattle.gix_ref_transaction.specs.declared.edit.Edit.{Edit}
 use Rattle.gix_ref_transaction.specs.declared.edit.LogEffect.{LogEffect}
 use Rattle.gix_ref_transaction.specs.declared.edit.LogEffect.TheVariants.{Keep, Append, Remove}
-use Rattle.gix_ref_lines.specs.AskedEdits.{asked_edit, asked_from, leaf_after, outcome_of, outcomes_of}
-use Rattle.gix_ref_lines.specs.DueLines.{LogOutcome, LogRules, AskedEdit, due_line, due_lines, ids_of, is_off, log_outcome, log_outcomes, asked_log, outcome_by, with_log, written_ids}
-use Rattle.gix_ref_lines.specs.DueLines.LogOutcome.{Stays, Gains, Goes}
-use Rattle.gix_ref_lines.specs.declared.ids.LineIds.{LineIds}
-use Rattle.gix_ref_lines.proofs.LineSteps.{no_ids, no_line}
+use Rattle.gix_ref_reflog.specs.AskedEdits.{asked_edit, asked_from, leaf_after, outcome_of, outcomes_of}
+use Rattle.gix_ref_reflog.specs.DueLines.{LogOutcome, LogRules, AskedEdit, due_line, due_lines, ids_of, is_off, log_outcome, log_outcomes, asked_log, outcome_by, with_log, written_ids}
+use Rattle.gix_ref_reflog.specs.DueLines.LogOutcome.{Stays, Gains, Goes}
+use Rattle.gix_ref_reflog.specs.declared.ids.LineIds.{LineIds}
+use Rattle.gix_ref_reflog.proofs.LineSteps.{no_ids, no_line}
 use Rattle.gix_ref_commit.specs.LogEffects.{IsLogOf, AreLogsOf, line_in, lines_in}
 use Rattle.gix_ref_transaction.proofs.EditsApart.{heads}
 

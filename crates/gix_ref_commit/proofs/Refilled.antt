@@ -2,7 +2,7 @@
 use Rattle.std.proofs.Common.{◌≡◌, ◌⊎◌, inl, inr, ⊎_elim, ℕ, zero, suc, ◌+◌, ◌<◌, ◌≤◌, List, [], ◌∷◌, ◌++◌, length, length-append, true, false, Option, Some, None, IsSome, refl, sym, ◌∙◌, ap, subst, arith, append_assoc, All, AllPairs, Contains, get_or}
 use Rattle.std.specs.Prelude.{bytes_eq, codes}
 use Rattle.std.proofs.lemmas.List.{append-nil, get_or-append-add, get_or_at}
-use Rattle.gix_ref_base.specs.Layout.{LiesIn}
+use Rattle.gix_ref_target.specs.Layout.{LiesIn}
 use Rattle.gix_ref_files.specs.Calls.{IsEntryName}
 use Rattle.gix_ref_files.specs.Disk.{folder_of}
 use Rattle.gix_ref_files.specs.Lock.{lock_of}
@@ -15,8 +15,8 @@ use Rattle.gix_ref_files.proofs.FolderOf.{fronts_of_folder}
 use Rattle.gix_ref_files.proofs.Puts.{put_at, put_other}
 use Rattle.gix_ref_files.proofs.Settling.{front_splits}
 use Rattle.gix_ref_lookup.specs.declared.folders.Dirs.{Dirs}
-use Rattle.gix_ref_rewrite.specs.declared.outcome.Rewrite.{Rewrite}
-use Rattle.gix_ref_rewrite.specs.declared.outcome.Rewrite.TheVariants.{Unchanged, Removed, Text}
+use Rattle.gix_ref_packed_text.specs.declared.outcome.Rewrite.{Rewrite}
+use Rattle.gix_ref_packed_text.specs.declared.outcome.Rewrite.TheVariants.{Unchanged, Removed, Text}
 use Rattle.gix_ref_transaction.specs.declared.edit.Edit.{Edit}
 use Rattle.gix_ref_transaction.specs.declared.edit.Effect.{Effect}
 use Rattle.gix_ref_transaction.specs.declared.edit.Effect.TheVariants as effects

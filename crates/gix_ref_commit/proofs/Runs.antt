@@ -1,19 +1,18 @@
 -- The planned steps of a commit carry out the plan of the theory, where `packed-refs` was well formed.
-use Rattle.std.specs.Prelude.{MatchBool}
+use Rattle.std.specs.Prelude.{MatchBool, is_some}
 use Rattle.std.proofs.Common.{◌≡◌, ◌≢◌, ◌⊎◌, inl, inr, ⊎_elim, ℕ, suc, List, [], ◌∷◌, Bool, true, false, ◌||◌, ◌&&◌, Option, Some, None, IsSome, All, refl, sym, ◌∙◌, ap, subst, arith, if◌then◌else◌, map}
-use Rattle.std.specs.Prelude.{is_some}
 use Rattle.std.specs.List.{list_any}
 use Rattle.gix_ref_hash.specs.declared.hash.Kind.{Kind}
 use Rattle.gix_ref_hash.specs.declared.hash.ObjectId.{ObjectId}
 use Rattle.gix_ref_name.specs.declared.namespace.Namespace.{Namespace}
-use Rattle.gix_ref_base.specs.PackedRecords.{Record, record_named, id_read, written_id}
-use Rattle.gix_ref_base.specs.Targets.{TargetValue, target_value}
-use Rattle.gix_ref_base.specs.Targets.TargetValue.{object_id}
+use Rattle.gix_ref_target.specs.PackedRecords.{Record, record_named, id_read, written_id}
+use Rattle.gix_ref_target.specs.Targets.{TargetValue, target_value}
+use Rattle.gix_ref_target.specs.Targets.TargetValue.{object_id}
 use Rattle.gix_ref_files.specs.Tree.{Tree, Path, Content, file_of, is_file}
 use Rattle.gix_ref_files.specs.Tree.Content.{File, Folder}
 use Rattle.gix_ref_files.specs.Disk.{Disk}
 use Rattle.gix_ref_files.specs.Lock.{lock_of}
-use Rattle.gix_ref_records.specs.WrittenText.{written_header}
+use Rattle.gix_ref_packed_text.specs.WrittenText.{written_header}
 use Rattle.gix_ref_theory.proofs.MergedRecords.{merged_once}
 use Rattle.gix_ref_theory.specs.Between.{AreEdits, IsEdit, IsPackedFile, IsPrepared, MergesRecords}
 use Rattle.gix_ref_theory.specs.Edits.{Change, Edit, Effect, Mode, effect, alters_change, alters_packed, file_of_records, is_object, packs_updates}
@@ -30,8 +29,8 @@ use Rattle.gix_ref_theory.proofs.OnDisks.{own_is_lock}
 use Rattle.gix_ref_lookup.specs.StoreLayout.{folders_of}
 use Rattle.gix_ref_lookup.specs.Lookups.{ArePackedRecords}
 use Rattle.gix_ref_lookup.specs.declared.folders.Dirs.{Dirs}
-use Rattle.gix_ref_rewrite.specs.declared.outcome.Rewrite.{Rewrite}
-use Rattle.gix_ref_rewrite.specs.declared.outcome.Rewrite.TheVariants.{Unchanged, Removed, Text}
+use Rattle.gix_ref_packed_text.specs.declared.outcome.Rewrite.{Rewrite}
+use Rattle.gix_ref_packed_text.specs.declared.outcome.Rewrite.TheVariants.{Unchanged, Removed, Text}
 use Rattle.gix_ref_edits.specs.RefEdits.{name_of, new_of, mode_of, is_of_reference}
 use Rattle.gix_ref_edits.specs.declared.transaction.RefEdit.{RefEdit}
 use Rattle.gix_ref_edits.specs.declared.transaction.Change.{Change as GivenChange}
@@ -54,7 +53,7 @@ use Rattle.gix_ref_transaction.proofs.PackedLemmas.{records_are}
 use Rattle.gix_ref_files.specs.Steps.{Step}
 use Rattle.gix_ref_commit.specs.Entries.{Entry, planned_entries, bare_steps, steps_in, bare}
 use Rattle.gix_ref_commit.specs.LogEffects.{IsLogOf, but_lines, edit_with, extra_in, extras_in, line_in, with_extras}
-use Rattle.gix_ref_repack.specs.Repacks.{IsRepack}
+use Rattle.gix_ref_packed_transaction.specs.Repacks.{IsRepack}
 use Rattle.gix_ref_commit.specs.Cleared.{commit_entries, folder_lists}
 use Rattle.gix_ref_commit.specs.declared.folders.InWay.{InWay}
 use Rattle.gix_ref_commit.proofs.Carries as carries

@@ -8,9 +8,9 @@ use Rattle.gix_ref_files.specs.Steps.{Step}
 use Rattle.gix_ref_files.specs.declared.files.FileError.{FileError}
 use Rattle.gix_ref_files.specs.declared.steps.Cause.TheVariants.{File as Fault, Sync, Unexpected, Asked}
 use Rattle.gix_ref_lookup.specs.declared.folders.Dirs.{Dirs}
-use Rattle.gix_ref_rewrite.specs.declared.outcome.Rewrite.{Rewrite}
-use Rattle.gix_ref_lines.specs.declared.create_or_update.Error.{Error as LogError}
-use Rattle.gix_ref_lines.specs.declared.create_or_update.Error.TheVariants.{CreateLeadingDirectories, Append, MessageWithNewlines, MissingCommitter, SignatureUnwritable}
+use Rattle.gix_ref_packed_text.specs.declared.outcome.Rewrite.{Rewrite}
+use Rattle.gix_ref_reflog.specs.declared.create_or_update.Error.{Error as LogError}
+use Rattle.gix_ref_reflog.specs.declared.create_or_update.Error.TheVariants.{CreateLeadingDirectories, Append, MessageWithNewlines, MissingCommitter, SignatureUnwritable}
 use Rattle.gix_ref_transaction.specs.Causes.{names_of}
 use Rattle.gix_ref_transaction.specs.CommitRenames.{log_at}
 use Rattle.gix_ref_transaction.specs.PrepareSteps.{updates}

@@ -14,7 +14,7 @@ use Rattle.gix_ref_files.specs.Tree.{Tree, Path, Content, fronts, is_file, is_fo
 use Rattle.gix_ref_files.specs.Tree.Content.{File, Folder}
 use Rattle.gix_ref_files.specs.declared.files.Entry.{Entry as FolderEntry}
 use Rattle.gix_ref_files.proofs.Settling.{front_splits}
-use Rattle.gix_ref_base.specs.Layout.{LiesIn}
+use Rattle.gix_ref_target.specs.Layout.{LiesIn}
 use Rattle.gix_ref_lookup.specs.CleanPaths.{common_of}
 use Rattle.gix_ref_lookup.specs.declared.folders.Dirs.{Dirs}
 use Rattle.gix_ref_transaction.proofs.Adds.{clash}

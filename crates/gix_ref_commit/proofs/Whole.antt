@@ -6,7 +6,7 @@ use Rattle.std.proofs.lemmas.Bool.{eqb-true}
 use Rattle.std.proofs.lemmas.List.{append-nil, get_or_append_left, get_or-append_right, get_or_default, length-map, map-append, reverse-append, take_all, take_more}
 use Rattle.std.proofs.lemmas.List.Elements.{All-cons, All-head, All-nil, All-push, All-tail}
 use Rattle.std.proofs.lemmas.List.Quantifiers.{all_pairs_push}
-use Rattle.gix_ref_base.specs.Layout.{LiesIn}
+use Rattle.gix_ref_target.specs.Layout.{LiesIn}
 use Rattle.gix_ref_files.specs.Calls.{IsEntryName, IsEntryOf, ListsFolder, entry_name}
 use Rattle.gix_ref_files.specs.Settled.{IsIn}
 use Rattle.gix_ref_files.specs.Tree.{Tree, Path, is_folder}

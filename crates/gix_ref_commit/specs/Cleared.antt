@@ -1,7 +1,7 @@
 -- Empty folders: those in the way of what a commit writes, which are removed before each write, and those above what it removed.
 use Rattle.std.specs.Prelude.{◌≡◌, ◌⊎◌, ◌<◌, AllPairs, IsSome, ℕ, suc, ◌+◌, List, [], ◌∷◌, ◌++◌, length, drop, map, Bool, true, false, Option, Some, None, codes, nat_eq, ◌==◌, if◌then◌else◌}
 use Rattle.std.specs.List.{All, flat_map, starts_with}
-use Rattle.gix_ref_base.specs.Layout.{LiesIn}
+use Rattle.gix_ref_target.specs.Layout.{LiesIn}
 use Rattle.gix_ref_files.specs.Calls.{IsEntryName}
 use Rattle.gix_ref_files.specs.Tree.{Tree, Path, is_file, is_folder}
 use Rattle.gix_ref_files.specs.Tree.Content.{Folder}
@@ -14,7 +14,7 @@ use Rattle.gix_ref_files.specs.DiskSteps.Synced.{With}
 use Rattle.gix_ref_lookup.specs.CleanPaths.{common_of}
 use Rattle.gix_ref_lookup.specs.StoreLayout.{folders_of, root_in}
 use Rattle.gix_ref_lookup.specs.declared.folders.Dirs.{Dirs}
-use Rattle.gix_ref_rewrite.specs.declared.outcome.Rewrite.{Rewrite}
+use Rattle.gix_ref_packed_text.specs.declared.outcome.Rewrite.{Rewrite}
 use Rattle.gix_ref_theory.specs.OnDisks.{IsAsBefore}
 use Rattle.gix_ref_theory.specs.OnRealTrees.{view_of}
 use Rattle.gix_ref_theory.specs.Roots.{roots}

@@ -1,18 +1,18 @@
 -- What a commit has decided of `packed-refs`, and what of it is on the tree before its first write.
 use Rattle.std.specs.Prelude.{◌≡◌, ◌≢◌, List, true, Option, Some, None, map}
 use Rattle.std.specs.List.{list_any}
-use Rattle.gix_ref_base.specs.PackedRecords.{Record}
+use Rattle.gix_ref_target.specs.PackedRecords.{Record}
 use Rattle.gix_ref_files.specs.Files.{Meaning, disk_of, Leaves, FaultCounts, NoFewer}
 use Rattle.gix_ref_files.specs.Lock.{lock_of}
 use Rattle.gix_ref_files.specs.Tree.{Tree, Path, put}
 use Rattle.gix_ref_files.specs.Tree.Content.{File}
 use Rattle.gix_ref_lookup.specs.Lookups.{packed_refs_in, ArePackedRecords}
 use Rattle.gix_ref_lookup.specs.declared.settings.Settings.{Settings}
-use Rattle.gix_ref_repack.specs.Refusals.{IsCountedRefusal, IsReadFile, IsRefusedRewrite, IsRepackFault}
-use Rattle.gix_ref_repack.specs.Repacks.{AllCanBePut, IsRepack, alters_record}
-use Rattle.gix_ref_repack.specs.declared.error.Error.{Error}
-use Rattle.gix_ref_rewrite.specs.declared.outcome.Rewrite.{Rewrite}
-use Rattle.gix_ref_rewrite.specs.declared.outcome.Rewrite.TheVariants.{Text}
+use Rattle.gix_ref_packed_transaction.specs.Refusals.{IsCountedRefusal, IsReadFile, IsRefusedRewrite, IsRepackFault}
+use Rattle.gix_ref_packed_transaction.specs.Repacks.{AllCanBePut, IsRepack, alters_record}
+use Rattle.gix_ref_packed_transaction.specs.declared.error.Error.{Error}
+use Rattle.gix_ref_packed_text.specs.declared.outcome.Rewrite.{Rewrite}
+use Rattle.gix_ref_packed_text.specs.declared.outcome.Rewrite.TheVariants.{Text}
 use Rattle.gix_ref_theory.specs.Between.{AreEdits}
 use Rattle.gix_ref_theory.specs.Edits.{Mode}
 use Rattle.gix_ref_transaction.specs.OwnLocks.{OnlyLocks}

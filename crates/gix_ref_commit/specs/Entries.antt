@@ -14,8 +14,8 @@ use Rattle.gix_ref_files.specs.declared.steps.Cause.TheVariants as causes
 use Rattle.gix_ref_files.specs.declared.steps.Planned.{Planned}
 use Rattle.gix_ref_lookup.specs.StoreLayout.{root_in}
 use Rattle.gix_ref_lookup.specs.declared.folders.Dirs.{Dirs}
-use Rattle.gix_ref_rewrite.specs.declared.outcome.Rewrite.{Rewrite}
-use Rattle.gix_ref_rewrite.specs.declared.outcome.Rewrite.TheVariants.{Unchanged, Removed, Text}
+use Rattle.gix_ref_packed_text.specs.declared.outcome.Rewrite.{Rewrite}
+use Rattle.gix_ref_packed_text.specs.declared.outcome.Rewrite.TheVariants.{Unchanged, Removed, Text}
 use Rattle.gix_ref_transaction.specs.CommitRenames.{is_file_seen}
 use Rattle.gix_ref_transaction.specs.declared.edit.Edit.{Edit}
 use Rattle.gix_ref_transaction.specs.declared.edit.Effect.{Effect}

@@ -9,12 +9,12 @@ use Rattle.gix_ref_files.specs.declared.files.FileError.{FileError}
 use Rattle.gix_ref_files.specs.declared.files.FileError.TheVariants.{Memory as no_want}
 use Rattle.gix_ref_files.specs.declared.steps.Cause.TheVariants.{File, Sync, Unexpected, Asked}
 use Rattle.gix_ref_edits.specs.declared.transaction.RefEdit.{RefEdit}
-use Rattle.gix_ref_lines.specs.declared.create_or_update.Error.{Error as LogError}
-use Rattle.gix_ref_lines.specs.declared.create_or_update.Error.TheVariants.{CreateLeadingDirectories, Append}
-use Rattle.gix_ref_lines.specs.declared.error.Error.{Error as LinesError}
-use Rattle.gix_ref_lines.specs.declared.error.Error.TheVariants as lines
-use Rattle.gix_ref_repack.specs.declared.error.Error.{Error as RepackError}
-use Rattle.gix_ref_repack.specs.declared.error.Error.TheVariants as repack
+use Rattle.gix_ref_reflog.specs.declared.create_or_update.Error.{Error as LogError}
+use Rattle.gix_ref_reflog.specs.declared.create_or_update.Error.TheVariants.{CreateLeadingDirectories, Append}
+use Rattle.gix_ref_reflog.specs.declared.error.Error.{Error as LinesError}
+use Rattle.gix_ref_reflog.specs.declared.error.Error.TheVariants as lines
+use Rattle.gix_ref_packed_transaction.specs.declared.error.Error.{Error as RepackError}
+use Rattle.gix_ref_packed_transaction.specs.declared.error.Error.TheVariants as repack
 use Rattle.gix_ref_transaction.specs.Causes.{names_of}
 use Rattle.gix_ref_transaction.specs.CommitRenames.{log_at, path_in}
 use Rattle.gix_ref_transaction.specs.PrepareSteps.{updates}

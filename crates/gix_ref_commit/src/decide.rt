@@ -15,10 +15,10 @@ use gix_ref_files::files::Files;
 use gix_ref_files::lock::LockFile;
 use gix_ref_lookup::folders::Dirs;
 use gix_ref_lookup::settings::Settings;
-use gix_ref_repack::error::Error;
-use gix_ref_repack::fill::write_text;
-use gix_ref_repack::repack::repack;
-use gix_ref_rewrite::outcome::Rewrite;
+use gix_ref_packed_text::outcome::Rewrite;
+use gix_ref_packed_transaction::error::Error;
+use gix_ref_packed_transaction::fill::write_text;
+use gix_ref_packed_transaction::repack::repack;
 use gix_ref_transaction::edit::Edit;
 use std::alloc::Global;
 

@@ -1,8 +1,8 @@
 //! Why a transaction is not committed.
 use gix_ref_edits::transaction::SplitError;
 use gix_ref_files::files::FileError;
-use gix_ref_lines::create_or_update;
 use gix_ref_name::name::FullName;
+use gix_ref_reflog::create_or_update;
 use std::convert::Infallible;
 use thiserror::Error;
 
@@ -13,7 +13,7 @@ pub enum Error {
     /// or where that was put in place (`Io`); or a line of it is no record (`Iteration`), and then nothing but locks has
     /// changed.
     #[error("packed-refs could not be changed: {0}")]
-    PackedTransactionCommit(gix_ref_repack::error::Error),
+    PackedTransactionCommit(gix_ref_packed_transaction::error::Error),
     /// A log line could not be added. It was refused before the first write, and nothing but locks has changed: `MissingCommitter`,
     /// `MessageWithNewlines`, `SignatureUnwritable`, or `CreateLeadingDirectories`. Or a call of files failed where the folders of the
     /// log were made (`CreateLeadingDirectories` with its source), or where the line was added or synced (`Append`); then the edits

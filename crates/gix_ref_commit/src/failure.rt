@@ -16,8 +16,8 @@ use gix_ref_files::files::FileError;
 use gix_ref_files::lock::LockFile;
 use gix_ref_files::paths::folder_end;
 use gix_ref_files::steps::Cause;
-use gix_ref_lines::create_or_update;
-use gix_ref_rewrite::outcome::Rewrite;
+use gix_ref_packed_text::outcome::Rewrite;
+use gix_ref_reflog::create_or_update;
 use gix_ref_transaction::edit::{Edit, LogEffect};
 use std::alloc::{AllocError, Global};
 
@@ -139,7 +139,9 @@ fn fault(mut edits: Vec<RefEdit>, log: Vec<u8>, about: About, source: FileError)
             full_name: edits.swap_remove(edit).name,
             source,
         },
-        About::Packed => Error::PackedTransactionCommit(gix_ref_repack::error::Error::Io(source)),
+        About::Packed => Error::PackedTransactionCommit(
+            gix_ref_packed_transaction::error::Error::Io(source),
+        ),
         About::Removal { edit } => Error::DeleteReference {
             full_name: edits.swap_remove(edit).name,
             err: source,
@@ -184,23 +186,23 @@ pub fn failure(
 }
 
 /// The error of a commit that could not decide its log lines.
-pub fn unlogged(error: gix_ref_lines::error::Error) -> Error
+pub fn unlogged(error: gix_ref_reflog::error::Error) -> Error
     ensures { result ≡ of_lines error }
 {
     match error {
-        gix_ref_lines::error::Error::CreateOrUpdateRefLog(error) => {
+        gix_ref_reflog::error::Error::CreateOrUpdateRefLog(error) => {
             Error::CreateOrUpdateRefLog(error)
         }
-        gix_ref_lines::error::Error::Memory => Error::Memory,
+        gix_ref_reflog::error::Error::Memory => Error::Memory,
     }
 }
 
 /// The error of a commit that could not decide what becomes of `packed-refs`.
-pub fn undecided(error: gix_ref_repack::error::Error) -> Error
+pub fn undecided(error: gix_ref_packed_transaction::error::Error) -> Error
     ensures { result ≡ of_repack error }
 {
     match error {
-        gix_ref_repack::error::Error::Memory => Error::Memory,
+        gix_ref_packed_transaction::error::Error::Memory => Error::Memory,
         error => Error::PackedTransactionCommit(error),
     }
 }
@@ -237,9 +239,9 @@ fn unlisted_step(
             let full_name = edits[edit].update.name.as_ref().to_owned(alloc)?;
             Ok(Error::LockCommit { source, full_name })
         }
-        About::Packed => Ok(Error::PackedTransactionCommit(gix_ref_repack::error::Error::Io(
-            source,
-        ))),
+        About::Packed => Ok(Error::PackedTransactionCommit(
+            gix_ref_packed_transaction::error::Error::Io(source),
+        )),
         About::Folders { .. } | About::LogRemoval { .. } | About::Removal { .. } => unreachable!(),
     }
 }

@@ -8,7 +8,7 @@ use gix_ref_files::lock::LockFile;
 use gix_ref_files::paths::folder;
 use gix_ref_files::steps::{Action, Planned, Settle};
 use gix_ref_lookup::folders::Dirs;
-use gix_ref_rewrite::outcome::Rewrite;
+use gix_ref_packed_text::outcome::Rewrite;
 use gix_ref_transaction::edit::{Edit, Effect, LogEffect};
 use std::alloc::{AllocError, Global};
 

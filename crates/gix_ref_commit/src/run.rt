@@ -9,7 +9,7 @@ use gix_ref_files::files::{FileError, Files};
 use gix_ref_files::lock::LockFile;
 use gix_ref_files::steps::{Cause, Ended, Planned, run_steps};
 use gix_ref_lookup::folders::Dirs;
-use gix_ref_rewrite::outcome::Rewrite;
+use gix_ref_packed_text::outcome::Rewrite;
 use gix_ref_transaction::edit::Edit;
 use std::alloc::Global;
 

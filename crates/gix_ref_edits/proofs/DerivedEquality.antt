@@ -5,12 +5,12 @@ use Rattle.std.specs.Cmp.Lexicographic.{bytes_decides}
 use Rattle.std.specs.Str.{bytes_eq}
 use mathlib.Core.Bool.{beq}
 use Rattle.gix_ref_hash.proofs.IdEquality.{id_eq, id_eq-decides}
-use Rattle.gix_ref_base.specs.declared.target.Target.{Target}
-use Rattle.gix_ref_base.specs.declared.target.Target.TheVariants.{Object, Symbolic}
-use Rattle.gix_ref_base.specs.contracts.target.TargetPartialEq.TheImpl as target_impl
+use Rattle.gix_ref_target.specs.declared.target.Target.{Target}
+use Rattle.gix_ref_target.specs.declared.target.Target.TheVariants.{Object, Symbolic}
+use Rattle.gix_ref_target.specs.contracts.target.TargetPartialEq.TheImpl as target_impl
 use Rattle.gix_ref_name.specs.Names.{full_bytes}
-use Rattle.gix_ref_base.specs.Targets.{target_value}
-use Rattle.gix_ref_base.specs.Targets.TargetValue.{object_id, symbolic_name}
+use Rattle.gix_ref_target.specs.Targets.{target_value}
+use Rattle.gix_ref_target.specs.Targets.TargetValue.{object_id, symbolic_name}
 use Rattle.gix_ref_edits.specs.declared.transaction.RefLog.{RefLog}
 use Rattle.gix_ref_edits.specs.declared.transaction.RefLog.TheVariants.{AndReference, Only}
 use Rattle.gix_ref_edits.specs.declared.transaction.LogChange.{LogChange}

@@ -4,11 +4,11 @@ use Rattle.std.specs.Ordering.{ordering_then, bool_cmp, nat_cmp}
 use Rattle.std.specs.Cmp.Lexicographic.{slice_cmp}
 use Rattle.std.specs.declared.cmp.Ordering.{Ordering}
 use Rattle.gix_ref_hash.specs.declared.hash.ObjectId.TheVariants.{Sha1, Sha256}
-use Rattle.gix_ref_base.specs.declared.target.Target.{Target}
-use Rattle.gix_ref_base.specs.declared.target.Target.TheVariants.{Object, Symbolic}
-use Rattle.gix_ref_base.specs.contracts.target.TargetOrd.TheImpl as target_impl
-use Rattle.gix_ref_base.specs.Targets.{target_value}
-use Rattle.gix_ref_base.specs.Orders.{target_cmp}
+use Rattle.gix_ref_target.specs.declared.target.Target.{Target}
+use Rattle.gix_ref_target.specs.declared.target.Target.TheVariants.{Object, Symbolic}
+use Rattle.gix_ref_target.specs.contracts.target.TargetOrd.TheImpl as target_impl
+use Rattle.gix_ref_target.specs.Targets.{target_value}
+use Rattle.gix_ref_target.specs.Orders.{target_cmp}
 use Rattle.gix_ref_edits.specs.declared.transaction.RefLog.{RefLog}
 use Rattle.gix_ref_edits.specs.declared.transaction.RefLog.TheVariants.{AndReference, Only}
 use Rattle.gix_ref_edits.specs.declared.transaction.LogChange.{LogChange}

@@ -3,7 +3,7 @@ use Rattle.std.proofs.Common.{◌≡◌, ℕ, subst, ◌∙◌, List, [], ◌∷
 use Rattle.std.specs.Result.{OnOk, IfErr}
 use Rattle.std.proofs.lemmas.List.Elements.{All-nil, All-cons}
 use Rattle.gix_ref_name.specs.declared.name.PartialNameRef.{PartialNameRef}
-use Rattle.gix_ref_base.specs.declared.target.Target.{Target}
+use Rattle.gix_ref_target.specs.declared.target.Target.{Target}
 use Rattle.gix_ref_name.specs.Names.{partial_ref_bytes}
 use Rattle.gix_ref_edits.specs.declared.transaction.RefEdit.{RefEdit}
 use Rattle.gix_ref_edits.specs.declared.transaction.ext.error.SplitError.{SplitError}

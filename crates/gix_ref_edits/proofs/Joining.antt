@@ -5,7 +5,7 @@ use Rattle.std.proofs.lemmas.List.Concat.{flat_map-append}
 use Rattle.std.proofs.lemmas.List.Elements.{All-nil, All-cons, All-head, All-tail, filter-append}
 use Rattle.std.specs.List.{FoldsTo, AllZip}
 use Rattle.gix_ref_name.specs.declared.name.PartialNameRef.{PartialNameRef}
-use Rattle.gix_ref_base.specs.declared.target.Target.{Target}
+use Rattle.gix_ref_target.specs.declared.target.Target.{Target}
 use Rattle.gix_ref_edits.specs.declared.transaction.RefEdit.{RefEdit}
 use Rattle.gix_ref_edits.specs.declared.transaction.ext.error.SplitError.{SplitError}
 use Rattle.gix_ref_edits.specs.declared.transaction.ext.error.SplitError.TheVariants.{Find, TooManySplits, DoubledName, Memory}

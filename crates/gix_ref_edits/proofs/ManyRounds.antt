@@ -4,7 +4,7 @@ use Rattle.std.proofs.Math.Seq.{take-append_seam, drop-append_seam}
 use Rattle.std.proofs.lemmas.List.{map-append, length-map, length-append, take-append-drop, nil_from_length}
 use Rattle.std.specs.List.{AllZip}
 use Rattle.gix_ref_name.specs.declared.name.PartialNameRef.{PartialNameRef}
-use Rattle.gix_ref_base.specs.declared.target.Target.{Target}
+use Rattle.gix_ref_target.specs.declared.target.Target.{Target}
 use Rattle.gix_ref_edits.specs.declared.transaction.RefEdit.{RefEdit}
 use Rattle.gix_ref_edits.specs.EditValues.{EditValue, edit_value}
 use Rattle.gix_ref_edits.specs.LookUps.{LookUp, Answers, lookups_of}

@@ -1,7 +1,7 @@
 -- Rounds over one edit.
 use Rattle.std.proofs.Common.{◌≡◌, refl, sym, ap, subst, ◌∙◌, append-nil, arith, List, [], ◌∷◌, Option, Result, Ok, Err, Bool, true, false, ℕ}
 use Rattle.gix_ref_name.specs.declared.name.PartialNameRef.{PartialNameRef}
-use Rattle.gix_ref_base.specs.declared.target.Target.{Target}
+use Rattle.gix_ref_target.specs.declared.target.Target.{Target}
 use Rattle.gix_ref_name.specs.Names.{partial_ref_bytes}
 use Rattle.gix_ref_edits.specs.EditValues.{ChangeValue, EditValue}
 use Rattle.gix_ref_edits.specs.LookUps.{LookUp, Answers, HasLookedUp, LookUpFailed, referent_of, lookups_of}

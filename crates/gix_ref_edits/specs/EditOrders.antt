@@ -4,8 +4,8 @@ use Rattle.std.specs.Ordering.{nat_cmp, bool_cmp, ordering_then}
 use Rattle.std.specs.Cmp.Lexicographic.{slice_cmp}
 use Rattle.std.specs.declared.cmp.Ordering.{Ordering}
 use Rattle.std.specs.declared.cmp.Ordering.TheVariants.{Less, Greater}
-use Rattle.gix_ref_base.specs.Targets.{target_value}
-use Rattle.gix_ref_base.specs.Orders.{target_cmp}
+use Rattle.gix_ref_target.specs.Targets.{target_value}
+use Rattle.gix_ref_target.specs.Orders.{target_cmp}
 use Rattle.gix_ref_edits.specs.declared.transaction.LogChange.{LogChange}
 use Rattle.gix_ref_edits.specs.declared.transaction.RefLog.{RefLog}
 use Rattle.gix_ref_edits.specs.declared.transaction.RefLog.TheVariants.{AndReference, Only}

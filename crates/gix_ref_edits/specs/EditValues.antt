@@ -1,6 +1,6 @@
 -- Edits as values: their names, messages and targets as bytes and ids, so that equal edits are equal terms.
 use Rattle.std.specs.Prelude.{ℕ, List, Bool}
-use Rattle.gix_ref_base.specs.Targets.{TargetValue, target_value}
+use Rattle.gix_ref_target.specs.Targets.{TargetValue, target_value}
 use Rattle.gix_ref_edits.specs.declared.transaction.RefLog.{RefLog}
 use Rattle.gix_ref_edits.specs.declared.transaction.Change.{Change}
 use Rattle.gix_ref_edits.specs.declared.transaction.Change.TheVariants.{Update, Delete}

@@ -2,8 +2,8 @@
 use Rattle.std.specs.Prelude.{◌≡◌, ℕ, List, Option, Some, None, Result, Ok, Err, All, map, filter}
 use Rattle.std.specs.List.{FoldsTo}
 use Rattle.gix_ref_name.specs.declared.name.PartialNameRef.{PartialNameRef}
-use Rattle.gix_ref_base.specs.declared.target.Target.{Target}
-use Rattle.gix_ref_base.specs.declared.target.Target.TheVariants as targets
+use Rattle.gix_ref_target.specs.declared.target.Target.{Target}
+use Rattle.gix_ref_target.specs.declared.target.Target.TheVariants as targets
 use Rattle.gix_ref_name.specs.Names.{partial_ref_bytes, full_bytes}
 use Rattle.gix_ref_edits.specs.EditValues.{EditValue}
 

@@ -1,7 +1,7 @@
 -- Edits as a caller gives them: what each asks for, and what it expects (`git update-ref`).
 use Rattle.std.specs.Prelude.{◌≡◌, ◌⊎◌, ℕ, List, [], Bool, true, false, Option, Some, None, IsSome, All}
 use Rattle.gix_ref_name.specs.Names.{full_bytes}
-use Rattle.gix_ref_base.specs.Targets.{TargetValue, target_value}
+use Rattle.gix_ref_target.specs.Targets.{TargetValue, target_value}
 use Rattle.gix_ref_edits.specs.declared.transaction.LogChange.{LogChange}
 use Rattle.gix_ref_edits.specs.declared.transaction.RefLog.{RefLog}
 use Rattle.gix_ref_edits.specs.declared.transaction.RefLog.TheVariants.{AndReference, Only}

@@ -1,7 +1,7 @@
 -- The errors of splits, and those of doubled names among them.
 use Rattle.std.specs.Prelude.{◌≡◌, ℕ, List, Option, Result}
 use Rattle.gix_ref_name.specs.declared.name.PartialNameRef.{PartialNameRef}
-use Rattle.gix_ref_base.specs.declared.target.Target.{Target}
+use Rattle.gix_ref_target.specs.declared.target.Target.{Target}
 use Rattle.gix_ref_edits.specs.LookUps.{HasLookedUp, LookUpFailed}
 use Rattle.gix_ref_name.specs.Names.{full_bytes}
 use Rattle.gix_ref_edits.specs.declared.transaction.ext.error.EditError.{EditError}

@@ -1,10 +1,10 @@
 //! Edits of references (`git update-ref`): what a transaction is to change, and what it expects.
 ghost use Rattle.std.specs.Prelude.{◌≡◌, MatchOption, Some, None, false, []};
-ghost use Rattle.gix_ref_base.specs.Targets.{target_ref_value};
+ghost use Rattle.gix_ref_target.specs.Targets.{target_ref_value};
 ghost use Rattle.gix_ref_edits.specs.RefEdits.{new_of, expected_of, previous_of};
 
-use gix_ref_base::target::{Target, TargetRef};
 use gix_ref_name::name::FullName;
+use gix_ref_target::target::{Target, TargetRef};
 use std::alloc::{AllocError, Global};
 
 pub mod ext;

@@ -1,7 +1,7 @@
 -- How chains of symbolic references end.
 use Rattle.std.proofs.Common.{◌≡◌, ◌≤◌, ◌-◌, ◌+◌, ℕ, zero, suc, List, [], None, true, arith, refl, sym, ◌∙◌, ap}
 use Rattle.gix_ref_hash.specs.declared.hash.ObjectId.{ObjectId}
-use Rattle.gix_ref_base.specs.Targets.TargetValue.{object_id, symbolic_name}
+use Rattle.gix_ref_target.specs.Targets.TargetValue.{object_id, symbolic_name}
 use Rattle.gix_ref_follow.specs.Following.{At, HitsByName, ChainOfSteps, IsStep, follow, following, is_one_of}
 use Rattle.gix_ref_follow.specs.Following.EndOfChain.{Reached, Dangling, Circular, TooDeep}
 use Rattle.gix_ref_follow.proofs.Steps.{follow_on, follow_object, follow_symbolic, follow_back, follow_none}

@@ -3,9 +3,9 @@ use Rattle.std.specs.Prelude.{◌≡◌, ◌≤◌, ℕ, zero, suc, List, [], �
 use Rattle.std.specs.List.{list_any}
 use Rattle.gix_ref_hash.specs.declared.hash.ObjectId.{ObjectId}
 use Rattle.gix_ref_name.specs.Names.{full_bytes}
-use Rattle.gix_ref_base.specs.Targets.{TargetValue, target_value}
-use Rattle.gix_ref_base.specs.Targets.TargetValue.{object_id, symbolic_name}
-use Rattle.gix_ref_records.specs.declared.raw.Reference.{Reference}
+use Rattle.gix_ref_target.specs.Targets.{TargetValue, target_value}
+use Rattle.gix_ref_target.specs.Targets.TargetValue.{object_id, symbolic_name}
+use Rattle.gix_ref_packed_text.specs.declared.raw.Reference.{Reference}
 use Rattle.gix_ref_theory.specs.Lookups.{Hit}
 use Rattle.gix_ref_theory.specs.Readings.{Reading}
 use Rattle.gix_ref_theory.specs.Readings.Reading.{Is, Fault, Absent}

@@ -4,10 +4,10 @@ use Rattle.std.specs.Ordering.{nat_cmp, ordering_then}
 use Rattle.std.specs.Cmp.Lexicographic.{slice_cmp}
 use Rattle.std.specs.declared.cmp.Ordering.{Ordering}
 use Rattle.gix_ref_name.specs.Names.{full_bytes}
-use Rattle.gix_ref_base.specs.Orders.{target_cmp}
-use Rattle.gix_ref_base.specs.Targets.{target_value}
-use Rattle.gix_ref_lines.specs.declared.write_reflog.WriteReflog.{WriteReflog}
-use Rattle.gix_ref_lines.specs.declared.write_reflog.WriteReflog.TheVariants.{Always, Normal, Disable}
+use Rattle.gix_ref_target.specs.Orders.{target_cmp}
+use Rattle.gix_ref_target.specs.Targets.{target_value}
+use Rattle.gix_ref_reflog.specs.declared.write_reflog.WriteReflog.{WriteReflog}
+use Rattle.gix_ref_reflog.specs.declared.write_reflog.WriteReflog.TheVariants.{Always, Normal, Disable}
 use Rattle.gix_ref_lookup.specs.declared.loose.Reference.{Reference}
 
 -- the place of a mode among the modes

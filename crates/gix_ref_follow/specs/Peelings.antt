@@ -2,8 +2,8 @@
 use Rattle.std.specs.Prelude.{◌≡◌, ◌⊎◌, ℕ, List, Option, Some, None, Result, Ok, Err, Bool}
 use Rattle.gix_ref_hash.specs.declared.hash.ObjectId.{ObjectId}
 use Rattle.gix_ref_name.specs.Names.{full_bytes}
-use Rattle.gix_ref_base.specs.Targets.{target_value}
-use Rattle.gix_ref_base.specs.Targets.TargetValue.{object_id}
+use Rattle.gix_ref_target.specs.Targets.{target_value}
+use Rattle.gix_ref_target.specs.Targets.TargetValue.{object_id}
 use Rattle.gix_ref_files.specs.Files.{Meaning, FaultCounts}
 use Rattle.gix_ref_files.specs.declared.files.ReadAt.{Ghosts}
 use Rattle.gix_ref_object.specs.Objects.{Stored}
@@ -11,7 +11,7 @@ use Rattle.gix_ref_object.specs.Peeling as tags
 use Rattle.gix_ref_object.specs.Peeling.Peeled.{End, Missing, BadTag, TooLong, Failed}
 use Rattle.gix_ref_object.specs.declared.peel.PeelError.{PeelError}
 use Rattle.gix_ref_object.specs.declared.peel.PeelError.TheVariants as peeling_errors
-use Rattle.gix_ref_records.specs.declared.raw.Reference.{Reference}
+use Rattle.gix_ref_packed_text.specs.declared.raw.Reference.{Reference}
 use Rattle.gix_ref_lookup.specs.declared.find.records.Records.{Records}
 use Rattle.gix_ref_store.specs.declared.file.store.Store.{Store}
 use Rattle.gix_ref_follow.specs.Following.{At, EndOfChain, HitsByName, LeadsWithinLimit, following}

@@ -2,10 +2,10 @@
 ghost use Rattle.std.specs.Prelude.{◌≡◌, ◌++◌, ◌∷◌, [], List, Option, Some, None, IfOk, IfErr, OnOk, OnErr, false, bytes_eq};
 ghost use Rattle.std.specs.List.{list_any};
 ghost use Rattle.gix_ref_name.specs.Names.{full_bytes, full_ref_bytes};
-ghost use Rattle.gix_ref_base.specs.PackedRecords.{Record};
-ghost use Rattle.gix_ref_base.specs.Targets.{target_value, target_kind};
-ghost use Rattle.gix_ref_base.specs.Targets.TargetValue.{object_id};
-ghost use Rattle.gix_ref_base.specs.declared.target.Kind.TheVariants.{Symbolic};
+ghost use Rattle.gix_ref_target.specs.PackedRecords.{Record};
+ghost use Rattle.gix_ref_target.specs.Targets.{target_value, target_kind};
+ghost use Rattle.gix_ref_target.specs.Targets.TargetValue.{object_id};
+ghost use Rattle.gix_ref_target.specs.declared.target.Kind.TheVariants.{Symbolic};
 ghost use Rattle.gix_ref_lookup.specs.Lookups.{AreHonest};
 ghost use Rattle.gix_ref_store.specs.Lookup.{AreAskedIn, AreStillAskedIn, LooksUp};
 ghost use Rattle.gix_ref_store.specs.Store.{files_of, meaning_of};
@@ -13,7 +13,6 @@ ghost use Rattle.gix_ref_follow.specs.Following.{at_of, is_one_of, IsStep, Leads
 ghost use Rattle.gix_ref_follow.specs.Followed.{bytes_of_names, OnStep, StepFinds, StepHits, StepFails, IsCycle, IsReturn, RefusesStep, Follows, finds_in, HitsNext, IsNotFollowed};
 
 use crate::peel::to_object::Error;
-use gix_ref_base::target::Target;
 use gix_ref_files::files::Files;
 use gix_ref_hash::hash::ObjectId;
 use gix_ref_lookup::find::records::Records;
@@ -21,6 +20,7 @@ use gix_ref_name::name::{FullName, FullNameRef};
 use gix_ref_packed::raw::Reference;
 use gix_ref_store::file::Store;
 use gix_ref_store::file::find::existing;
+use gix_ref_target::target::Target;
 use std::alloc::{AllocError, Global};
 
 /// How many steps a following takes; the last one is refused.

@@ -1,7 +1,7 @@
 //! What is proved of following alone, as the contract of a function that does nothing.
 ghost use Rattle.std.specs.Prelude.{◌≡◌, ◌≤◌, ℕ, List, None, true};
 ghost use Rattle.gix_ref_hash.specs.declared.hash.ObjectId.{ObjectId};
-ghost use Rattle.gix_ref_base.specs.Targets.TargetValue.{object_id, symbolic_name};
+ghost use Rattle.gix_ref_target.specs.Targets.TargetValue.{object_id, symbolic_name};
 ghost use Rattle.gix_ref_follow.specs.Following.{At, HitsByName, ChainOfSteps, IsStep, following, is_one_of};
 ghost use Rattle.gix_ref_follow.specs.Following.EndOfChain.{Reached, Dangling, Circular, TooDeep};
 

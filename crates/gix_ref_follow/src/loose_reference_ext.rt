@@ -38,7 +38,7 @@ impl LooseReferenceExt for Reference {
     ghost use Rattle.std.specs.Prelude.{◌≡◌, IfOk, IfErr, IfSome, OnOk, false, length};
     ghost use Rattle.gix_ref_name.specs.Names.{full_bytes};
     ghost use Rattle.gix_ref_files.specs.Tree.{is_file};
-    ghost use Rattle.gix_ref_reflog.specs.Reflogs.{count_log};
+    ghost use Rattle.gix_ref_lookup.specs.Reflogs.{count_log};
     ghost use Rattle.gix_ref_store.specs.Lookup.{LooksUp};
     ghost use Rattle.gix_ref_store.specs.Reflogs.{reflog_at, is_log_prohibited, ReadsForward, ReadsBackward, IsNoReflog, IsNoReverse, EndsAtErrors};
     ghost use Rattle.gix_ref_store.specs.Store.{files_of};

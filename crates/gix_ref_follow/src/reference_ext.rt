@@ -144,12 +144,12 @@ pub trait ReferenceExt: Sealed {
 impl ReferenceExt for Reference {
     ghost use Rattle.std.specs.Prelude.{◌≡◌, [], List, Option, Some, None, Ok, IfOk, IfErr, IfSome, OnOk, true, false, is_some};
     ghost use Rattle.gix_ref_name.specs.Names.{full_bytes, full_ref_bytes};
-    ghost use Rattle.gix_ref_base.specs.PackedRecords.{Record};
-    ghost use Rattle.gix_ref_base.specs.Targets.{target_value};
-    ghost use Rattle.gix_ref_base.specs.Targets.TargetValue.{object_id};
+    ghost use Rattle.gix_ref_target.specs.PackedRecords.{Record};
+    ghost use Rattle.gix_ref_target.specs.Targets.{target_value};
+    ghost use Rattle.gix_ref_target.specs.Targets.TargetValue.{object_id};
     ghost use Rattle.gix_ref_files.specs.Tree.{is_file};
     ghost use Rattle.gix_ref_lookup.specs.declared.find.records.Records.TheVariants.{Unopened};
-    ghost use Rattle.gix_ref_reflog.specs.Reflogs.{count_log};
+    ghost use Rattle.gix_ref_lookup.specs.Reflogs.{count_log};
     ghost use Rattle.gix_ref_store.specs.Lookup.{AreRecordsIn, AreHeld, held, LooksUp};
     ghost use Rattle.gix_ref_store.specs.Reflogs.{reflog_at, is_log_prohibited, IsNoReflog};
     ghost use Rattle.gix_ref_store.specs.Store.{files_of};

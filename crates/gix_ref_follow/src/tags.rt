@@ -1,9 +1,9 @@
 //! Peeling a reference: following it, and the tags of its object (`gitrevisions`).
 ghost use Rattle.std.specs.Prelude.{◌≡◌, List, Some, Ok, Err, IfOk, IfErr, IfSome, OnOk, OnErr};
 ghost use Rattle.gix_ref_name.specs.Names.{full_bytes};
-ghost use Rattle.gix_ref_base.specs.PackedRecords.{Record};
-ghost use Rattle.gix_ref_base.specs.Targets.{target_value};
-ghost use Rattle.gix_ref_base.specs.Targets.TargetValue.{object_id};
+ghost use Rattle.gix_ref_target.specs.PackedRecords.{Record};
+ghost use Rattle.gix_ref_target.specs.Targets.{target_value};
+ghost use Rattle.gix_ref_target.specs.Targets.TargetValue.{object_id};
 ghost use Rattle.gix_ref_lookup.specs.Lookups.{AreHonest};
 ghost use Rattle.gix_ref_object.specs.Peeling.{peel};
 ghost use Rattle.gix_ref_store.specs.Lookup.{AreAskedIn, LooksUp};
@@ -14,7 +14,6 @@ ghost use Rattle.gix_ref_follow.specs.Peelings.{peeled_to, PeelsTags, IsTagError
 
 use crate::chain::follow_among;
 use crate::peel::to_id::Error;
-use gix_ref_base::target::Target;
 use gix_ref_files::files::Files;
 use gix_ref_hash::hash::ObjectId;
 use gix_ref_lookup::find::records::Records;
@@ -23,6 +22,7 @@ use gix_ref_object::object::Find;
 use gix_ref_object::peel::{PeelError, peel_to_end};
 use gix_ref_packed::raw::Reference;
 use gix_ref_store::file::Store;
+use gix_ref_target::target::Target;
 use std::alloc::Global;
 
 /// The error for one of peeling the tags of a reference of this name.

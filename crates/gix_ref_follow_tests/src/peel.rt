@@ -1,11 +1,11 @@
 //! Peeling references.
 use crate::made::{found, is_at, numbered, store};
 use crate::objects::{Changing, Last, Tags};
-use gix_ref_base::target::Target;
 use gix_ref_follow::ReferenceExt;
 use gix_ref_follow::peel::to_id;
 use gix_ref_hash::hash::ObjectId;
 use gix_ref_object::object::Never;
+use gix_ref_target::target::Target;
 use std::cell::Cell;
 
 /// A loose text with the id of the number 0.

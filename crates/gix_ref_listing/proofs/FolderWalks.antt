@@ -9,15 +9,14 @@ use Rattle.std.proofs.Math.Seq.{take-append-add}
 use Rattle.std.proofs.lemmas.List.{get_or_default, drop_more, drop_all}
 use Rattle.gix_ref_hash.specs.Bytes.{NoByte, is_empty}
 use Rattle.gix_ref_listing.proofs.WalkLemmas.{behind_slash}
-use Rattle.gix_ref_grammar.specs.NameGrammar.{IsPartialName}
-use Rattle.gix_ref_grammar.proofs.PartialNames.{IsPath, rules_of, first_component, last_component}
-use Rattle.gix_ref_base.proofs.LocationLemmas.{has_slash, cut_is, test_no_slash}
-use Rattle.gix_ref_base.specs.Locations.{cut_at_slash}
+use Rattle.gix_ref_name.specs.NameGrammar.{IsPartialName}
+use Rattle.gix_ref_name.proofs.PartialNames.{IsPath, rules_of, first_component, last_component}
+use Rattle.gix_ref_target.proofs.LocationLemmas.{has_slash, cut_is, test_no_slash}
+use Rattle.gix_ref_target.specs.Locations.{cut_at_slash}
 use Rattle.gix_ref_files.specs.Tree.{Tree, Path, Content, IsShaped, is_folder, fronts, fronts_after}
 use Rattle.gix_ref_files.specs.Tree.Content.{File, Folder}
-use Rattle.gix_ref_files.specs.Calls.{ListsFolder, IsEntryOf, IsEntryName, entry_name}
+use Rattle.gix_ref_files.specs.Calls.{ListsFolder, IsEntryOf, IsEntryName, entry_name, Unchanged}
 use Rattle.gix_ref_files.specs.Files.{Leaves, Meaning, count_with, FaultCounts, NoFewer}
-use Rattle.gix_ref_files.specs.Calls.{Unchanged}
 use Rattle.gix_ref_files.proofs.Moments.{joins}
 use Rattle.gix_ref_files.specs.declared.files.Entry.{Entry as ListedEntry}
 use Rattle.gix_ref_files.specs.declared.files.FileError.{FileError}

@@ -5,10 +5,10 @@ use Rattle.std.specs.Prelude.{IfOk, IfNone, MatchResult}
 use Rattle.gix_ref_hash.specs.declared.hash.Kind.{Kind}
 use Rattle.gix_ref_name.specs.Names.{full_bytes}
 use Rattle.gix_ref_name.specs.declared.name.FullName.{FullName}
-use Rattle.gix_ref_base.specs.PackedRecords.{Record, record_named}
-use Rattle.gix_ref_records.specs.Windows.{AreFound}
-use Rattle.gix_ref_records.specs.declared.packed.window.Found.{Found as FoundIds}
-use Rattle.gix_ref_records.specs.declared.raw.Reference.{Reference}
+use Rattle.gix_ref_target.specs.PackedRecords.{Record, record_named}
+use Rattle.gix_ref_packed_text.specs.Windows.{AreFound}
+use Rattle.gix_ref_packed_text.specs.declared.packed.window.Found.{Found as FoundIds}
+use Rattle.gix_ref_packed_text.specs.declared.raw.Reference.{Reference}
 use Rattle.gix_ref_theory.specs.Readings.{Store, reading_by}
 use Rattle.gix_ref_theory.specs.Readings.Reading.{Absent}
 use Rattle.gix_ref_theory.specs.Views.{View}

@@ -7,9 +7,9 @@ use Rattle.std.specs.List.{All, AllByRecursion}
 use Rattle.std.specs.List.Sorted.{IsStrictlySortedBy}
 use Rattle.std.specs.declared.cmp.Ordering.TheVariants.{Less}
 use Rattle.std.proofs.lemmas.List.Elements.{All-head, All-tail}
-use Rattle.gix_ref_base.specs.PackedRecords.{Record, record_named}
-use Rattle.gix_ref_records.specs.RecordGrammar.{Below, Ascending}
-use Rattle.gix_ref_records.specs.Prefixes.{records_prefixed}
+use Rattle.gix_ref_target.specs.PackedRecords.{Record, record_named}
+use Rattle.gix_ref_packed_text.specs.RecordGrammar.{Below, Ascending}
+use Rattle.gix_ref_packed_text.specs.Prefixes.{records_prefixed}
 use Rattle.gix_ref_theory.specs.Views.{View}
 use Rattle.gix_ref_lookup.specs.declared.settings.Settings.{Settings}
 use Rattle.gix_ref_listing.specs.declared.found.Found.TheVariants.{File, Unlisted}

@@ -7,8 +7,8 @@ use Rattle.std.specs.declared.cmp.Ordering.{Ordering}
 use Rattle.std.specs.declared.cmp.Ordering.TheVariants.{Less, Equal, Greater}
 use Rattle.std.proofs.lemmas.Map.Lookups.{exact_bytes}
 use Rattle.std.proofs.lemmas.Cmp.{nat_list_cmp_total}
-use Rattle.gix_ref_records.specs.RecordGrammar.{Below}
-use Rattle.gix_ref_records.proofs.Halves.{greater_is_below}
+use Rattle.gix_ref_packed_text.specs.RecordGrammar.{Below}
+use Rattle.gix_ref_packed_text.proofs.Halves.{greater_is_below}
 use Rattle.gix_ref_listing.specs.Walks.{Holds, FoundEntry}
 use Rattle.gix_ref_listing.specs.OwnRecords.{Own}
 use Rattle.gix_ref_listing.specs.Listings.{Listed, merged_listing, merged_entry}

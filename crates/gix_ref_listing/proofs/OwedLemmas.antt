@@ -1,11 +1,11 @@
 -- What a listing owes over any text of `packed-refs`, one step after the other.
-use Rattle.std.proofs.Common.{◌≡◌, ◌⊎◌, inl, inr, ⊎_elim, ℕ, zero, suc, List, [], ◌∷◌, refl, sym, ◌∙◌, ap, subst, arith, Option, Some, None, Result, Ok, Err, slice_index_or}
+use Rattle.std.proofs.Common.{◌≡◌, ◌⊎◌, inl, inr, ⊎_elim, ℕ, zero, suc, List, [], ◌∷◌, refl, sym, ◌∙◌, ap, subst, arith, Option, Some, None, Result, Ok, Err, slice_index_or, Vec, Global}
 use Rattle.std.specs.List.{All, Contains}
 use Rattle.std.specs.declared.cmp.Ordering.TheVariants.{Less, Equal, Greater}
 use Rattle.gix_ref_name.specs.Names.{full_bytes, full_ref_bytes}
-use Rattle.gix_ref_base.specs.PackedRecords.{Record}
-use Rattle.gix_ref_records.specs.Views.{record_of}
-use Rattle.gix_ref_records.specs.declared.packed.reference.Reference.{Reference as PackedReference}
+use Rattle.gix_ref_target.specs.PackedRecords.{Record}
+use Rattle.gix_ref_packed_text.specs.Views.{record_of}
+use Rattle.gix_ref_packed_text.specs.declared.packed.reference.Reference.{Reference as PackedReference}
 use Rattle.gix_ref_hash.specs.declared.hash.Kind.{Kind}
 use Rattle.gix_ref_packed.specs.YetToGive.{Owes}
 use Rattle.gix_ref_packed.specs.Items.{ItemStep}
@@ -14,11 +14,10 @@ use Rattle.gix_ref_packed.specs.declared.packed.iter.error.Error.{Error as LineE
 use Rattle.gix_ref_packed.proofs.OwedRecords.{next_pays}
 use Rattle.gix_ref_lookup.specs.declared.settings.Settings.{Settings}
 use Rattle.gix_ref_listing.specs.OwnRecords.{own_name}
-use Rattle.std.proofs.Common.{Vec, Global}
 use Rattle.gix_ref_files.specs.Files.{FaultCounts}
 use Rattle.gix_ref_name.specs.declared.name.FullName.{FullName}
 use Rattle.gix_ref_theory.specs.Views.{View}
-use Rattle.gix_ref_records.specs.declared.raw.Reference.{Reference}
+use Rattle.gix_ref_packed_text.specs.declared.raw.Reference.{Reference}
 use Rattle.gix_ref_listing.specs.GoneFiles.{IsFoundOrGone, IsTakenItem}
 use Rattle.gix_ref_listing.specs.Listings.{order_of, TakesFirst}
 use Rattle.gix_ref_listing.specs.OwedNames.{Text, AreAllGiven, OwesOthers, OwesAfter, OwesOwn, PaysOwn, IsUnderItsName, OwesNames, PaysTaken, PaysItem}

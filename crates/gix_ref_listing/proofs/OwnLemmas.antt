@@ -6,11 +6,11 @@ use Rattle.std.specs.Option.{option_map}
 use Rattle.std.proofs.Math.Seq.{drop-append_seam}
 use Rattle.std.proofs.lemmas.Slice.Eq.{bytes_eq-Decides, starts_is}
 use Rattle.std.proofs.lemmas.Bool.Decides.{Decides-eqb}
-use Rattle.gix_ref_base.specs.Layout.{Layout}
-use Rattle.gix_ref_base.specs.Locations.{Location, location, row_of, paths_at, key_outside, no_namespace}
-use Rattle.gix_ref_base.specs.Locations.Location.{Common, ThisWorktree, MainWorktree, LinkedWorktree}
-use Rattle.gix_ref_grammar.specs.NameGrammar.{partial_error, IsPartialName}
-use Rattle.gix_ref_grammar.specs.declared.name.error.Error.{Error}
+use Rattle.gix_ref_target.specs.Layout.{Layout}
+use Rattle.gix_ref_target.specs.Locations.{Location, location, row_of, paths_at, key_outside, no_namespace}
+use Rattle.gix_ref_target.specs.Locations.Location.{Common, ThisWorktree, MainWorktree, LinkedWorktree}
+use Rattle.gix_ref_name.specs.NameGrammar.{partial_error, IsPartialName}
+use Rattle.gix_ref_name.specs.declared.name.error.Error.{Error}
 use Rattle.gix_ref_name.proofs.FrontLemmas.{begins_true}
 use Rattle.gix_ref_theory.proofs.PlaceLaws.{cancel}
 use Rattle.gix_ref_lookup.specs.Lookups.{meaning_in}

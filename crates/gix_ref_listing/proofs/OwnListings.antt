@@ -7,14 +7,14 @@ use Rattle.std.specs.List.{All, AllByRecursion, starts_with, filter}
 use Rattle.std.proofs.lemmas.List.Elements.{All-cons, All-head, All-tail}
 use Rattle.std.proofs.lemmas.Slice.Eq.{starts_is, bytes_eq-Decides}
 use Rattle.std.proofs.lemmas.Bool.Decides.{Decides-eqb}
-use Rattle.gix_ref_grammar.specs.NameGrammar.{partial_error, IsPartialName}
-use Rattle.gix_ref_base.specs.PackedRecords.{Record, record_named}
-use Rattle.gix_ref_grammar.specs.declared.name.error.Error.{Error}
+use Rattle.gix_ref_name.specs.NameGrammar.{partial_error, IsPartialName}
+use Rattle.gix_ref_target.specs.PackedRecords.{Record, record_named}
+use Rattle.gix_ref_name.specs.declared.name.error.Error.{Error}
 use Rattle.gix_ref_name.proofs.FrontLemmas.{begins_true}
-use Rattle.gix_ref_records.specs.RecordGrammar.{Below, Ascending}
-use Rattle.gix_ref_records.specs.Prefixes.{records_prefixed}
-use Rattle.gix_ref_records.proofs.LowerBounds.{same_byte}
-use Rattle.gix_ref_records.proofs.Halves.{not_itself}
+use Rattle.gix_ref_packed_text.specs.RecordGrammar.{Below, Ascending}
+use Rattle.gix_ref_packed_text.specs.Prefixes.{records_prefixed}
+use Rattle.gix_ref_packed_text.proofs.LowerBounds.{same_byte}
+use Rattle.gix_ref_packed_text.proofs.Halves.{not_itself}
 use Rattle.gix_ref_theory.proofs.PlaceLaws.{cancel}
 use Rattle.gix_ref_lookup.specs.Lookups.{meaning_in, Among}
 use Rattle.gix_ref_lookup.specs.StoreLayout.{namespace_text}

@@ -2,10 +2,10 @@
 use Rattle.std.proofs.Common.{◌≡◌, ℕ, List, [], ◌∷◌, refl, sym, ◌∙◌, ap, subst, Option, Some, None, Result, Ok, Err}
 use Rattle.std.specs.List.{All}
 use Rattle.std.specs.Prelude.{IfSome, IfNone, slice_index_or}
-use Rattle.gix_ref_base.specs.PackedRecords.{Record}
+use Rattle.gix_ref_target.specs.PackedRecords.{Record}
 use Rattle.gix_ref_files.specs.Files.{Meaning, FaultCounts}
 use Rattle.gix_ref_packed.specs.declared.packed.iter.error.Error.{Error as LineError}
-use Rattle.gix_ref_records.specs.declared.raw.Reference.{Reference}
+use Rattle.gix_ref_packed_text.specs.declared.raw.Reference.{Reference}
 use Rattle.gix_ref_theory.specs.OnRealTrees.{view_of}
 use Rattle.gix_ref_theory.specs.Views.{View}
 use Rattle.gix_ref_lookup.specs.declared.settings.Settings.{Settings}

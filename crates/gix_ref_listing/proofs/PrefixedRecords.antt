@@ -1,25 +1,24 @@
 -- What a buffer holds that was read for a prefix.
-use Rattle.std.proofs.Common.{◌≡◌, ℕ, List, [], ◌∷◌, false, Option, Some, None, refl}
+use Rattle.std.proofs.Common.{◌≡◌, ℕ, List, [], ◌∷◌, false, Option, Some, None, refl, inr, true, subst, sym, ◌∙◌}
 use Rattle.std.specs.List.{All}
 use Rattle.std.specs.Prelude.{slice_index_or}
 use Rattle.gix_ref_hash.specs.declared.hash.Kind.{Kind}
-use Rattle.gix_ref_base.specs.PackedRecords.{Record}
+use Rattle.gix_ref_target.specs.PackedRecords.{Record}
 use Rattle.gix_ref_files.specs.Tree.{Content, is_file, file_of, bytes_of}
 use Rattle.gix_ref_files.specs.Tree.Content.{File, Folder}
 use Rattle.gix_ref_packed.specs.Buffers.{HoldsRecords, buffer_kind, buffer_text}
 use Rattle.gix_ref_files.specs.Files.{FaultCounts}
-use Rattle.std.proofs.Common.{inr, true, subst, sym, ◌∙◌}
 use Rattle.gix_ref_packed.specs.FilePrefixes.{HoldsPrefix, HoldsAsked, FailsReadBy}
 use Rattle.gix_ref_packed.specs.FileSearches.{IsNoChange}
-use Rattle.gix_ref_records.specs.Prefixes.{NamesAscend}
+use Rattle.gix_ref_packed_text.specs.Prefixes.{NamesAscend}
 use Rattle.gix_ref_files.specs.declared.files.ReadAt.{Ghosts}
 use Rattle.gix_ref_packed.specs.OpenFiles.{CountsRefusal, OpenedFile, packed_file_kind, packed_file_text}
 use Rattle.gix_ref_packed.specs.declared.packed.file.PackedFile.{PackedFile}
 use Rattle.gix_ref_packed.specs.declared.packed.sorted_file.ReadError.{ReadError}
 use Rattle.gix_ref_packed.specs.declared.packed.sorted_file.ReadError.TheVariants as reading
-use Rattle.gix_ref_records.specs.RecordGrammar.{Below, Ascending, Rising}
+use Rattle.gix_ref_packed_text.specs.RecordGrammar.{Below, Ascending, Rising}
 use Rattle.gix_ref_packed.specs.declared.packed.buffer.Buffer.{Buffer}
-use Rattle.gix_ref_records.proofs.Halves.{not_both}
+use Rattle.gix_ref_packed_text.proofs.Halves.{not_both}
 use Rattle.gix_ref_packed.proofs.PrefixParts.{prefixed_hold}
 use Rattle.gix_ref_lookup.specs.Lookups.{ArePackedRecords}
 use Rattle.gix_ref_listing.specs.PrefixedRecords.{WholeBuffersHold, HoldsAskedOf, of_part}

@@ -5,7 +5,7 @@ use Rattle.std.specs.Prelude.{IfOk}
 use Rattle.std.specs.List.{All}
 use Rattle.std.specs.declared.alloc.AllocError.{AllocError}
 use Rattle.std.proofs.lemmas.List.Elements.{All-cons, All-head, All-tail}
-use Rattle.gix_ref_grammar.specs.NameGrammar.{IsPartialName, partial_error}
+use Rattle.gix_ref_name.specs.NameGrammar.{IsPartialName, partial_error}
 use Rattle.gix_ref_theory.specs.Readings.{reading_of_loose}
 use Rattle.gix_ref_theory.specs.Readings.Reading.{Is, Fault}
 use Rattle.gix_ref_theory.specs.Views.{View}

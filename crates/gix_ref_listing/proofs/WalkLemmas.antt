@@ -1,11 +1,10 @@
 -- What a walk keeps, and where it goes.
-use Rattle.std.proofs.Common.{◌≡◌, ◌⊎◌, inl, inr, ⊎_elim, ℕ, Bool, true, false, cond, List, [], ◌∷◌, ◌++◌, length, refl, sym, ◌∙◌, ap, subst, append_assoc, codes, Some, is_some, ◌||◌, arith, append-nil, ◌<◌, ◌+◌, ◌≢◌}
+use Rattle.std.proofs.Common.{◌≡◌, ◌⊎◌, inl, inr, ⊎_elim, ℕ, Bool, true, false, cond, List, [], ◌∷◌, ◌++◌, length, refl, sym, ◌∙◌, ap, subst, append_assoc, codes, Some, is_some, ◌||◌, arith, append-nil, ◌<◌, ◌+◌, ◌≢◌, ne_eqb, IsTrue}
 use Rattle.gix_ref_files.specs.Files.{FaultCounts, IsMet}
 use Rattle.std.specs.List.{All}
-use Rattle.std.proofs.Common.{ne_eqb, IsTrue}
 use Rattle.std.specs.Map.{lookup}
 use Rattle.std.specs.BTreeMap.{insert_entry, is_at}
-use Rattle.std.specs.Ordering.{match_ordering, is_eq}
+use Rattle.std.specs.Ordering.{match_ordering, is_eq, nat_cmp}
 use Rattle.std.specs.declared.cmp.Ordering.{Ordering}
 use Rattle.std.specs.declared.cmp.Ordering.TheVariants.{Less, Equal, Greater}
 use Rattle.std.proofs.lemmas.Bool.{cases_eq}
@@ -13,14 +12,13 @@ use Rattle.std.proofs.lemmas.List.{get_or_default}
 use Rattle.std.proofs.lemmas.List.Elements.{All-cons, All-head, All-tail}
 use Rattle.gix_ref_hash.specs.Bytes.{BeginsWith, NoByte, is_slash}
 use Rattle.std.proofs.lemmas.List.Folds.{list_any-append}
-use Rattle.gix_ref_grammar.specs.NameGrammar.{IsPartialName, partial_error}
+use Rattle.gix_ref_name.specs.NameGrammar.{IsPartialName, partial_error}
 use Rattle.gix_ref_name.specs.Names.{full_bytes}
 use Rattle.gix_ref_name.specs.declared.name.FullName.{FullName}
-use Rattle.gix_ref_base.proofs.LocationLemmas.{has_slash, no_slash_test, test_no_slash}
-use Rattle.gix_ref_grammar.proofs.PartialNames.{none_or, IsPath, rules_of, first_component, behind_component}
+use Rattle.gix_ref_target.proofs.LocationLemmas.{has_slash, no_slash_test, test_no_slash}
+use Rattle.gix_ref_name.proofs.PartialNames.{none_or, IsPath, rules_of, first_component, behind_component}
 use Rattle.std.specs.Prelude.{Vec, slice_index_or}
 use Rattle.std.specs.declared.alloc.Global.{Global}
-use Rattle.std.specs.Ordering.{nat_cmp}
 use Rattle.std.specs.Cmp.Lexicographic.{slice_cmp}
 use Rattle.std.proofs.lemmas.Map.Lookups.{exact_bytes}
 use Rattle.gix_ref_files.specs.declared.files.Entry.{Entry as ListedEntry}

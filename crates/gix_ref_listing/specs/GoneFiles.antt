@@ -5,16 +5,16 @@ use Rattle.gix_ref_files.specs.Files.{FaultCounts}
 use Rattle.gix_ref_hash.specs.declared.hash.Kind.{Kind}
 use Rattle.gix_ref_name.specs.Names.{full_bytes}
 use Rattle.gix_ref_name.specs.declared.name.FullName.{FullName}
-use Rattle.gix_ref_base.specs.PackedRecords.{Record}
-use Rattle.gix_ref_base.specs.declared.target.Target.TheVariants.{Object}
+use Rattle.gix_ref_target.specs.PackedRecords.{Record}
+use Rattle.gix_ref_target.specs.declared.target.Target.TheVariants.{Object}
 use Rattle.gix_ref_files.specs.declared.files.FileError.TheVariants.{Device}
 use Rattle.std.specs.declared.io.ErrorKind.TheVariants.{NotFound}
 use Rattle.gix_ref_theory.specs.Readings.{reading_by}
 use Rattle.gix_ref_theory.specs.Readings.Reading.{Absent}
 use Rattle.gix_ref_theory.specs.Views.{View}
-use Rattle.gix_ref_records.specs.Windows.{HitsRecord}
-use Rattle.gix_ref_records.specs.declared.packed.window.Found.{Found as FoundIds}
-use Rattle.gix_ref_records.specs.declared.raw.Reference.{Reference}
+use Rattle.gix_ref_packed_text.specs.Windows.{HitsRecord}
+use Rattle.gix_ref_packed_text.specs.declared.packed.window.Found.{Found as FoundIds}
+use Rattle.gix_ref_packed_text.specs.declared.raw.Reference.{Reference}
 use Rattle.gix_ref_lookup.specs.Lookups.{meaning_in, ArePackedRecords, IsOpenedText, OfKey}
 use Rattle.gix_ref_lookup.specs.declared.settings.Settings.{Settings}
 use Rattle.gix_ref_lookup.specs.declared.find.error.ReadError.TheVariants.{File as file_error}

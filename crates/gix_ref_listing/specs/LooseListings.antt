@@ -1,8 +1,8 @@
 -- The loose references of a store that a listing gives, and what a walk of its folders found of them.
 use Rattle.std.specs.Prelude.{◌≡◌, ◌≢◌, ◌⊎◌, ℕ, List, [], ◌∷◌, ◌++◌, IsSome}
 use Rattle.gix_ref_hash.specs.Bytes.{BeginsWith}
-use Rattle.gix_ref_base.specs.Layout.{below}
-use Rattle.gix_ref_grammar.specs.NameGrammar.{IsPartialName}
+use Rattle.gix_ref_target.specs.Layout.{below}
+use Rattle.gix_ref_name.specs.NameGrammar.{IsPartialName}
 use Rattle.gix_ref_name.specs.Names.{full_bytes}
 use Rattle.gix_ref_files.specs.declared.files.FileError.TheVariants as faulty
 use Rattle.gix_ref_theory.specs.Views.{View}

@@ -3,10 +3,10 @@ use Rattle.std.specs.Prelude.{◌≡◌, ◌+◌, ℕ, List, [], ◌∷◌, leng
 use Rattle.std.specs.List.{starts_with}
 use Rattle.std.specs.Option.{option_len}
 use Rattle.gix_ref_name.specs.Names.{full_ref_bytes}
-use Rattle.gix_ref_grammar.specs.NameGrammar.{partial_error}
-use Rattle.gix_ref_base.specs.PackedRecords.{Record}
+use Rattle.gix_ref_name.specs.NameGrammar.{partial_error}
+use Rattle.gix_ref_target.specs.PackedRecords.{Record}
 use Rattle.gix_ref_packed.specs.Items.{unread}
-use Rattle.gix_ref_records.specs.Views.{record_of}
+use Rattle.gix_ref_packed_text.specs.Views.{record_of}
 use Rattle.gix_ref_packed.specs.YetToGive.{IsYet}
 use Rattle.gix_ref_packed.specs.declared.packed.iter.Iter.{Iter}
 use Rattle.gix_ref_packed.specs.declared.packed.iter.error.Error.{Error}

@@ -4,7 +4,7 @@ use Rattle.gix_ref_files.specs.Files.{Meaning, Leaves, FaultCounts, NoFewer}
 use Rattle.gix_ref_files.specs.Calls.{Unchanged}
 use Rattle.gix_ref_theory.specs.OnRealTrees.{view_of}
 use Rattle.gix_ref_name.specs.Names.{full_ref_bytes}
-use Rattle.gix_ref_records.specs.declared.raw.Reference.{Reference}
+use Rattle.gix_ref_packed_text.specs.declared.raw.Reference.{Reference}
 use Rattle.gix_ref_lookup.specs.declared.settings.Settings.{Settings}
 use Rattle.gix_ref_listing.specs.OwedNames.{Text, OwesNames, PaysItem}
 use Rattle.gix_ref_listing.specs.OwnRecords.{Own, own_of, AreAhead}

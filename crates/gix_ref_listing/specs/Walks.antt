@@ -3,7 +3,7 @@ use Rattle.std.specs.Prelude.{◌≡◌, ◌≢◌, ◌⊎◌, ℕ, List, [], �
 use Rattle.gix_ref_files.specs.Files.{FaultCounts, IsMet}
 use Rattle.std.specs.declared.alloc.Global.{Global}
 use Rattle.gix_ref_hash.specs.Bytes.{BeginsWith, NoByte}
-use Rattle.gix_ref_grammar.specs.NameGrammar.{IsPartialName}
+use Rattle.gix_ref_name.specs.NameGrammar.{IsPartialName}
 use Rattle.gix_ref_name.specs.Names.{full_bytes}
 use Rattle.gix_ref_files.specs.declared.files.Entry.{Entry as ListedEntry}
 use Rattle.gix_ref_files.specs.declared.files.FileError.{FileError}

@@ -3,12 +3,12 @@ use Rattle.std.specs.Prelude.{◌≡◌, ◌++◌, ℕ, List, [], ◌∷◌, Opt
 use denote.Ref.{Bor}
 use Rattle.std.specs.List.{All, AllByRecursion}
 use Rattle.gix_ref_hash.specs.Bytes.{BeginsWith}
-use Rattle.gix_ref_grammar.specs.NameGrammar.{IsPartialName}
-use Rattle.gix_ref_base.specs.PackedRecords.{Record, record_named}
+use Rattle.gix_ref_name.specs.NameGrammar.{IsPartialName}
+use Rattle.gix_ref_target.specs.PackedRecords.{Record, record_named}
 use Rattle.gix_ref_files.specs.Files.{FaultCounts}
-use Rattle.gix_ref_records.specs.RecordGrammar.{Below, Ascending, Rising, Records}
+use Rattle.gix_ref_packed_text.specs.RecordGrammar.{Below, Ascending, Rising, Records}
 use Rattle.gix_ref_hash.specs.declared.hash.Kind.{Kind}
-use Rattle.gix_ref_records.specs.Prefixes.{records_prefixed}
+use Rattle.gix_ref_packed_text.specs.Prefixes.{records_prefixed}
 use Rattle.gix_ref_packed.specs.Buffers.{buffer_kind, buffer_text}
 use Rattle.gix_ref_packed.specs.declared.packed.buffer.Buffer.{Buffer}
 use Rattle.gix_ref_packed.specs.declared.packed.iter.Iter.{Iter}

@@ -2,8 +2,8 @@
 //! into `packed-refs` since (`git pack-refs`). So its name is asked for once more.
 ghost use Rattle.std.specs.Prelude.{◌≡◌, ℕ, List, None, IfOk, IfSome, IfNone, OnOk};
 ghost use Rattle.gix_ref_name.specs.Names.{full_bytes, full_ref_bytes};
-ghost use Rattle.gix_ref_base.specs.PackedRecords.{Record, record_named};
-ghost use Rattle.gix_ref_records.specs.Windows.{AreFound};
+ghost use Rattle.gix_ref_target.specs.PackedRecords.{Record, record_named};
+ghost use Rattle.gix_ref_packed_text.specs.Windows.{AreFound};
 ghost use Rattle.gix_ref_theory.specs.OnRealTrees.{contents};
 ghost use Rattle.gix_ref_theory.specs.Readings.{reading_by};
 ghost use Rattle.gix_ref_theory.specs.Readings.Reading.{Absent};
@@ -12,7 +12,6 @@ ghost use Rattle.gix_ref_lookup.specs.Looks.{OnlyLooks};
 ghost use Rattle.gix_ref_listing.specs.GoneFiles.{HitsNow, IsAskedAgain, IsGone, IsPackedAgain, IsPackedUnread};
 
 use crate::error::{Error, of_reading};
-use gix_ref_base::target::Target;
 use gix_ref_files::files::{FileError, Files};
 use gix_ref_lookup::find;
 use gix_ref_lookup::find::ReadError;
@@ -23,6 +22,7 @@ use gix_ref_name::name::{FullName, FullNameRef};
 use gix_ref_packed::packed::Found;
 use gix_ref_packed::packed::buffer::open;
 use gix_ref_packed::raw::Reference;
+use gix_ref_target::target::Target;
 use std::alloc::Global;
 use std::io::ErrorKind;
 

@@ -16,12 +16,12 @@ use crate::found::Found;
 use crate::gone::find_again;
 use crate::merge::{Merge, Taken};
 use crate::own_records::OwnRecord;
-use gix_ref_base::target::Target;
 use gix_ref_files::files::Files;
 use gix_ref_lookup::find::candidate::read_at;
 use gix_ref_lookup::settings::Settings;
 use gix_ref_name::name::FullName;
 use gix_ref_packed::raw::Reference;
+use gix_ref_target::target::Target;
 use std::alloc::Global;
 
 /// The reference in the file of a name; where the file is gone, what the name reads now.

@@ -1,7 +1,7 @@
 //! The listing of a prefix.
 ghost use Rattle.std.specs.Prelude.{◌≡◌, ◌++◌, ℕ, List, [], IfOk, IfErr};
 ghost use Rattle.gix_ref_files.specs.Files.{FaultCounts};
-ghost use Rattle.gix_ref_base.specs.PackedRecords.{Record};
+ghost use Rattle.gix_ref_target.specs.PackedRecords.{Record};
 ghost use Rattle.gix_ref_theory.specs.OnRealTrees.{contents};
 ghost use Rattle.gix_ref_theory.specs.Views.{View};
 ghost use Rattle.gix_ref_lookup.specs.StoreLayout.{namespace_text};

@@ -2,8 +2,8 @@
 ghost use Rattle.std.specs.Prelude.{◌≡◌, ◌≤◌, ◌+◌, ◌++◌, ℕ, List, Some, MatchOption};
 ghost use Rattle.std.specs.Option.{option_map, option_len};
 ghost use Rattle.gix_ref_name.specs.Names.{full_ref_bytes};
-ghost use Rattle.gix_ref_grammar.specs.NameGrammar.{IsPartialName};
-ghost use Rattle.gix_ref_base.specs.PackedRecords.{Record};
+ghost use Rattle.gix_ref_name.specs.NameGrammar.{IsPartialName};
+ghost use Rattle.gix_ref_target.specs.PackedRecords.{Record};
 ghost use Rattle.gix_ref_lookup.specs.StoreLayout.{namespace_text};
 ghost use Rattle.gix_ref_packed.specs.YetToGive.{IsYet};
 ghost use Rattle.gix_ref_lookup.specs.Lookups.{meaning_in};
@@ -11,13 +11,13 @@ ghost use Rattle.gix_ref_theory.specs.Edits.{is_key};
 ghost use Rattle.gix_ref_listing.specs.OwnRecords.{own_name, own_records, records_left, GivesOwn};
 ghost use Rattle.gix_ref_listing.specs.OwedNames.{Text, OwesOthers, OwesAfter};
 
-use gix_ref_base::layout::packed_key;
 use gix_ref_hash::bytes::strip_front;
 use gix_ref_lookup::settings::Settings;
 use gix_ref_name::name::FullNameRef;
 use gix_ref_name::namespace::Namespace;
 use gix_ref_packed::packed::Reference;
 use gix_ref_packed::packed::iter::{Error, Iter};
+use gix_ref_target::layout::packed_key;
 
 /// A record that a listing gives.
 #[derive(Clone, Copy)]
@@ -117,7 +117,7 @@ pub struct OwnRecords<'p> {
 impl<'p> OwnRecords<'p> {
     ghost use Rattle.std.specs.Prelude.{◌≡◌, ◌≤◌, ◌+◌, [], ◌∷◌, ℕ, List, IfNone, IfSome, None, Some, Ok};
     ghost use Rattle.std.specs.Option.{option_len};
-    ghost use Rattle.gix_ref_base.specs.PackedRecords.{Record};
+    ghost use Rattle.gix_ref_target.specs.PackedRecords.{Record};
     ghost use Rattle.gix_ref_listing.specs.OwnRecords.{own_records, Own, YetOf, AreAhead, TakesOwn, ahead_left, records_left_of};
     ghost use Rattle.gix_ref_listing.specs.OwedNames.{Text, OwesOthers, OwesOwn, PaysOwn};
 

@@ -1,12 +1,12 @@
 //! The records of a prefix, read from `packed-refs`.
 ghost use Rattle.std.specs.Prelude.{◌≡◌, ℕ, List, IfOk, IfErr, OnOk, is_some};
-ghost use Rattle.gix_ref_base.specs.PackedRecords.{Record};
+ghost use Rattle.gix_ref_target.specs.PackedRecords.{Record};
 ghost use Rattle.gix_ref_files.specs.Files.{AtEveryStop, FaultCounts};
 ghost use Rattle.gix_ref_files.specs.Calls.{Unchanged};
 ghost use Rattle.gix_ref_files.specs.Tree.{is_file};
 ghost use Rattle.gix_ref_hash.specs.declared.hash.Kind.{Kind};
 ghost use Rattle.gix_ref_packed.specs.Buffers.{HoldsRecords, IsRefusedBytes, IsRefusedFile, buffer_kind, buffer_text};
-ghost use Rattle.gix_ref_records.specs.Prefixes.{NamesAscend};
+ghost use Rattle.gix_ref_packed_text.specs.Prefixes.{NamesAscend};
 ghost use Rattle.gix_ref_packed.specs.FilePrefixes.{HoldsAsked};
 ghost use Rattle.gix_ref_packed.specs.OpenFiles.{CountsRefusal, packed_file_kind, packed_file_text};
 ghost use Rattle.gix_ref_lookup.specs.Lookups.{ArePackedRecords, meaning_in, packed_refs_in};

@@ -2,8 +2,8 @@
 ghost use Rattle.std.specs.Prelude.{◌≡◌, ◌⊎◌, ◌↔◌, true, false, IsTrue, IfOk};
 ghost use Rattle.std.specs.List.{All};
 ghost use Rattle.gix_ref_name.specs.Names.{full_ref_bytes};
-ghost use Rattle.gix_ref_base.specs.Targets.{target_value};
-ghost use Rattle.gix_ref_base.specs.Targets.TargetValue.{symbolic_name};
+ghost use Rattle.gix_ref_target.specs.Targets.{target_value};
+ghost use Rattle.gix_ref_target.specs.Targets.TargetValue.{symbolic_name};
 ghost use Rattle.gix_ref_files.specs.Files.{HasRisen};
 ghost use Rattle.gix_ref_theory.specs.OnRealTrees.{contents};
 ghost use Rattle.gix_ref_listing.specs.PlainSettings.{plain};
@@ -15,13 +15,13 @@ ghost use Rattle.gix_ref_lookup.specs.Looks.{OnlyLooks};
 
 use crate::found::{Found, FoundByKey};
 use crate::store_walk::walk_store;
-use gix_ref_base::target::Target;
 use gix_ref_files::files::{Files, Node};
 use gix_ref_lookup::find;
 use gix_ref_lookup::find::ReadError;
 use gix_ref_lookup::find::candidate::read_at;
 use gix_ref_lookup::settings::Settings;
 use gix_ref_name::name::FullNameRef;
+use gix_ref_target::target::Target;
 use std::alloc::{AllocError, Global};
 
 /// What the file at a path is read as.

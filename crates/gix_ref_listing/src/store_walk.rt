@@ -1,7 +1,7 @@
 //! The loose references of a store.
 ghost use Rattle.std.specs.Prelude.{◌≡◌, ◌≢◌, ◌⊎◌, [], List, ℕ, IfOk, IfErr, OnOk};
 ghost use Rattle.std.specs.List.{All};
-ghost use Rattle.gix_ref_base.specs.Layout.{below};
+ghost use Rattle.gix_ref_target.specs.Layout.{below};
 ghost use Rattle.gix_ref_files.specs.Files.{HasRisen, FaultCounts, NoFewer};
 ghost use Rattle.gix_ref_files.specs.declared.files.FileError.TheVariants.{Memory};
 ghost use Rattle.gix_ref_theory.specs.OnRealTrees.{contents};

@@ -3,7 +3,7 @@ ghost use Rattle.std.specs.Prelude.{◌≡◌, ◌≢◌, [], ◌++◌, ◌⊎�
 ghost use Rattle.std.specs.declared.alloc.Global.{Global};
 ghost use Rattle.std.specs.List.{All};
 ghost use Rattle.gix_ref_hash.specs.Bytes.{BeginsWith, NoByte};
-ghost use Rattle.gix_ref_grammar.specs.NameGrammar.{IsPartialName};
+ghost use Rattle.gix_ref_name.specs.NameGrammar.{IsPartialName};
 ghost use Rattle.gix_ref_name.specs.Names.{full_bytes, full_ref_bytes};
 ghost use Rattle.gix_ref_files.specs.Files.{HasRisen, FaultCounts, NoFewer, IsMet};
 ghost use Rattle.gix_ref_files.specs.declared.files.FileError.TheVariants.{Memory};

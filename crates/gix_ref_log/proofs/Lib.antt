@@ -3,6 +3,7 @@ pub mod DigitLanes
 pub mod FastLines
 pub mod FirstLines
 pub mod LastLines
+pub mod LineEquality
 pub mod LineIds
 pub mod LineLemmas
 pub mod LinesAgain

@@ -5,6 +5,7 @@ pub mod LogItems
 pub mod LogLines
 pub mod LogStages
 pub mod LogWindows
+pub mod Orders
 pub mod Signatures
 pub mod Writers
 pub mod internal

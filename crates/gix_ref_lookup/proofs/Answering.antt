@@ -6,20 +6,20 @@ use Rattle.gix_ref_hash.specs.Ids.{ReadsId, id_bytes, id_kind, kind_len}
 use Rattle.gix_ref_hash.specs.declared.hash.ObjectId.{ObjectId}
 use Rattle.gix_ref_hash.specs.declared.hash.ObjectId.TheVariants as ids
 use Rattle.gix_ref_hash.specs.declared.hash.Kind.{Kind}
-use Rattle.gix_ref_base.specs.PackedRecords.{Record, id_read, id_in, id_with}
-use Rattle.gix_ref_base.specs.Targets.{TargetValue, stripped_target, target_value}
-use Rattle.gix_ref_base.specs.Targets.TargetValue.{object_id, symbolic_name}
+use Rattle.gix_ref_target.specs.PackedRecords.{Record, id_read, id_in, id_with}
+use Rattle.gix_ref_target.specs.Targets.{TargetValue, stripped_target, target_value}
+use Rattle.gix_ref_target.specs.Targets.TargetValue.{object_id, symbolic_name}
 use Rattle.gix_ref_theory.specs.Readings.{Store, as_read, reading_among, reading_by, reading_of_loose}
 use Rattle.gix_ref_theory.specs.Readings.Reading.{Is, Fault}
 use Rattle.gix_ref_theory.specs.Lookups.{hit_name, hit_peeled}
 use Rattle.gix_ref_theory.specs.Views.{View}
-use Rattle.gix_ref_records.specs.declared.raw.Reference.{Reference}
+use Rattle.gix_ref_packed_text.specs.declared.raw.Reference.{Reference}
 use Rattle.gix_ref_name.specs.Names.{full_bytes}
 use Rattle.gix_ref_name.specs.declared.name.FullName.{FullName}
-use Rattle.gix_ref_base.specs.declared.target.Target.{Target}
-use Rattle.gix_ref_grammar.specs.DeviceNames.{is_device}
+use Rattle.gix_ref_target.specs.declared.target.Target.{Target}
+use Rattle.gix_ref_name.specs.DeviceNames.{is_device}
 use Rattle.gix_ref_lookup.specs.Lookups.{IsLooseTarget, IsCandidate, IsByRecord}
-use Rattle.gix_ref_base.specs.Layout.{Layout, LiesIn, below}
+use Rattle.gix_ref_target.specs.Layout.{Layout, LiesIn, below}
 use Rattle.gix_ref_lookup.specs.StoreLayout.{git_options}
 use Rattle.gix_ref_lookup.specs.LooseText.{HoldsTarget}
 use Rattle.gix_ref_lookup.proofs.LooseLemmas.{held_is}

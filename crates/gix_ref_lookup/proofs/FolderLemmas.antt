@@ -7,10 +7,10 @@ use Rattle.std.proofs.lemmas.List.Splits.{slice_split_at, slice_split_none}
 use Rattle.gix_ref_hash.specs.Bytes.{NoByte, components, is_slash}
 use Rattle.gix_ref_hash.proofs.ByteLemmas.{apart}
 use Rattle.gix_ref_files.specs.Tree.{Path}
-use Rattle.gix_ref_base.specs.Layout.{AreCompatible, LiesIn, below}
-use Rattle.gix_ref_base.specs.Locations.{rest_after}
+use Rattle.gix_ref_target.specs.Layout.{AreCompatible, LiesIn, below}
+use Rattle.gix_ref_target.specs.Locations.{rest_after}
 use Rattle.gix_ref_lookup.specs.CleanPaths.{are_compatible, is_worktree, is_worktree_in}
-use Rattle.gix_ref_base.proofs.LocationLemmas.{has_slash, rest_is, no_slash_test, test_no_slash}
+use Rattle.gix_ref_target.proofs.LocationLemmas.{has_slash, rest_is, no_slash_test, test_no_slash}
 use Rattle.gix_ref_theory.proofs.PlaceLaws.{cancel, cancel_below}
 
 rest_back : (front rest : List ℕ) → rest_after front (front ++ rest) ≡ Some rest

@@ -10,7 +10,7 @@ use Rattle.gix_ref_files.proofs.Settling.{both_true}
 use Rattle.gix_ref_name.specs.declared.namespace.Namespace.{Namespace}
 use Rattle.gix_ref_lookup.specs.CleanPaths.{common_of, is_clean}
 use Rattle.gix_ref_lookup.specs.StoreLayout.{folders_of}
-use Rattle.gix_ref_base.specs.Layout.{IsLayout}
+use Rattle.gix_ref_target.specs.Layout.{IsLayout}
 use Rattle.gix_ref_lookup.specs.declared.folders.Dirs.{Dirs}
 use Rattle.gix_ref_lookup.proofs.FolderLemmas.{test_laid}
 

@@ -12,10 +12,10 @@ use Rattle.hex.specs.declared.error.FromHexError.{FromHexError}
 use Rattle.hex.proofs.HexLemmas.{decode_of-ok}
 use Rattle.gix_ref_hash.specs.Bytes.{Spans, StopsAt, is_space, in_line, is_empty}
 use Rattle.gix_ref_hash.specs.Ids.{ReadsId, IsWhole, IsHexOf, kind_len, id_kind, id_bytes}
-use Rattle.gix_ref_grammar.specs.NameGrammar.{IsFullName, IsPartialName, full_error, partial_error, full_rule, first_reported, is_invalid}
-use Rattle.gix_ref_base.specs.Targets.{TargetValue}
-use Rattle.gix_ref_base.specs.Targets.TargetValue.{object_id, symbolic_name}
-use Rattle.gix_ref_grammar.specs.declared.name.error.Error.{Error as NameError}
+use Rattle.gix_ref_name.specs.NameGrammar.{IsFullName, IsPartialName, full_error, partial_error, full_rule, first_reported, is_invalid}
+use Rattle.gix_ref_target.specs.Targets.{TargetValue}
+use Rattle.gix_ref_target.specs.Targets.TargetValue.{object_id, symbolic_name}
+use Rattle.gix_ref_name.specs.declared.name.error.Error.{Error as NameError}
 use Rattle.gix_ref_hash.specs.declared.hash.Kind.{Kind}
 use Rattle.gix_ref_hash.specs.declared.hash.Kind.TheVariants as kinds
 use Rattle.gix_ref_hash.specs.declared.hash.ObjectId.{ObjectId}
@@ -23,7 +23,7 @@ use Rattle.gix_ref_hash.specs.declared.hash.ObjectId.TheVariants as ids
 use Rattle.gix_ref_name.proofs.FrontLemmas.{begins_true, begins_false}
 use Rattle.gix_ref_hash.proofs.ByteLemmas.{same_span, no_stop}
 use Rattle.gix_ref_hash.proofs.IdLemmas.{reads_whole, written_reads}
-use Rattle.gix_ref_grammar.proofs.PartialNames.{rules_of}
+use Rattle.gix_ref_name.proofs.PartialNames.{rules_of}
 use Rattle.gix_ref_lookup.specs.declared.loose.error.Error.{Error}
 use Rattle.gix_ref_lookup.specs.declared.loose.error.Error.TheVariants.{Parse, RefnameValidation, Memory}
 use Rattle.gix_ref_lookup.specs.LooseText.{HoldsPath, HoldsId, HoldsTarget, CannotDecode, front_while, behind, stops, id_of, object_of, object_in, symbolic_in, target_in}

@@ -5,8 +5,8 @@ use Rattle.gix_ref_files.specs.Tree.{Tree, Content, is_file, file_of}
 use Rattle.gix_ref_files.specs.Tree.Content.{File, Folder}
 use Rattle.gix_ref_files.specs.declared.files.ReadAt.{Ghosts}
 use Rattle.gix_ref_theory.specs.OnRealTrees.{view_of}
-use Rattle.gix_ref_records.specs.Positions.{IsNotMalformed}
-use Rattle.gix_ref_records.specs.declared.packed.window.Found.{Found}
+use Rattle.gix_ref_packed_text.specs.Positions.{IsNotMalformed}
+use Rattle.gix_ref_packed_text.specs.declared.packed.window.Found.{Found}
 use Rattle.gix_ref_packed.specs.declared.packed.sorted_file.FindError.{FindError}
 use Rattle.gix_ref_packed.specs.Buffers.{buffer_kind, buffer_text}
 use Rattle.gix_ref_packed.specs.OpenFiles.{packed_file_kind, packed_file_text}

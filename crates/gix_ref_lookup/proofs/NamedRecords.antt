@@ -3,14 +3,14 @@ use Rattle.std.proofs.Common.{◌≡◌, ℕ, List, [], ◌∷◌, Option, Some,
 use Rattle.std.specs.Cmp.Lexicographic.{bytes_decides}
 use Rattle.std.specs.Prelude.{bytes_eq}
 use Rattle.gix_ref_hash.specs.declared.hash.Kind.{Kind}
-use Rattle.gix_ref_grammar.specs.NameGrammar.{IsFullName}
-use Rattle.gix_ref_base.specs.PackedRecords.{Record, record_named}
+use Rattle.gix_ref_name.specs.NameGrammar.{IsFullName}
+use Rattle.gix_ref_target.specs.PackedRecords.{Record, record_named}
 use Rattle.gix_ref_files.specs.declared.files.ReadAt.{Ghosts}
 use Rattle.gix_ref_packed.specs.Buffers.{HoldsRecords}
-use Rattle.gix_ref_records.specs.RecordGrammar.{Records as AreRecords}
+use Rattle.gix_ref_packed_text.specs.RecordGrammar.{Records as AreRecords}
 use Rattle.gix_ref_theory.specs.Readings.{reading_by, reading_of_record}
 use Rattle.gix_ref_theory.specs.Lookups.{hit_name, hit_peeled}
-use Rattle.gix_ref_records.specs.declared.raw.Reference.{Reference}
+use Rattle.gix_ref_packed_text.specs.declared.raw.Reference.{Reference}
 use Rattle.gix_ref_lookup.specs.StoreLayout.{namespace_text}
 use Rattle.gix_ref_lookup.specs.declared.settings.Settings.{Settings}
 use Rattle.gix_ref_lookup.specs.Lookups.{AreAsked, ArePackedRecords, IsOfKey, IsByRecord, HasKey, HasNoKey, meaning_in}

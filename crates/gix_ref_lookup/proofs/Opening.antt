@@ -1,7 +1,7 @@
 -- What an opened `packed-refs` holds.
 use Rattle.std.proofs.Common.{◌≡◌, ◌≢◌, inl, inr, ℕ, List, Option, Some, None, [], ◌∷◌, length, Result, Ok, Err, IfOk, IfErr, IfSome, true, refl, sym, ◌∙◌, ap, subst, arith}
 use Rattle.gix_ref_hash.specs.declared.hash.Kind.{Kind}
-use Rattle.gix_ref_base.specs.PackedRecords.{Record}
+use Rattle.gix_ref_target.specs.PackedRecords.{Record}
 use Rattle.gix_ref_files.specs.Tree.{Content, is_file, bytes_of}
 use Rattle.gix_ref_files.specs.Tree.Content.{File, Folder}
 use Rattle.gix_ref_files.specs.declared.files.ReadAt.{Ghosts}
@@ -10,24 +10,24 @@ use Rattle.gix_ref_packed.specs.declared.packed.file.PackedFile.{PackedFile}
 use Rattle.gix_ref_packed.specs.Buffers.{HoldsRecords, IsRefusedFile, IsRefusedBytes}
 use Rattle.gix_ref_packed.specs.OpenFiles.{OpenedFile, CountsRefusal, HasReadFault, FailsFindByRead, packed_file_text}
 use Rattle.gix_ref_packed.specs.FileSearches.{FailsInFile}
-use Rattle.gix_ref_records.specs.Positions.{CannotRead}
+use Rattle.gix_ref_packed_text.specs.Positions.{CannotRead}
 use Rattle.gix_ref_packed.specs.declared.packed.sorted_file.FindError.{FindError}
 use Rattle.gix_ref_packed.specs.declared.packed.sorted_file.FindError.TheVariants.{Read, Parse}
 use Rattle.gix_ref_packed.specs.declared.packed.sorted_file.ReadError.TheVariants as reading
 use Rattle.gix_ref_packed.proofs.WellFormedLemmas.{opened_file_holds}
 use Rattle.gix_ref_lookup.specs.Lookups.{ArePackedRecords, IsSearched, OfSearched, IsHitOfKey, IsRecordIn, IsFaultOf, IsNotPacked, IsFaultOrMemory, of_opening, as_found}
 use Rattle.gix_ref_lookup.specs.declared.find.records.Records.{Records as Asked}
-use Rattle.gix_ref_records.specs.declared.raw.Reference.{Reference}
-use Rattle.gix_ref_records.specs.OpenedText.{Fronts, PackedText}
-use Rattle.gix_ref_records.specs.declared.packed.decode.options.Header.{Header}
-use Rattle.gix_ref_records.specs.RecordGrammar.{Records, Takes, NoRecord}
-use Rattle.gix_ref_records.proofs.OneReading.{same_record}
-use Rattle.gix_ref_records.proofs.ReadBack.{same_heading}
-use Rattle.gix_ref_records.proofs.RecordPlaces.{shorter_record}
+use Rattle.gix_ref_packed_text.specs.declared.raw.Reference.{Reference}
+use Rattle.gix_ref_packed_text.specs.OpenedText.{Fronts, PackedText}
+use Rattle.gix_ref_packed_text.specs.declared.packed.decode.options.Header.{Header}
+use Rattle.gix_ref_packed_text.specs.RecordGrammar.{Records, Takes, NoRecord}
+use Rattle.gix_ref_packed_text.proofs.OneReading.{same_record}
+use Rattle.gix_ref_packed_text.proofs.ReadBack.{same_heading}
+use Rattle.gix_ref_packed_text.proofs.RecordPlaces.{shorter_record}
 use Rattle.gix_ref_lookup.specs.declared.find.error.Error.{Error}
 use Rattle.gix_ref_lookup.specs.declared.find.error.Error.TheVariants.{RefnameValidation, ReadFileContents, ReferenceCreation, PackedRef, PackedOpen, Memory}
 use Rattle.gix_ref_packed.specs.declared.packed.find.Error.TheVariants as parse
-use Rattle.gix_ref_records.specs.declared.packed.window.Found.{Found}
+use Rattle.gix_ref_packed_text.specs.declared.packed.window.Found.{Found}
 use Rattle.gix_ref_packed.specs.declared.packed.buffer.open.Error.{Error as OpenError}
 use Rattle.gix_ref_packed.specs.declared.packed.buffer.open.Error.TheVariants.{Iter, HeaderParsing, Io, Memory as open_memory}
 use Rattle.gix_ref_files.specs.Files.{FaultCounts, IsMet}

@@ -1,10 +1,10 @@
 -- A target in the empty namespace.
 use Rattle.std.proofs.Common.{◌≡◌, ℕ, List, [], Bool, true, false, refl, sym, ap, ◌∙◌, is_none, if◌then◌else◌}
 use Rattle.gix_ref_hash.specs.Bytes.{without_front}
-use Rattle.gix_ref_grammar.specs.NameGrammar.{partial_error}
+use Rattle.gix_ref_name.specs.NameGrammar.{partial_error}
 use Rattle.gix_ref_name.specs.Namespaces.{stripped}
-use Rattle.gix_ref_base.specs.Targets.{TargetValue, stripped_target}
-use Rattle.gix_ref_base.specs.Targets.TargetValue.{object_id, symbolic_name}
+use Rattle.gix_ref_target.specs.Targets.{TargetValue, stripped_target}
+use Rattle.gix_ref_target.specs.Targets.TargetValue.{object_id, symbolic_name}
 use Rattle.gix_ref_name.proofs.FrontLemmas.{without-append}
 
 same : (n : List ℕ) → without_front [] n ≡ n

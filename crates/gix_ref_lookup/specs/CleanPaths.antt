@@ -4,8 +4,8 @@ use Rattle.std.specs.List.{list_all, list_any}
 use Rattle.std.specs.declared.alloc.Global.{Global}
 use Rattle.gix_ref_hash.specs.Bytes.{is_empty, is_slash, components, without_front}
 use Rattle.gix_ref_files.specs.Tree.{Path}
-use Rattle.gix_ref_base.specs.Layout.{below}
-use Rattle.gix_ref_base.specs.Locations.{rest_after}
+use Rattle.gix_ref_target.specs.Layout.{below}
+use Rattle.gix_ref_target.specs.Locations.{rest_after}
 
 -- a component of a clean path is not empty, and neither `.` nor `..`
 abbrev pub is_clean_component : List ℕ → Bool

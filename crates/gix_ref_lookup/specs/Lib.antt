@@ -1,6 +1,7 @@
 pub mod CleanPaths
-pub mod LooseFiles
-pub mod LooseText
 pub mod Looks
 pub mod Lookups
+pub mod LooseFiles
+pub mod LooseText
+pub mod Reflogs
 pub mod StoreLayout

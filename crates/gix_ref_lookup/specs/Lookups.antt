@@ -5,14 +5,14 @@ use Rattle.std.specs.Option.{option_map}
 use Rattle.std.specs.Cmp.Lexicographic.{pointwise}
 use Rattle.gix_ref_hash.specs.declared.hash.Kind.{Kind}
 use Rattle.gix_ref_name.specs.Names.{full_bytes}
-use Rattle.gix_ref_grammar.specs.NameGrammar.{IsFullName}
+use Rattle.gix_ref_name.specs.NameGrammar.{IsFullName}
 use Rattle.gix_ref_name.specs.Namespaces.{stripped}
 use Rattle.gix_ref_name.specs.Candidates.{candidates, remote_head}
 use Rattle.gix_ref_name.specs.ComposedNames.{composed, decomposed}
-use Rattle.gix_ref_base.specs.Targets.{target_value}
-use Rattle.gix_ref_base.specs.Targets.TargetValue.{object_id}
-use Rattle.gix_ref_base.specs.declared.target.Target.{Target}
-use Rattle.gix_ref_base.specs.PackedRecords.{Record, record_named}
+use Rattle.gix_ref_target.specs.Targets.{target_value}
+use Rattle.gix_ref_target.specs.Targets.TargetValue.{object_id}
+use Rattle.gix_ref_target.specs.declared.target.Target.{Target}
+use Rattle.gix_ref_target.specs.PackedRecords.{Record, record_named}
 use Rattle.gix_ref_files.specs.Files.{FaultCounts, IsMet, Meaning}
 use Rattle.gix_ref_files.specs.declared.files.FileError.{FileError}
 use Rattle.gix_ref_files.specs.Tree.{Tree}
@@ -25,20 +25,20 @@ use Rattle.gix_ref_theory.specs.Readings.{Store, reading_among, reading_by, read
 use Rattle.gix_ref_theory.specs.Readings.Reading.{Is, Absent}
 use Rattle.gix_ref_theory.specs.Lookups.{Hit, hit_name, hit_peeled, peeled_of, lookup}
 use Rattle.gix_ref_theory.specs.ConcreteStore.{store_of}
-use Rattle.gix_ref_records.specs.declared.packed.decode.options.Header.{Header}
-use Rattle.gix_ref_records.specs.declared.packed.window.Found.{Found}
+use Rattle.gix_ref_packed_text.specs.declared.packed.decode.options.Header.{Header}
+use Rattle.gix_ref_packed_text.specs.declared.packed.window.Found.{Found}
 use Rattle.gix_ref_packed.specs.declared.packed.buffer.open.Error.{Error as OpenError}
 use Rattle.gix_ref_packed.specs.declared.packed.buffer.open.Error.TheVariants.{Iter, HeaderParsing, Io, Memory as open_memory}
 use Rattle.gix_ref_packed.specs.declared.packed.sorted_file.FindError.{FindError}
 use Rattle.gix_ref_packed.specs.declared.packed.sorted_file.FindError.TheVariants as finding
 use Rattle.gix_ref_packed.specs.declared.packed.sorted_file.ReadError.TheVariants as reading
 use Rattle.gix_ref_packed.specs.declared.packed.find.Error.TheVariants.{Parse}
-use Rattle.gix_ref_records.specs.declared.raw.Reference.{Reference}
-use Rattle.gix_ref_records.specs.OpenedText.{IsWellFormed, OpensTo}
+use Rattle.gix_ref_packed_text.specs.declared.raw.Reference.{Reference}
+use Rattle.gix_ref_packed_text.specs.OpenedText.{IsWellFormed, OpensTo}
 use Rattle.gix_ref_packed.specs.OpenFiles.{HasReadFault, packed_file_text, packed_file_kind}
 use Rattle.gix_ref_packed.specs.Buffers.{buffer_text, buffer_kind, HoldsRecords, IsRefusedFile}
-use Rattle.gix_ref_records.specs.Windows.{HitsRecord}
-use Rattle.gix_ref_records.specs.Positions.{CannotRead, IsNotMalformed}
+use Rattle.gix_ref_packed_text.specs.Windows.{HitsRecord}
+use Rattle.gix_ref_packed_text.specs.Positions.{CannotRead, IsNotMalformed}
 use Rattle.gix_ref_lookup.specs.StoreLayout.{folders_of, git_options, namespace_text}
 use Rattle.gix_ref_lookup.specs.LooseFiles.{IsUndecodable}
 use Rattle.gix_ref_lookup.specs.declared.settings.Settings.{Settings}

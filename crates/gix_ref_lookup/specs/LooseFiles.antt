@@ -1,6 +1,6 @@
 -- What the loose file of a reference is decoded to.
 use Rattle.std.specs.Prelude.{◌≡◌, ℕ, List, Option, Some, None}
-use Rattle.gix_ref_base.specs.Targets.{target_value}
+use Rattle.gix_ref_target.specs.Targets.{target_value}
 use Rattle.gix_ref_hash.specs.declared.hash.Kind.{Kind}
 use Rattle.gix_ref_lookup.specs.LooseText.{HoldsTarget, CannotDecode}
 use Rattle.gix_ref_lookup.specs.declared.find.loose.Loose.{Loose}

@@ -5,9 +5,9 @@ use Rattle.hex.specs.Hex.{is_hex_digit, decode_of}
 use Rattle.hex.specs.declared.error.FromHexError.{FromHexError}
 use Rattle.gix_ref_hash.specs.Bytes.{SkipsSpaces, CutsLine, StopsAt, is_space, in_line}
 use Rattle.gix_ref_hash.specs.Ids.{ReadsId, kind_len, id_kind}
-use Rattle.gix_ref_grammar.specs.NameGrammar.{IsFullName, full_error}
-use Rattle.gix_ref_base.specs.Targets.{TargetValue}
-use Rattle.gix_ref_base.specs.Targets.TargetValue.{object_id, symbolic_name}
+use Rattle.gix_ref_name.specs.NameGrammar.{IsFullName, full_error}
+use Rattle.gix_ref_target.specs.Targets.{TargetValue}
+use Rattle.gix_ref_target.specs.Targets.TargetValue.{object_id, symbolic_name}
 use Rattle.gix_ref_hash.specs.declared.hash.Kind.{Kind}
 use Rattle.gix_ref_hash.specs.declared.hash.Kind.TheVariants as kinds
 use Rattle.gix_ref_hash.specs.declared.hash.ObjectId.{ObjectId}

@@ -4,8 +4,8 @@ use Rattle.gix_ref_name.specs.Namespaces.{namespace_bytes}
 use Rattle.gix_ref_name.specs.declared.namespace.Namespace.{Namespace}
 use Rattle.gix_ref_hash.specs.declared.hash.Kind.{Kind}
 use Rattle.gix_ref_lookup.specs.CleanPaths.{common_of}
-use Rattle.gix_ref_grammar.specs.DeviceNames.{is_device}
-use Rattle.gix_ref_base.specs.Layout.{Layout}
+use Rattle.gix_ref_name.specs.DeviceNames.{is_device}
+use Rattle.gix_ref_target.specs.Layout.{Layout}
 use Rattle.gix_ref_packed.specs.RecordsOfText.{records_of_text}
 use Rattle.gix_ref_lookup.specs.LooseText.{target_in}
 use Rattle.gix_ref_theory.specs.ConcreteStore.{Options}

@@ -3,7 +3,7 @@ ghost use Rattle.std.specs.Prelude.{◌≡◌, ◌↔◌, ◌++◌, ℕ, List, I
 ghost use Rattle.std.specs.Prelude.{◌==◌, not};
 ghost use Rattle.std.specs.List.{list_all};
 ghost use Rattle.gix_ref_hash.specs.Bytes.{NoByte, components, without_front};
-ghost use Rattle.gix_ref_base.specs.Layout.{AreCompatible, LiesIn, below};
+ghost use Rattle.gix_ref_target.specs.Layout.{AreCompatible, LiesIn, below};
 ghost use Rattle.gix_ref_theory.specs.Roots.{root_of};
 ghost use Rattle.gix_ref_lookup.specs.CleanPaths.{is_clean, is_clean_component, common_of, are_clean, are_compatible};
 

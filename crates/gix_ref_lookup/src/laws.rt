@@ -1,7 +1,7 @@
 //! What is proved of texts of loose files, as the contract of a function that does nothing.
 ghost use Rattle.std.specs.Prelude.{◌≡◌, ℕ, List, Some};
 ghost use Rattle.gix_ref_hash.specs.declared.hash.Kind.{Kind};
-ghost use Rattle.gix_ref_base.specs.Targets.{TargetValue};
+ghost use Rattle.gix_ref_target.specs.Targets.{TargetValue};
 ghost use Rattle.gix_ref_lookup.specs.LooseText.{HoldsTarget, target_in};
 
 /// What a loose text holds is what is computed from it, and nothing else; so a text holds one target at most.

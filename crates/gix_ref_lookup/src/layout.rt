@@ -1,11 +1,11 @@
 //! Where the names of a store are kept: its folders, with its namespace.
 ghost use Rattle.std.specs.Prelude.{◌≡◌};
-ghost use Rattle.gix_ref_base.specs.RefLayout.{layout_of};
+ghost use Rattle.gix_ref_target.specs.RefLayout.{layout_of};
 ghost use Rattle.gix_ref_lookup.specs.StoreLayout.{folders_of, namespace_text};
 
 use crate::folders::Dirs;
-use gix_ref_base::layout::RefLayout;
 use gix_ref_name::namespace::Namespace;
+use gix_ref_target::layout::RefLayout;
 
 /// The text of the namespace, or nothing.
 fn text_of(namespace: &Option<Namespace>) -> &[u8]

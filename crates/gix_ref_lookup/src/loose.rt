@@ -3,19 +3,19 @@ ghost use Rattle.std.specs.Prelude.{◌≡◌, ◌↔◌, IsTrue, ◌++◌, ℕ,
 ghost use Rattle.gix_ref_hash.specs.Ids.{IsHexOf, IsWhole};
 ghost use Rattle.gix_ref_hash.specs.declared.hash.Kind.{Kind};
 ghost use Rattle.gix_ref_name.specs.Names.{full_bytes};
-ghost use Rattle.gix_ref_base.specs.Targets.{target_value, target_kind};
-ghost use Rattle.gix_ref_base.specs.Targets.TargetValue.{object_id};
+ghost use Rattle.gix_ref_target.specs.Targets.{target_value, target_kind};
+ghost use Rattle.gix_ref_target.specs.Targets.TargetValue.{object_id};
 ghost use Rattle.gix_ref_theory.specs.ConcreteStore.{loose_text};
 ghost use Rattle.gix_ref_lookup.specs.LooseText.{HoldsPath, HoldsId, HoldsTarget, CannotDecode, IsWritable, target_in};
 
 mod error;
 
 pub use error::Error;
-use gix_ref_base::target::{self, Target};
 use gix_ref_hash::bytes::{after_spaces, before_line_end, strip_front};
 use gix_ref_hash::hash::{Kind, ObjectId, hex_hash, is_hex};
 use gix_ref_name::name::{FullName, FullNameRef};
 use gix_ref_packed::raw;
+use gix_ref_target::target::{self, Target};
 use std::alloc::{AllocError, Global};
 
 /// A loose reference: one in its own file. As gix-ref's `file::loose::Reference`.

@@ -1,7 +1,7 @@
 //! The settings of a store: where it keeps names, and what it reads.
 ghost use Rattle.std.specs.Prelude.{◌≡◌, []};
 ghost use Rattle.gix_ref_hash.specs.Bytes.{without_front};
-ghost use Rattle.gix_ref_base.specs.Layout.{below};
+ghost use Rattle.gix_ref_target.specs.Layout.{below};
 
 use crate::folders::{Dirs, rest_below};
 use crate::layout::layout_in;

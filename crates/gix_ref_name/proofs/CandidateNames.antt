@@ -6,12 +6,12 @@ use Rattle.std.proofs.lemmas.Bool.{eqb-true}
 use Rattle.std.proofs.lemmas.Bool.Decides.{Decides-eqb}
 use Rattle.std.proofs.lemmas.List.Elements.{All-contains, All-cons, All-nil}
 use Rattle.std.proofs.lemmas.Slice.Eq.{starts_is}
-use Rattle.gix_ref_grammar.specs.declared.name.error.Error.TheVariants.{SomeLowercase}
+use Rattle.gix_ref_name.specs.declared.name.error.Error.TheVariants.{SomeLowercase}
 use Rattle.gix_ref_hash.specs.Bytes.{is_slash}
 use Rattle.gix_ref_hash.proofs.ByteLemmas.{no_byte}
-use Rattle.gix_ref_grammar.specs.NameGrammar.{is_pseudo_byte, first_reported, reported_if, full_rule, full_error, partial_error, IsPartialName, IsFullName}
+use Rattle.gix_ref_name.specs.NameGrammar.{is_pseudo_byte, first_reported, reported_if, full_rule, full_error, partial_error, IsPartialName, IsFullName}
 use Rattle.gix_ref_name.specs.Candidates.{is_rooted, is_pseudo, fronts_of}
-use Rattle.gix_ref_grammar.proofs.PartialNames.{IsPath, IsComponent, rules_of, first_component, last_component, behind_component}
+use Rattle.gix_ref_name.proofs.PartialNames.{IsPath, IsComponent, rules_of, first_component, last_component, behind_component}
 use Rattle.gix_ref_name.proofs.Expanding.{refs_component}
 
 -- ---- full names

@@ -6,8 +6,8 @@ use Rattle.std.proofs.lemmas.Str.{chars-IsAscii, IsUtf8-from_is_utf8, is_utf8-fr
 use Rattle.std.proofs.lemmas.Str.Ascii.{encodes-IsAscii, All-from_ascii}
 use Rattle.unicode_normalization.specs.Forms.{nfc, nfd, Nfc, Nfd}
 use Rattle.unicode_normalization.proofs.FormsLemmas.{normalize-ascii}
-use Rattle.gix_ref_grammar.specs.declared.name.error.Error.{Error}
-use Rattle.gix_ref_grammar.specs.NameGrammar.{partial_error, full_error}
+use Rattle.gix_ref_name.specs.declared.name.error.Error.{Error}
+use Rattle.gix_ref_name.specs.NameGrammar.{partial_error, full_error}
 use Rattle.gix_ref_name.specs.ComposedNames.{nfc_bytes, nfd_bytes, composed, decomposed}
 
 -- the choice between a name and its form

@@ -6,11 +6,11 @@ use Rattle.std.proofs.lemmas.List.Splits.{slice_split_none}
 use Rattle.std.proofs.lemmas.Slice.Eq.{ends_is}
 use Rattle.std.proofs.lemmas.Bool.Decides.{Decides-eqb}
 use Rattle.gix_ref_hash.specs.Bytes.{BeginsWith, NoByte, is_slash, components}
-use Rattle.gix_ref_grammar.specs.NameGrammar.{IsPartialName}
+use Rattle.gix_ref_name.specs.NameGrammar.{IsPartialName}
 use Rattle.gix_ref_name.specs.Namespaces.{expanded, expanded_component}
 use Rattle.gix_ref_hash.proofs.ByteLemmas.{apart, no_byte}
 use Rattle.gix_ref_name.proofs.FrontLemmas.{begins_true}
-use Rattle.gix_ref_grammar.proofs.PartialNames.{IsComponent, behind_component, cut}
+use Rattle.gix_ref_name.proofs.PartialNames.{IsComponent, behind_component, cut}
 
 -- a partial name behind the text is one
 abbrev pub KeepsNames : List ℕ → Type 0

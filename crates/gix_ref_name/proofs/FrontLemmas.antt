@@ -5,9 +5,9 @@ use Rattle.std.specs.Option.{is_none, is_some}
 use Rattle.std.proofs.lemmas.List.{drop_at, take_at}
 use Rattle.std.proofs.lemmas.Slice.Eq.{starts_is}
 use Rattle.std.proofs.lemmas.Bool.Decides.{Decides-eqb}
-use Rattle.gix_ref_grammar.specs.declared.name.error.Error.{Error}
+use Rattle.gix_ref_name.specs.declared.name.error.Error.{Error}
 use Rattle.gix_ref_hash.specs.Bytes.{without_front, with_front}
-use Rattle.gix_ref_grammar.specs.NameGrammar.{partial_error, IsPartialName}
+use Rattle.gix_ref_name.specs.NameGrammar.{partial_error, IsPartialName}
 use Rattle.gix_ref_name.specs.Namespaces.{stripped}
 
 pub begins_true : (p s r : List ℕ) → s ≡ p ++ r → starts_with nat_eq s p ≡ true

@@ -2,7 +2,13 @@ pub mod CandidateNames
 pub mod CandidateRows
 pub mod CategoryLemmas
 pub mod Composing
+pub mod DeviceLemmas
+pub mod DeviceRows
 pub mod Expanding
 pub mod FrontLemmas
 pub mod OneCategory
+pub mod PartialNames
+pub mod PlainNames
 pub mod RoundTrip
+pub mod Rows
+pub mod Scans

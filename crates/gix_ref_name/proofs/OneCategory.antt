@@ -5,7 +5,7 @@ use Rattle.std.proofs.lemmas.List.Elements.{All-head, All-tail}
 use Rattle.gix_ref_name.specs.declared.name.category.Category.{Category}
 use Rattle.gix_ref_name.specs.declared.name.category.Category.TheVariants.{Tag, LocalBranch, RemoteBranch, Note, PseudoRef, MainPseudoRef, MainRef, LinkedPseudoRef, LinkedRef, Bisect, Rewritten, WorktreePrivate}
 use Rattle.gix_ref_hash.specs.Bytes.{BeginsWith, NoByte}
-use Rattle.gix_ref_grammar.specs.NameGrammar.{is_pseudo_byte}
+use Rattle.gix_ref_name.specs.NameGrammar.{is_pseudo_byte}
 use Rattle.gix_ref_name.specs.Categories.{HasCategory, SameCategory, code_of, worktree_of}
 use Rattle.gix_ref_hash.proofs.ByteLemmas.{IsApart, apart}
 

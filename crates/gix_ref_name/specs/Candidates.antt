@@ -2,7 +2,7 @@
 use Rattle.std.specs.Prelude.{ℕ, List, [], ◌∷◌, ◌++◌, Option, Some, None, Bool, ◌||◌, if◌then◌else◌, codes, nat_eq, map}
 use Rattle.std.specs.List.{list_all, starts_with}
 use Rattle.std.specs.Cmp.Lexicographic.{pointwise}
-use Rattle.gix_ref_grammar.specs.NameGrammar.{is_pseudo_byte}
+use Rattle.gix_ref_name.specs.NameGrammar.{is_pseudo_byte}
 
 -- begins with `refs/`, `main-worktree/` or `worktrees/`
 abbrev pub is_rooted : List ℕ → Bool

@@ -4,7 +4,7 @@ use Rattle.std.specs.List.{list_all, starts_with}
 use Rattle.gix_ref_name.specs.declared.name.category.Category.{Category}
 use Rattle.gix_ref_name.specs.declared.name.category.Category.TheVariants.{Tag, LocalBranch, RemoteBranch, Note, PseudoRef, MainPseudoRef, MainRef, LinkedPseudoRef, LinkedRef, Bisect, Rewritten, WorktreePrivate}
 use Rattle.gix_ref_hash.specs.Bytes.{BeginsWith, NoByte, is_empty, without_front, with_front}
-use Rattle.gix_ref_grammar.specs.NameGrammar.{is_pseudo_byte}
+use Rattle.gix_ref_name.specs.NameGrammar.{is_pseudo_byte}
 
 -- only `A` to `Z` and underscores
 abbrev pub IsPseudoName : List ℕ → Type 0

@@ -3,7 +3,7 @@ use Rattle.std.specs.Prelude.{ℕ, List, ◌&&◌, chars, encode_utf8_all, if◌
 use Rattle.std.specs.Option.{is_none}
 use Rattle.std.specs.Str.{is_utf8}
 use Rattle.unicode_normalization.specs.Forms.{nfc, nfd}
-use Rattle.gix_ref_grammar.specs.NameGrammar.{partial_error, full_error}
+use Rattle.gix_ref_name.specs.NameGrammar.{partial_error, full_error}
 
 -- the bytes of the forms of a text
 abbrev pub nfc_bytes : List ℕ → List ℕ

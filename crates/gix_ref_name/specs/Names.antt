@@ -3,7 +3,7 @@
 use Rattle.std.specs.Prelude.{◌≡◌, ◌⊎◌, ℕ, ◌∷◌, ◌++◌, List, Option, Some, None, Result, MatchResult, encode_utf8_all}
 use Rattle.bstr.specs.Utf8.{lossy_chars}
 use Rattle.gix_ref_hash.specs.Bytes.{NoByte}
-use Rattle.gix_ref_grammar.specs.declared.name.error.Error.{Error}
+use Rattle.gix_ref_name.specs.declared.name.error.Error.{Error}
 use Rattle.gix_ref_name.specs.declared.name.FullNameRef.{FullNameRef}
 use Rattle.gix_ref_name.specs.declared.name.PartialNameRef.{PartialNameRef}
 use Rattle.gix_ref_name.specs.declared.name.FullName.{FullName}

@@ -2,7 +2,7 @@
 use Rattle.std.specs.Prelude.{ℕ, List, ◌++◌, codes, if◌then◌else◌, is_none}
 use Rattle.std.specs.List.{flat_map}
 use Rattle.gix_ref_hash.specs.Bytes.{components, without_front}
-use Rattle.gix_ref_grammar.specs.NameGrammar.{partial_error}
+use Rattle.gix_ref_name.specs.NameGrammar.{partial_error}
 use Rattle.gix_ref_name.specs.declared.namespace.Namespace.{Namespace}
 
 abbrev pub namespace_bytes : Namespace → List ℕ

@@ -1,4 +1,4 @@
-//! Names of references, the categories and the candidates of names, and namespaces.
+//! Names of references: their rules, categories and candidates, the names of Windows devices, and namespaces.
 #![tactic(auto)]
 
 pub mod laws;

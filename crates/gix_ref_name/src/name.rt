@@ -1,21 +1,23 @@
 //! Names of references, checked once (`git check-ref-format`) and then carried in a type.
-ghost use Rattle.gix_ref_grammar.specs.NameGrammar.{IsPartialName};
+ghost use Rattle.gix_ref_name.specs.NameGrammar.{IsPartialName};
 
 use crate::namespace::Namespace;
 use bstr::{BStr, ByteSlice};
-use gix_ref_grammar::name::grammar::broken_partial_rule;
-pub use gix_ref_grammar::name::grammar::is_pseudo_name;
-pub use gix_ref_grammar::name::{Error, device};
+pub use category::Category;
+use category::category_of_bytes;
+pub use error::Error;
 use gix_ref_hash::bytes::{cut_last, strip_front};
+use grammar::broken_partial_rule;
+pub use grammar::is_pseudo_name;
 use std::alloc::{AllocError, Global};
 
 pub mod candidates;
 mod category;
 pub mod compose;
 mod convert;
-
-pub use category::Category;
-use category::category_of_bytes;
+pub mod device;
+mod error;
+pub mod grammar;
 
 /// A lent full name. It always holds a valid partial name; one that was made from a text is a valid full name. As
 /// gix-ref's `FullNameRef`.
@@ -59,7 +61,7 @@ pub struct PartialName {
 
 impl<'a> FullNameRef<'a> {
     ghost use Rattle.std.specs.Prelude.{◌≡◌, ◌≢◌, ◌++◌, ◌↔◌, IsTrue, IfOk, IfSome, IfNone, MatchOption, List, ℕ, false};
-    ghost use Rattle.gix_ref_grammar.specs.NameGrammar.{IsPartialName};
+    ghost use Rattle.gix_ref_name.specs.NameGrammar.{IsPartialName};
     ghost use Rattle.gix_ref_name.specs.Namespaces.{namespace_bytes};
     ghost use Rattle.bstr.specs.BStr.{bstr_bytes};
     ghost use Rattle.gix_ref_name.specs.Categories.{HasCategory, NoCategory, SameCategory, begins_again, text_of};
@@ -381,8 +383,8 @@ impl<'a> PartialNameRef<'a> {
 
 impl PartialName {
     ghost use Rattle.std.specs.Prelude.{◌≡◌, ◌⊎◌, ◌↔◌, ◌++◌, ◌∷◌, IsTrue, MatchResult, Some, None};
-    ghost use Rattle.gix_ref_grammar.specs.declared.name.error.Error.TheVariants.{Memory};
-    ghost use Rattle.gix_ref_grammar.specs.NameGrammar.{partial_error};
+    ghost use Rattle.gix_ref_name.specs.declared.name.error.Error.TheVariants.{Memory};
+    ghost use Rattle.gix_ref_name.specs.NameGrammar.{partial_error};
     ghost use Rattle.gix_ref_name.specs.Names.{partial_ref_bytes, partial_bytes};
 
     /// The name, lent. As gix-ref's `PartialName::as_ref`.

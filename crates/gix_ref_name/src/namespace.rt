@@ -2,7 +2,7 @@
 //! `HEAD`.
 ghost use Rattle.std.specs.Prelude.{◌≡◌, ◌++◌, List, ℕ, nat_eq, codes, true};
 ghost use Rattle.std.specs.List.{starts_with, ends_with};
-ghost use Rattle.gix_ref_grammar.specs.NameGrammar.{IsPartialName};
+ghost use Rattle.gix_ref_name.specs.NameGrammar.{IsPartialName};
 
 mod expansion;
 

@@ -3,14 +3,14 @@ use Rattle.std.proofs.Common.{◌≡◌, inl, inr, ⊎_elim, ℕ, ◌-◌, ◌<�
 use Rattle.std.proofs.lemmas.Bool.{cases_lt}
 use Rattle.std.proofs.lemmas.List.{length-take, length-drop, take-append-drop, nil_from_length}
 use Rattle.gix_ref_hash.specs.declared.hash.Kind.{Kind}
-use Rattle.gix_ref_records.specs.RecordGrammar.{Below}
-use Rattle.gix_ref_records.specs.Positions.{BeginsLine}
-use Rattle.gix_ref_records.specs.Prefixes.{IsListStart, NamesAscend, SplitsLines}
+use Rattle.gix_ref_packed_text.specs.RecordGrammar.{Below}
+use Rattle.gix_ref_packed_text.specs.Positions.{BeginsLine}
+use Rattle.gix_ref_packed_text.specs.Prefixes.{IsListStart, NamesAscend, SplitsLines}
 use Rattle.gix_ref_packed.specs.FilePrefixes.{IsPast, EnclosesAsked, HoldsAsked}
-use Rattle.gix_ref_records.proofs.LineBounds.{inside_text}
-use Rattle.gix_ref_records.proofs.LowerBounds.{begins}
-use Rattle.gix_ref_records.proofs.TakenLines.{rest_ascends, record_in_rest}
-use Rattle.gix_ref_records.proofs.CutRecords.{rest_start, cut_record, cut_ascends}
+use Rattle.gix_ref_packed_text.proofs.LineBounds.{inside_text}
+use Rattle.gix_ref_packed_text.proofs.LowerBounds.{begins}
+use Rattle.gix_ref_packed_text.proofs.TakenLines.{rest_ascends, record_in_rest}
+use Rattle.gix_ref_packed_text.proofs.CutRecords.{rest_start, cut_record, cut_ascends}
 use Rattle.gix_ref_packed.proofs.OwedRecords.{no_name, not_before}
 
 module _ (k : Kind) (text prefix : List ℕ) where

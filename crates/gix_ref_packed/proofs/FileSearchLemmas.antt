@@ -2,16 +2,16 @@
 use Rattle.std.proofs.Common.{◌≡◌, ℕ, List, [], ◌∷◌, Bool, true, false, cond, nat_eq, drop, inl, inr, sym, ◌∙◌, ap, subst, Option, Some, None, Ok, Err}
 use Rattle.std.specs.Cmp.Lexicographic.{pointwise}
 use Rattle.gix_ref_hash.specs.declared.hash.Kind.{Kind}
-use Rattle.gix_ref_records.specs.declared.packed.window.Found.{Found}
-use Rattle.gix_ref_base.specs.PackedRecords.{Record, record_named}
-use Rattle.gix_ref_records.specs.RecordGrammar.{Takes, NoRecord, TakesForm, Records, Forms, Ascending, OptionalPeeledLine, PeeledForm}
-use Rattle.gix_ref_records.specs.Positions.{HitsAt, FindsAt, IsUnreadable, IsReadable, IsObject, IsDamaged, IsMalformed, IsNotMalformed}
+use Rattle.gix_ref_packed_text.specs.declared.packed.window.Found.{Found}
+use Rattle.gix_ref_target.specs.PackedRecords.{Record, record_named}
+use Rattle.gix_ref_packed_text.specs.RecordGrammar.{Takes, NoRecord, TakesForm, Records, Forms, Ascending, OptionalPeeledLine, PeeledForm}
+use Rattle.gix_ref_packed_text.specs.Positions.{HitsAt, FindsAt, IsUnreadable, IsReadable, IsObject, IsDamaged, IsMalformed, IsNotMalformed}
 use Rattle.gix_ref_packed.specs.declared.packed.sorted_file.FindError.TheVariants.{Parse}
 use Rattle.gix_ref_packed.specs.FileSearches.{FindsInFile}
-use Rattle.gix_ref_records.specs.Windows.{IsFound, AreFound, FrontIs, HitsRecord}
-use Rattle.gix_ref_records.proofs.OneReading.{same_form}
-use Rattle.gix_ref_records.proofs.RecordPlaces.{form_of, forms_of}
-use Rattle.gix_ref_records.proofs.Halves.{hit_named, not_malformed}
+use Rattle.gix_ref_packed_text.specs.Windows.{IsFound, AreFound, FrontIs, HitsRecord}
+use Rattle.gix_ref_packed_text.proofs.OneReading.{same_form}
+use Rattle.gix_ref_packed_text.proofs.RecordPlaces.{form_of, forms_of}
+use Rattle.gix_ref_packed_text.proofs.Halves.{hit_named, not_malformed}
 
 peeled_of : (k : Kind) (t : List ℕ) (o : Option (List ℕ)) (rest : List ℕ) → IsObject k o → PeeledForm t o rest → OptionalPeeledLine k t o rest
 peeled_of k t None rest id f = f

@@ -5,17 +5,17 @@ use Rattle.std.specs.Iterator.Runs.{YieldsRun, EachRunFrom}
 use Rattle.std.proofs.lemmas.List.Sums.{take_while-cons}
 use Rattle.std.proofs.lemmas.Bool.{cond-true, cond-false}
 use Rattle.gix_ref_hash.specs.declared.hash.Kind.{Kind}
-use Rattle.gix_ref_records.specs.declared.packed.reference.Reference.{Reference}
+use Rattle.gix_ref_packed_text.specs.declared.packed.reference.Reference.{Reference}
 use Rattle.gix_ref_packed.specs.declared.packed.iter.Iter.{Iter}
 use Rattle.gix_ref_packed.specs.declared.packed.iter.error.Error.{Error}
 use Rattle.gix_ref_packed.specs.declared.packed.iter.error.Error.TheVariants.{Header as bad_header, Reference as bad_line}
-use Rattle.gix_ref_base.specs.PackedRecords.{Record}
-use Rattle.gix_ref_records.specs.RecordGrammar.{Takes, Records}
-use Rattle.gix_ref_records.specs.Views.{record_of}
+use Rattle.gix_ref_target.specs.PackedRecords.{Record}
+use Rattle.gix_ref_packed_text.specs.RecordGrammar.{Takes, Records}
+use Rattle.gix_ref_packed_text.specs.Views.{record_of}
 use Rattle.gix_ref_packed.specs.Items.{Unread, AreItems, AreRecords, ItemStep, unread, has_prefix}
 use Rattle.gix_ref_packed.specs.YetToGive.{asked_records}
-use Rattle.gix_ref_records.proofs.OneReading.{same_record}
-use Rattle.gix_ref_records.proofs.RecordPlaces.{shorter_record as shorter}
+use Rattle.gix_ref_packed_text.proofs.OneReading.{same_record}
+use Rattle.gix_ref_packed_text.proofs.RecordPlaces.{shorter_record as shorter}
 
 items_law : (Ended : Type 0) (xs : List (Result Reference Error)) (s t : Iter) → Yields ItemStep s xs t → (Ended → (u : Iter) × ItemStep t None u) → AreItems Ended (unread s) xs
 items_law Ended [] s t y e = λ end.

@@ -1,18 +1,18 @@
 -- What a search in memory returns, by where it ended.
 use Rattle.std.proofs.Common.{◌≡◌, ℕ, List, drop, inl, inr, sym, subst, Some, None, Ok, Err}
 use Rattle.gix_ref_hash.specs.declared.hash.Kind.{Kind}
-use Rattle.gix_ref_records.specs.declared.packed.reference.Reference.{Reference}
+use Rattle.gix_ref_packed_text.specs.declared.packed.reference.Reference.{Reference}
 use Rattle.gix_ref_packed.specs.declared.packed.find.ParseError.{ParseError}
-use Rattle.gix_ref_records.specs.declared.packed.search.SearchError.{SearchError}
-use Rattle.gix_ref_records.specs.declared.packed.search.SearchError.TheVariants.{Read, Parse}
-use Rattle.gix_ref_base.specs.PackedRecords.{Record, record_named}
-use Rattle.gix_ref_records.specs.RecordGrammar.{Takes, NoRecord, Forms, Ascending}
-use Rattle.gix_ref_records.specs.Positions.{HitsAt, FindsAt, IsMalformed, IsNotMalformed, IsUnreadable}
-use Rattle.gix_ref_records.specs.SearchCosts.{FailsBy}
-use Rattle.gix_ref_records.specs.Views.{record_of}
+use Rattle.gix_ref_packed_text.specs.declared.packed.search.SearchError.{SearchError}
+use Rattle.gix_ref_packed_text.specs.declared.packed.search.SearchError.TheVariants.{Read, Parse}
+use Rattle.gix_ref_target.specs.PackedRecords.{Record, record_named}
+use Rattle.gix_ref_packed_text.specs.RecordGrammar.{Takes, NoRecord, Forms, Ascending}
+use Rattle.gix_ref_packed_text.specs.Positions.{HitsAt, FindsAt, IsMalformed, IsNotMalformed, IsUnreadable}
+use Rattle.gix_ref_packed_text.specs.SearchCosts.{FailsBy}
+use Rattle.gix_ref_packed_text.specs.Views.{record_of}
 use Rattle.gix_ref_packed.specs.Searches.{Finds}
-use Rattle.gix_ref_records.proofs.RecordPlaces.{forms_of}
-use Rattle.gix_ref_records.proofs.Halves.{hit_named, found_read, not_malformed}
+use Rattle.gix_ref_packed_text.proofs.RecordPlaces.{forms_of}
+use Rattle.gix_ref_packed_text.proofs.Halves.{hit_named, found_read, not_malformed}
 use Rattle.gix_ref_packed.proofs.FileSearchLemmas.{read_form, records_readable}
 
 module _ (k : Kind) (t n : List ℕ) where

@@ -5,21 +5,21 @@ use Rattle.std.specs.Option.{option_map}
 use Rattle.std.proofs.lemmas.Slice.Eq.{starts_is}
 use Rattle.std.proofs.lemmas.Bool.Decides.{Decides-eqb}
 use Rattle.gix_ref_hash.specs.declared.hash.Kind.{Kind}
-use Rattle.gix_ref_grammar.specs.declared.name.error.Error.TheVariants.{SomeLowercase}
+use Rattle.gix_ref_name.specs.declared.name.error.Error.TheVariants.{SomeLowercase}
 use Rattle.gix_ref_hash.specs.Bytes.{is_slash}
-use Rattle.gix_ref_grammar.specs.NameGrammar.{IsFullName, IsPartialName, full_error, full_rule, first_reported, reported_if, is_pseudo_byte}
-use Rattle.gix_ref_base.specs.Locations.{key_outside}
-use Rattle.gix_ref_records.specs.declared.packed.reference.Reference.{Reference}
+use Rattle.gix_ref_name.specs.NameGrammar.{IsFullName, IsPartialName, full_error, full_rule, first_reported, reported_if, is_pseudo_byte}
+use Rattle.gix_ref_target.specs.Locations.{key_outside}
+use Rattle.gix_ref_packed_text.specs.declared.packed.reference.Reference.{Reference}
 use Rattle.gix_ref_packed.specs.declared.packed.find.ParseError.{ParseError}
 use Rattle.gix_ref_packed.specs.declared.packed.find.Error.{Error}
 use Rattle.gix_ref_packed.specs.declared.packed.find.Error.TheVariants.{RefnameValidation, Parse, Memory}
-use Rattle.gix_ref_base.specs.PackedRecords.{Record, record_named}
-use Rattle.gix_ref_records.specs.RecordGrammar.{Forms, Ascending}
-use Rattle.gix_ref_records.specs.Positions.{IsNotMalformed}
-use Rattle.gix_ref_records.specs.Views.{record_of}
+use Rattle.gix_ref_target.specs.PackedRecords.{Record, record_named}
+use Rattle.gix_ref_packed_text.specs.RecordGrammar.{Forms, Ascending}
+use Rattle.gix_ref_packed_text.specs.Positions.{IsNotMalformed}
+use Rattle.gix_ref_packed_text.specs.Views.{record_of}
 use Rattle.gix_ref_packed.specs.AskedNames.{key_alone, four_names, asked_keys, or_else, first_named}
 use Rattle.gix_ref_packed.specs.Searches.{Finds, FindsOne, FindsPartial}
-use Rattle.gix_ref_records.proofs.RecordPlaces.{forms_of}
+use Rattle.gix_ref_packed_text.proofs.RecordPlaces.{forms_of}
 use Rattle.gix_ref_name.specs.Candidates.{is_rooted}
 
 pub asks_four : (p : List ℕ) → is_rooted p ≡ false → asked_keys p ≡ four_names p

@@ -1,16 +1,16 @@
 -- One item of the iterator over packed references.
 use Rattle.std.proofs.Common.{◌≡◌, ⊎_elim, ℕ, true, false, List, [], ◌∷◌, refl, sym, ◌∙◌, ap, subst, None, Some, Option, Result, Ok, Err}
 use Rattle.gix_ref_hash.specs.declared.hash.Kind.{Kind}
-use Rattle.gix_ref_records.specs.declared.packed.reference.Reference.{Reference}
+use Rattle.gix_ref_packed_text.specs.declared.packed.reference.Reference.{Reference}
 use Rattle.gix_ref_packed.specs.declared.packed.iter.Iter.{Iter}
 use Rattle.gix_ref_packed.specs.declared.packed.iter.error.Error.{Error}
 use Rattle.gix_ref_packed.specs.declared.packed.iter.error.Error.TheVariants.{Header as bad_header, Reference as bad_line}
-use Rattle.gix_ref_base.specs.PackedRecords.{Record}
-use Rattle.gix_ref_records.specs.RecordGrammar.{Takes, Records}
-use Rattle.gix_ref_records.specs.Views.{record_of}
+use Rattle.gix_ref_target.specs.PackedRecords.{Record}
+use Rattle.gix_ref_packed_text.specs.RecordGrammar.{Takes, Records}
+use Rattle.gix_ref_packed_text.specs.Views.{record_of}
 use Rattle.gix_ref_packed.specs.Items.{Unread, GivesPackedItem, unread, has_prefix}
 use Rattle.gix_ref_packed.specs.YetToGive.{IsYet, asked_records, NextGivesTheFirst, FaultsAreLines, EndedStaysEnded}
-use Rattle.gix_ref_records.proofs.OneReading.{same_record}
+use Rattle.gix_ref_packed_text.proofs.OneReading.{same_record}
 use Rattle.gix_ref_packed.proofs.ItemRuns.{none_taken, asked_more, asked_end, all_asked}
 
 -- what is unread is these records

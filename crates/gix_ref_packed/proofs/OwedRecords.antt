@@ -5,18 +5,18 @@ use Rattle.std.proofs.lemmas.Bool.{cases_lt}
 use Rattle.std.proofs.lemmas.List.{length-take, length-drop, take-append-drop, drop_all}
 use Rattle.gix_ref_hash.specs.declared.hash.Kind.{Kind}
 use Rattle.gix_ref_name.proofs.FrontLemmas.{begins_true}
-use Rattle.gix_ref_records.specs.declared.packed.reference.Reference.{Reference}
+use Rattle.gix_ref_packed_text.specs.declared.packed.reference.Reference.{Reference}
 use Rattle.gix_ref_packed.specs.declared.packed.iter.Iter.{Iter}
-use Rattle.gix_ref_base.specs.PackedRecords.{Record}
-use Rattle.gix_ref_records.specs.RecordGrammar.{Takes, Below}
-use Rattle.gix_ref_records.specs.Positions.{BeginsLine}
-use Rattle.gix_ref_records.specs.Prefixes.{IsBadStart, IsListStart, RecordAt, NameAtLine, NamesAscend, SplitsLines}
-use Rattle.gix_ref_records.specs.Views.{record_of}
+use Rattle.gix_ref_target.specs.PackedRecords.{Record}
+use Rattle.gix_ref_packed_text.specs.RecordGrammar.{Takes, Below}
+use Rattle.gix_ref_packed_text.specs.Positions.{BeginsLine}
+use Rattle.gix_ref_packed_text.specs.Prefixes.{IsBadStart, IsListStart, RecordAt, NameAtLine, NamesAscend, SplitsLines}
+use Rattle.gix_ref_packed_text.specs.Views.{record_of}
 use Rattle.gix_ref_packed.specs.Items.{Unread, GivesPackedItem, unread, has_prefix}
 use Rattle.gix_ref_packed.specs.YetToGive.{IsOwed, NoneIsBefore, IsInOrder, IsAtBadLine, IsAsked, Owes, NextPaysOne}
-use Rattle.gix_ref_records.proofs.LineBounds.{inside_text, name_of}
-use Rattle.gix_ref_records.proofs.LowerBounds.{begins, between, prefix_not_below}
-use Rattle.gix_ref_records.proofs.TakenLines.{behind_ascends, behind_record, first_or_later, first_there, rest_ascends, record_in_text, record_in_rest}
+use Rattle.gix_ref_packed_text.proofs.LineBounds.{inside_text, name_of}
+use Rattle.gix_ref_packed_text.proofs.LowerBounds.{begins, between, prefix_not_below}
+use Rattle.gix_ref_packed_text.proofs.TakenLines.{behind_ascends, behind_record, first_or_later, first_there, rest_ascends, record_in_text, record_in_rest}
 
 -- ---- one item
 

@@ -10,17 +10,17 @@ use Rattle.std.proofs.lemmas.List.{length-drop, take_all, drop_all, take-append-
 use Rattle.std.proofs.lemmas.List.Elements.{All-head, All-tail, All-cons, All-nil}
 use Rattle.gix_ref_hash.specs.declared.hash.Kind.{Kind}
 use Rattle.gix_ref_hash.specs.Bytes.{StopsAt}
-use Rattle.gix_ref_base.specs.PackedRecords.{Record}
-use Rattle.gix_ref_records.specs.RecordGrammar.{Takes, OptionalPeeledLine, Records, Below, Rising, is_caret}
-use Rattle.gix_ref_records.specs.OpenedText.{Fronts}
-use Rattle.gix_ref_records.specs.Prefixes.{IsListStart, SplitsAt, records_prefixed}
+use Rattle.gix_ref_target.specs.PackedRecords.{Record}
+use Rattle.gix_ref_packed_text.specs.RecordGrammar.{Takes, OptionalPeeledLine, Records, Below, Rising, is_caret}
+use Rattle.gix_ref_packed_text.specs.OpenedText.{Fronts}
+use Rattle.gix_ref_packed_text.specs.Prefixes.{IsListStart, SplitsAt, records_prefixed}
 use Rattle.gix_ref_packed.specs.FilePrefixes.{IsPast, HoldsPrefixed, Encloses, HoldsPrefix, PrefixedBuffersHold}
 use Rattle.gix_ref_packed.specs.declared.packed.buffer.Buffer.{Buffer}
 use Rattle.gix_ref_packed.specs.Buffers.{buffer_text, buffer_kind, buffer_line}
-use Rattle.gix_ref_records.proofs.OneReading.{same_record}
-use Rattle.gix_ref_records.proofs.RecordPlaces.{shorter_record}
-use Rattle.gix_ref_records.proofs.RecordBytes.{lines_taken}
-use Rattle.gix_ref_records.proofs.LowerBounds.{same_byte, begins, none_kept, low_are_not, kept_append, later_ascend, by_false}
+use Rattle.gix_ref_packed_text.proofs.OneReading.{same_record}
+use Rattle.gix_ref_packed_text.proofs.RecordPlaces.{shorter_record}
+use Rattle.gix_ref_packed_text.proofs.RecordBytes.{lines_taken}
+use Rattle.gix_ref_packed_text.proofs.LowerBounds.{same_byte, begins, none_kept, low_are_not, kept_append, later_ascend, by_false}
 
 -- ---- names past a prefix
 

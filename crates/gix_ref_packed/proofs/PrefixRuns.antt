@@ -3,14 +3,14 @@ use Rattle.std.proofs.Common.{◌≡◌, ℕ, true, List, drop, subst, Some}
 use Rattle.std.specs.Iterator.Runs.{EachRunFrom}
 use Rattle.gix_ref_hash.specs.declared.hash.Kind.{Kind}
 use Rattle.gix_ref_packed.specs.declared.packed.iter.Iter.{Iter}
-use Rattle.gix_ref_base.specs.PackedRecords.{Record}
-use Rattle.gix_ref_records.specs.RecordGrammar.{Records, Rising}
+use Rattle.gix_ref_target.specs.PackedRecords.{Record}
+use Rattle.gix_ref_packed_text.specs.RecordGrammar.{Records, Rising}
 use Rattle.gix_ref_packed.specs.Items.{AreRecords, ItemStep, unread}
-use Rattle.gix_ref_records.specs.Prefixes.{SplitsAt, records_prefixed}
+use Rattle.gix_ref_packed_text.specs.Prefixes.{SplitsAt, records_prefixed}
 use Rattle.gix_ref_packed.specs.YetToGive.{IsYet}
 use Rattle.gix_ref_packed.proofs.ItemRuns.{each_records}
 use Rattle.gix_ref_packed.proofs.OneItem.{yet_asked}
-use Rattle.gix_ref_records.proofs.LowerBounds.{prefixed_are}
+use Rattle.gix_ref_packed_text.proofs.LowerBounds.{prefixed_are}
 
 abbrev pub EachSplits : Kind → List ℕ → List ℕ → ℕ → Type 0
 EachSplits k text n start = (rs : List Record) → Records k text rs → Rising rs → SplitsAt k text rs n start

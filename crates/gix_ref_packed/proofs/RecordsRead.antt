@@ -11,15 +11,15 @@ use Rattle.hex.specs.Hex.{is_hex_digit}
 use Rattle.gix_ref_hash.specs.declared.hash.Kind.{Kind}
 use Rattle.gix_ref_hash.specs.Ids.{kind_len, IsHexOf}
 use Rattle.gix_ref_hash.specs.Bytes.{StopsAt}
-use Rattle.gix_ref_grammar.specs.declared.name.error.Error.{Error}
-use Rattle.gix_ref_grammar.specs.NameGrammar.{IsFullName, full_error}
-use Rattle.gix_ref_base.specs.PackedRecords.{Record}
-use Rattle.gix_ref_records.specs.declared.packed.decode.options.Header.{Header}
-use Rattle.gix_ref_records.specs.RecordGrammar.{Newline, Line, OptionalPeeledLine, Records, in_record_line, is_caret}
-use Rattle.gix_ref_records.specs.HeaderGrammar.{said, silent, words}
-use Rattle.gix_ref_records.specs.OpenedText.{PackedText, is_hash}
+use Rattle.gix_ref_name.specs.declared.name.error.Error.{Error}
+use Rattle.gix_ref_name.specs.NameGrammar.{IsFullName, full_error}
+use Rattle.gix_ref_target.specs.PackedRecords.{Record}
+use Rattle.gix_ref_packed_text.specs.declared.packed.decode.options.Header.{Header}
+use Rattle.gix_ref_packed_text.specs.RecordGrammar.{Newline, Line, OptionalPeeledLine, Records, in_record_line, is_caret}
+use Rattle.gix_ref_packed_text.specs.HeaderGrammar.{said, silent, words}
+use Rattle.gix_ref_packed_text.specs.OpenedText.{PackedText, is_hash}
 use Rattle.gix_ref_packed.specs.RecordsOfText.{begins_lf, begins_hash, longer, text_lines, behind_header, is_hex_of, is_line_of, digits_in, line_name, behind_caret, first_object, add_line, add_lines, line_records, read_records, TextsAreRead}
-use Rattle.gix_ref_records.proofs.ReadBack.{name_in_line}
+use Rattle.gix_ref_packed_text.proofs.ReadBack.{name_in_line}
 use Rattle.gix_ref_packed.proofs.RecordsOfText.{in_front, wider, empty_line, records_read}
 
 -- ---- parts of what is computed

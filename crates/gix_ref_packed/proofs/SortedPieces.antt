@@ -11,13 +11,13 @@ use Rattle.gix_ref_hash.specs.declared.hash.Kind.{Kind}
 use Rattle.gix_ref_packed.specs.declared.packed.sorting.Entry.{Entry}
 use Rattle.std.proofs.lemmas.Grind.{flat_map-append}
 use Rattle.std.specs.Bool.{MatchBool}
-use Rattle.gix_ref_base.specs.PackedRecords.{Record}
-use Rattle.gix_ref_records.specs.RecordGrammar.{Takes, Records, Below, Rising}
-use Rattle.gix_ref_records.specs.OpenedText.{Piece, IsPiece, SortsByName, SortsText, is_lower, records_in, bytes_in, Fronts, lines_of, line_count}
+use Rattle.gix_ref_target.specs.PackedRecords.{Record}
+use Rattle.gix_ref_packed_text.specs.RecordGrammar.{Takes, Records, Below, Rising}
+use Rattle.gix_ref_packed_text.specs.OpenedText.{Piece, IsPiece, SortsByName, SortsText, is_lower, records_in, bytes_in, Fronts, lines_of, line_count}
 use Rattle.gix_ref_packed.specs.internal.Entries.{entry_record, entry_piece, entry_ref_name, entry_bytes}
-use Rattle.gix_ref_records.proofs.RecordBytes.{lines_taken, front_is, records_stop, fronts_more, fronts_all, lines_more}
-use Rattle.gix_ref_records.proofs.ReadBack.{same_records}
-use Rattle.gix_ref_records.proofs.LowerBounds.{below_or}
+use Rattle.gix_ref_packed_text.proofs.RecordBytes.{lines_taken, front_is, records_stop, fronts_more, fronts_all, lines_more}
+use Rattle.gix_ref_packed_text.proofs.ReadBack.{same_records}
+use Rattle.gix_ref_packed_text.proofs.LowerBounds.{below_or}
 
 pub piece_taken : (k : Kind) (e : Entry) (t rest : List ℕ) (n : ℕ) → Takes k t (entry_record e) rest → entry_bytes e ≡ take n t → n + length rest ≡ length t → IsPiece k (entry_piece e)
 piece_taken k e t rest n takes is len x stops =

@@ -13,14 +13,14 @@ use Rattle.std.proofs.lemmas.List.Sorted.{IsPermutation-map, IsPermutation-refl,
 use Rattle.gix_ref_hash.specs.declared.hash.Kind.{Kind}
 use Rattle.gix_ref_files.specs.declared.files.ReadAt.{Ghosts}
 use Rattle.gix_ref_packed.specs.declared.packed.file.PackedFile.{PackedFile}
-use Rattle.gix_ref_records.specs.declared.packed.decode.options.Header.{Header}
-use Rattle.gix_ref_base.specs.PackedRecords.{Record, record_named}
-use Rattle.gix_ref_records.specs.RecordGrammar.{Records, Below, Ascending, Rising}
-use Rattle.gix_ref_records.specs.OpenedText.{Piece, Keeps, OpensTo, IsWellFormed, says_sorted, records_in}
+use Rattle.gix_ref_packed_text.specs.declared.packed.decode.options.Header.{Header}
+use Rattle.gix_ref_target.specs.PackedRecords.{Record, record_named}
+use Rattle.gix_ref_packed_text.specs.RecordGrammar.{Records, Below, Ascending, Rising}
+use Rattle.gix_ref_packed_text.specs.OpenedText.{Piece, Keeps, OpensTo, IsWellFormed, says_sorted, records_in}
 use Rattle.gix_ref_packed.specs.Buffers.{HoldsRecords, OpenedHoldsRecords, buffer_text, buffer_line}
 use Rattle.gix_ref_packed.specs.OpenFiles.{OpenedFileHoldsRecords, packed_file_text}
-use Rattle.gix_ref_records.proofs.ReadBack.{same_records, same_heading}
-use Rattle.gix_ref_records.proofs.Halves.{greater_is_below}
+use Rattle.gix_ref_packed_text.proofs.ReadBack.{same_records, same_heading}
+use Rattle.gix_ref_packed_text.proofs.Halves.{greater_is_below}
 
 -- the record has the name
 abbrev named : List ℕ → Record → Bool

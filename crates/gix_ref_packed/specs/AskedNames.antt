@@ -1,8 +1,8 @@
 -- By which names a reference is asked for in packed references: the key of a name (`git worktree`), or the four full
 -- names of a partial one (`gitrevisions`).
 use Rattle.std.specs.Prelude.{ℕ, List, [], ◌∷◌, ◌++◌, Option, Some, None, if◌then◌else◌, codes}
-use Rattle.gix_ref_base.specs.Locations.{key_outside}
-use Rattle.gix_ref_base.specs.PackedRecords.{Record, record_named}
+use Rattle.gix_ref_target.specs.Locations.{key_outside}
+use Rattle.gix_ref_target.specs.PackedRecords.{Record, record_named}
 use Rattle.gix_ref_name.specs.Candidates.{is_rooted}
 
 -- the key alone, if there is one

@@ -7,10 +7,10 @@ use Rattle.gix_ref_hash.specs.declared.hash.Kind.{Kind}
 use Rattle.gix_ref_packed.specs.declared.packed.buffer.Buffer.{Buffer}
 use Rattle.gix_ref_packed.specs.declared.packed.buffer.open.Error.{Error}
 use Rattle.gix_ref_packed.specs.declared.packed.buffer.open.Error.TheVariants.{Iter, HeaderParsing, Io, Memory}
-use Rattle.gix_ref_records.specs.OpenedText.{OpensTo, NoHeader, HasBadLine, StuckAt, IsWellFormed}
-use Rattle.gix_ref_base.specs.PackedRecords.{Record, record_named}
-use Rattle.gix_ref_records.specs.RecordGrammar.{Records, Ascending}
-use Rattle.gix_ref_records.specs.declared.packed.decode.options.Header.{Header}
+use Rattle.gix_ref_packed_text.specs.OpenedText.{OpensTo, NoHeader, HasBadLine, StuckAt, IsWellFormed}
+use Rattle.gix_ref_target.specs.PackedRecords.{Record, record_named}
+use Rattle.gix_ref_packed_text.specs.RecordGrammar.{Records, Ascending}
+use Rattle.gix_ref_packed_text.specs.declared.packed.decode.options.Header.{Header}
 use Rattle.std.specs.List.Sorted.{IsPermutation}
 
 -- the records, without the header

@@ -3,11 +3,11 @@ use Rattle.std.specs.Prelude.{◌≢◌, ℕ, List, Option, Result, IfOk, IfErr,
 use Rattle.gix_ref_hash.specs.declared.hash.Kind.{Kind}
 use Rattle.gix_ref_files.specs.Files.{FaultCounts, count_with}
 use Rattle.gix_ref_files.specs.declared.files.FileError.TheVariants.{Memory as NoMemory}
-use Rattle.gix_ref_base.specs.PackedRecords.{Record, record_named}
-use Rattle.gix_ref_records.specs.RecordGrammar.{Records, Forms, Ascending}
-use Rattle.gix_ref_records.specs.Positions.{IsNotMalformed, CannotRead, IsUnreadable}
-use Rattle.gix_ref_records.specs.Windows.{AreFound, HitsRecord}
-use Rattle.gix_ref_records.specs.declared.packed.window.Found.{Found}
+use Rattle.gix_ref_target.specs.PackedRecords.{Record, record_named}
+use Rattle.gix_ref_packed_text.specs.RecordGrammar.{Records, Forms, Ascending}
+use Rattle.gix_ref_packed_text.specs.Positions.{IsNotMalformed, CannotRead, IsUnreadable}
+use Rattle.gix_ref_packed_text.specs.Windows.{AreFound, HitsRecord}
+use Rattle.gix_ref_packed_text.specs.declared.packed.window.Found.{Found}
 use Rattle.gix_ref_packed.specs.declared.packed.sorted_file.ReadError.{ReadError}
 use Rattle.gix_ref_packed.specs.declared.packed.sorted_file.ReadError.TheVariants.{Io, Memory, Changed}
 use Rattle.gix_ref_packed.specs.declared.packed.sorted_file.FindError.{FindError}

@@ -6,14 +6,14 @@ use Rattle.gix_ref_hash.specs.declared.hash.Kind.{Kind}
 use Rattle.gix_ref_hash.specs.Bytes.{Cuts, NoByte}
 use Rattle.gix_ref_packed.specs.declared.packed.buffer.Buffer.{Buffer}
 use Rattle.gix_ref_packed.specs.Buffers.{buffer_text, buffer_kind, buffer_line}
-use Rattle.gix_ref_records.specs.declared.packed.reference.Reference.{Reference}
+use Rattle.gix_ref_packed_text.specs.declared.packed.reference.Reference.{Reference}
 use Rattle.gix_ref_packed.specs.declared.packed.iter.Iter.{Iter}
 use Rattle.gix_ref_packed.specs.declared.packed.iter.error.Error.{Error}
 use Rattle.gix_ref_packed.specs.declared.packed.iter.error.Error.TheVariants.{Header as bad_header, Reference as bad_line}
-use Rattle.gix_ref_base.specs.PackedRecords.{Record}
-use Rattle.gix_ref_records.specs.RecordGrammar.{Takes, NoRecord}
-use Rattle.gix_ref_records.specs.OpenedText.{NoHeader, lines_of}
-use Rattle.gix_ref_records.specs.Views.{record_of}
+use Rattle.gix_ref_target.specs.PackedRecords.{Record}
+use Rattle.gix_ref_packed_text.specs.RecordGrammar.{Takes, NoRecord}
+use Rattle.gix_ref_packed_text.specs.OpenedText.{NoHeader, lines_of}
+use Rattle.gix_ref_packed_text.specs.Views.{record_of}
 
 -- a line up to its LF, which it may lack at the end of the text, and what follows; a CR belongs to the line
 abbrev pub CutsAtFeed : List ℕ → List ℕ → List ℕ → Type 0

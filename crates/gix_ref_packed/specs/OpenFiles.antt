@@ -7,14 +7,14 @@ use Rattle.gix_ref_hash.specs.declared.hash.Kind.{Kind}
 use Rattle.gix_ref_packed.specs.declared.packed.sorted_file.SortedFile.{SortedFile}
 use Rattle.gix_ref_packed.specs.declared.packed.file.PackedFile.{PackedFile}
 use Rattle.gix_ref_packed.specs.declared.packed.file.PackedFile.TheVariants.{InFile, InMemory}
-use Rattle.gix_ref_base.specs.PackedRecords.{Record}
-use Rattle.gix_ref_records.specs.declared.packed.decode.options.Header.{Header}
+use Rattle.gix_ref_target.specs.PackedRecords.{Record}
+use Rattle.gix_ref_packed_text.specs.declared.packed.decode.options.Header.{Header}
 use Rattle.gix_ref_packed.specs.declared.packed.buffer.open.Error.{Error}
 use Rattle.gix_ref_packed.specs.declared.packed.buffer.open.Error.TheVariants.{Iter, HeaderParsing, Io, Memory}
 use Rattle.gix_ref_packed.specs.declared.packed.sorted_file.FindError.{FindError}
 use Rattle.gix_ref_packed.specs.declared.packed.sorted_file.FindError.TheVariants.{Read, Parse}
 use Rattle.gix_ref_packed.specs.declared.packed.sorted_file.ReadError.TheVariants as reading
-use Rattle.gix_ref_records.specs.OpenedText.{OpensTo, IsWellFormed}
+use Rattle.gix_ref_packed_text.specs.OpenedText.{OpensTo, IsWellFormed}
 use Rattle.gix_ref_packed.specs.Buffers.{buffer_text, buffer_kind, buffer_line, HoldsRecords}
 
 -- the records in a file, without the header

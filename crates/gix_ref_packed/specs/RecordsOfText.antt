@@ -6,11 +6,11 @@ use Rattle.std.specs.Cmp.Lexicographic.{pointwise}
 use Rattle.hex.specs.Hex.{is_hex_digit}
 use Rattle.gix_ref_hash.specs.declared.hash.Kind.{Kind}
 use Rattle.gix_ref_hash.specs.Ids.{kind_len}
-use Rattle.gix_ref_grammar.specs.NameGrammar.{full_error}
-use Rattle.gix_ref_base.specs.PackedRecords.{Record}
-use Rattle.gix_ref_records.specs.declared.packed.decode.options.Header.{Header}
-use Rattle.gix_ref_records.specs.RecordGrammar.{is_caret}
-use Rattle.gix_ref_records.specs.OpenedText.{PackedText, is_hash}
+use Rattle.gix_ref_name.specs.NameGrammar.{full_error}
+use Rattle.gix_ref_target.specs.PackedRecords.{Record}
+use Rattle.gix_ref_packed_text.specs.declared.packed.decode.options.Header.{Header}
+use Rattle.gix_ref_packed_text.specs.RecordGrammar.{is_caret}
+use Rattle.gix_ref_packed_text.specs.OpenedText.{PackedText, is_hash}
 
 -- the text begins with LF
 abbrev pub begins_lf : List ℕ → Bool

@@ -3,16 +3,16 @@ use Rattle.std.specs.Prelude.{◌≡◌, ◌≢◌, ℕ, List, [], Contains, fal
 use Rattle.std.specs.Option.{option_map}
 use Rattle.gix_ref_hash.specs.declared.hash.Kind.{Kind}
 use Rattle.gix_ref_name.specs.Names.{full_ref_bytes}
-use Rattle.gix_ref_records.specs.declared.packed.reference.Reference.{Reference}
+use Rattle.gix_ref_packed_text.specs.declared.packed.reference.Reference.{Reference}
 use Rattle.gix_ref_packed.specs.declared.packed.find.Error.{Error}
 use Rattle.gix_ref_packed.specs.declared.packed.find.Error.TheVariants.{RefnameValidation, Parse, Memory}
 use Rattle.gix_ref_packed.specs.declared.packed.find.ParseError.{ParseError}
 use Rattle.gix_ref_packed.specs.declared.packed.find.existing.Error.{Error as ExistingError}
 use Rattle.gix_ref_packed.specs.declared.packed.find.existing.Error.TheVariants.{Find, NotFound}
-use Rattle.gix_ref_base.specs.PackedRecords.{Record, record_named}
-use Rattle.gix_ref_records.specs.RecordGrammar.{Records, Forms, Ascending}
-use Rattle.gix_ref_records.specs.Positions.{RecordBeginsLine, IsNotMalformed, CannotRead, IsUnreadable}
-use Rattle.gix_ref_records.specs.Views.{record_of}
+use Rattle.gix_ref_target.specs.PackedRecords.{Record, record_named}
+use Rattle.gix_ref_packed_text.specs.RecordGrammar.{Records, Forms, Ascending}
+use Rattle.gix_ref_packed_text.specs.Positions.{RecordBeginsLine, IsNotMalformed, CannotRead, IsUnreadable}
+use Rattle.gix_ref_packed_text.specs.Views.{record_of}
 use Rattle.gix_ref_packed.specs.AskedNames.{asked_keys, first_named}
 use Rattle.gix_ref_name.specs.Candidates.{is_rooted}
 

@@ -2,15 +2,15 @@
 use Rattle.std.specs.Prelude.{◌≡◌, ◌≢◌, ◌⊎◌, ℕ, nat_eq, true, List, [], ◌∷◌, Option, Some, None, Result, Ok, Err}
 use Rattle.std.specs.List.{take_while, starts_with, Contains}
 use Rattle.gix_ref_hash.specs.declared.hash.Kind.{Kind}
-use Rattle.gix_ref_records.specs.declared.packed.reference.Reference.{Reference}
+use Rattle.gix_ref_packed_text.specs.declared.packed.reference.Reference.{Reference}
 use Rattle.gix_ref_packed.specs.declared.packed.iter.Iter.{Iter}
 use Rattle.gix_ref_packed.specs.declared.packed.iter.error.Error.{Error}
 use Rattle.gix_ref_packed.specs.declared.packed.iter.error.Error.TheVariants.{Header as bad_header, Reference as bad_line}
-use Rattle.gix_ref_base.specs.PackedRecords.{Record}
-use Rattle.gix_ref_records.specs.RecordGrammar.{NoRecord, Records, Below}
-use Rattle.gix_ref_records.specs.Prefixes.{RecordAt, NamesAscend}
+use Rattle.gix_ref_target.specs.PackedRecords.{Record}
+use Rattle.gix_ref_packed_text.specs.RecordGrammar.{NoRecord, Records, Below}
+use Rattle.gix_ref_packed_text.specs.Prefixes.{RecordAt, NamesAscend}
 use Rattle.gix_ref_packed.specs.Items.{ItemStep, has_prefix, unread}
-use Rattle.gix_ref_records.specs.Views.{record_of}
+use Rattle.gix_ref_packed_text.specs.Views.{record_of}
 
 -- the records up to the first other name, where only some names are asked for
 abbrev pub asked_records : Option (List ℕ) → List Record → List Record

@@ -1,12 +1,12 @@
 //! The order and the equality of references, each stated by a short caller: what `==` and `cmp` return.
 ghost use Rattle.std.specs.Prelude.{◌≡◌, ◌↔◌, IsTrue};
-ghost use Rattle.gix_ref_records.specs.Orders.{SameReference, reference_cmp};
-ghost use Rattle.gix_ref_records.specs.Views.{record_of};
+ghost use Rattle.gix_ref_packed_text.specs.Orders.{SameReference, reference_cmp};
+ghost use Rattle.gix_ref_packed_text.specs.Views.{record_of};
 
 use crate::packed;
 use crate::packed::Found;
-use gix_ref_records::packed::decode::Header;
-use gix_ref_records::raw::Reference;
+use gix_ref_packed_text::packed::decode::Header;
+use gix_ref_packed_text::raw::Reference;
 use std::cmp::Ordering;
 
 /// References are equal where name, target and peeled id are.

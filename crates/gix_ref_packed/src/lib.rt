@@ -4,4 +4,4 @@
 pub mod laws;
 pub mod packed;
 
-pub use gix_ref_records::raw;
+pub use gix_ref_packed_text::raw;

@@ -12,6 +12,6 @@ pub mod sorted_file;
 mod sorting;
 
 pub use buffer::Buffer;
-pub use gix_ref_records::packed::window::Found;
-pub use gix_ref_records::packed::{Probes, Reference, search, searchable, written};
+pub use gix_ref_packed_text::packed::window::Found;
+pub use gix_ref_packed_text::packed::{Probes, Reference, search, searchable, written};
 pub use iter::Iter;

@@ -1,4 +1,4 @@
-//! Tests of packed references and of references as values: worked cases, and what no contract says.
+//! Tests of packed references, of rewrites of `packed-refs` and of references as values: worked cases, and what no contract says.
 #![tactic(auto)]
 
 #[cfg(test)]
@@ -19,3 +19,5 @@ mod prefixes;
 mod probes;
 #[cfg(test)]
 mod raw;
+#[cfg(test)]
+mod rows;

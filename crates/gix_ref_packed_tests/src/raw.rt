@@ -1,8 +1,8 @@
 //! References as values: made of a record, copied, and inside of a namespace.
 use crate::made::{NAMES, TEXT, buffer, full, id, partial};
-use gix_ref_base::target::{Kind, Target};
 use gix_ref_name::namespace::expand;
 use gix_ref_packed::raw::Reference;
+use gix_ref_target::target::{Kind, Target};
 use std::alloc::Global;
 use std::process::Abort;
 

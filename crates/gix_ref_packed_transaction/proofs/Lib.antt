@@ -1,3 +1,8 @@
+pub mod ChangeLemmas
+pub mod EditChanges
+pub mod KeyLemmas
 pub mod LockSteps
 pub mod Losses
+pub mod Opening
 pub mod RecordChanges
+pub mod RepackLemmas

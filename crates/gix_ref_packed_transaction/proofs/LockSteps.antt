@@ -7,15 +7,15 @@ use Rattle.gix_ref_files.specs.Lock.{lock_of}
 use Rattle.gix_ref_files.specs.Tree.{Tree, Path, Content, put, moved, is_file, is_folder}
 use Rattle.gix_ref_files.specs.Tree.Content.{File}
 use Rattle.gix_ref_files.proofs.Puts.{put_at, put_other, moved_to, moved_other}
-use Rattle.gix_ref_base.specs.PackedRecords.{Record}
+use Rattle.gix_ref_target.specs.PackedRecords.{Record}
 use Rattle.gix_ref_hash.specs.declared.hash.Kind.{Kind}
 use Rattle.gix_ref_packed.specs.Buffers.{buffer_text, HoldsRecords}
 use Rattle.gix_ref_packed.specs.declared.packed.buffer.Buffer.{Buffer}
-use Rattle.gix_ref_repack.specs.Changes.{ChangeValue, IsChanged}
-use Rattle.gix_ref_repack.specs.declared.error.Error.{Error}
-use Rattle.gix_ref_repack.specs.declared.error.Error.TheVariants.{Commit, Iteration, Io, Memory}
-use Rattle.gix_ref_rewrite.specs.declared.outcome.Rewrite.{Rewrite}
-use Rattle.gix_ref_rewrite.specs.declared.outcome.Rewrite.TheVariants.{Unchanged, Removed, Text}
+use Rattle.gix_ref_packed_transaction.specs.Changes.{ChangeValue, IsChanged}
+use Rattle.gix_ref_packed_transaction.specs.declared.error.Error.{Error}
+use Rattle.gix_ref_packed_transaction.specs.declared.error.Error.TheVariants.{Commit, Iteration, Io, Memory}
+use Rattle.gix_ref_packed_text.specs.declared.outcome.Rewrite.{Rewrite}
+use Rattle.gix_ref_packed_text.specs.declared.outcome.Rewrite.TheVariants.{Unchanged, Removed, Text}
 use Rattle.gix_ref_transaction.specs.PrepareSteps.{FillsLock}
 use Rattle.gix_ref_packed_transaction.specs.PackedTransactions.{AreDistinct, IsMadeOf, IsOldOrRewritten, IsRewritten, IsUnbegun, OnlyAt, OnlyLockChanges, OnlyLockGoes, HoldsRewrite, IsBeforeOrRewritten, SaysWhyPacked}
 use Rattle.gix_ref_packed_transaction.specs.internal.LockSteps.{IsUnlocked, IsWhyNotPut}

@@ -16,11 +16,11 @@ use Rattle.gix_ref_files.proofs.Entries.{entry_synced, nothing_remains, synced_m
 use Rattle.gix_ref_files.proofs.Settling.{folder_now, holds_fewer, holds_weaker, lost_holds, stands_settled, stays_fewer}
 use Rattle.gix_ref_hash.specs.declared.hash.Kind.{Kind}
 use Rattle.gix_ref_packed.specs.declared.packed.buffer.Buffer.{Buffer}
-use Rattle.gix_ref_rewrite.specs.declared.outcome.Rewrite.{Rewrite}
-use Rattle.gix_ref_rewrite.specs.declared.outcome.Rewrite.TheVariants.{Unchanged, Removed, Text}
+use Rattle.gix_ref_packed_text.specs.declared.outcome.Rewrite.{Rewrite}
+use Rattle.gix_ref_packed_text.specs.declared.outcome.Rewrite.TheVariants.{Unchanged, Removed, Text}
 use Rattle.gix_ref_transaction.specs.PrepareSteps.{FillingOn}
 use Rattle.gix_ref_packed_transaction.specs.PackedTransactions.{IsMadeOf}
-use Rattle.gix_ref_repack.specs.Changes.{ChangeValue}
+use Rattle.gix_ref_packed_transaction.specs.Changes.{ChangeValue}
 use Rattle.gix_ref_packed_transaction.specs.PackedLosses.{BecomesFile, IsLostOf, IsReadyOn, OnlyLockIsLost, SettlesPackedRefs, folders_at}
 use Rattle.gix_ref_packed_transaction.specs.internal.Keeping.{IsMoved, KeepsSettled}
 use Rattle.gix_ref_packed_transaction.proofs.LockSteps.{lock_elsewhere}

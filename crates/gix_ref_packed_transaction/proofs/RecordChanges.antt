@@ -6,15 +6,15 @@ use Rattle.std.proofs.lemmas.List.Elements.{All-append, All-cons, All-head, All-
 use Rattle.gix_ref_hash.specs.Ids.{id_kind}
 use Rattle.gix_ref_hash.specs.declared.hash.Kind.{Kind}
 use Rattle.gix_ref_hash.specs.declared.hash.ObjectId.{ObjectId}
-use Rattle.gix_ref_grammar.specs.NameGrammar.{IsFullName}
+use Rattle.gix_ref_name.specs.NameGrammar.{IsFullName}
 use Rattle.gix_ref_object.specs.Objects.{Stored}
 use Rattle.gix_ref_theory.specs.Edits.{is_same_id}
 use Rattle.gix_ref_edits.specs.RefEdits.{name_of}
 use Rattle.gix_ref_edits.specs.declared.transaction.RefEdit.{RefEdit}
-use Rattle.gix_ref_rewrite.specs.Laws.{IsIdOf}
-use Rattle.gix_ref_rewrite.specs.Rewrites.{IsReadableIfAny}
-use Rattle.gix_ref_rewrite.proofs.OutcomeLemmas.{new_readable}
-use Rattle.gix_ref_repack.specs.Changes.{AreReadable, ChangeValue, record_left}
+use Rattle.gix_ref_packed_text.specs.Laws.{IsIdOf}
+use Rattle.gix_ref_packed_text.specs.Rewrites.{IsReadableIfAny}
+use Rattle.gix_ref_packed_text.proofs.OutcomeLemmas.{new_readable}
+use Rattle.gix_ref_packed_transaction.specs.Changes.{AreReadable, ChangeValue, record_left}
 use Rattle.gix_ref_transaction.specs.Causes.{deletes_reference}
 use Rattle.gix_ref_transaction.specs.Peels.{CanPeel, HasEnd, IfObject, IsPeeledOfKind}
 use Rattle.gix_ref_transaction.proofs.Firsts.{seen_of}

@@ -6,9 +6,9 @@ use Rattle.gix_ref_files.specs.Lock.{lock_of}
 use Rattle.gix_ref_files.specs.Settled.{AllStay, IsSettledAt, IsWholeAt}
 use Rattle.gix_ref_files.specs.Tree.{Tree, Path, file_of, fronts}
 use Rattle.gix_ref_packed.specs.declared.packed.buffer.Buffer.{Buffer}
-use Rattle.gix_ref_repack.specs.Changes.{ChangeValue}
-use Rattle.gix_ref_rewrite.specs.declared.outcome.Rewrite.{Rewrite}
-use Rattle.gix_ref_rewrite.specs.declared.outcome.Rewrite.TheVariants.{Unchanged, Removed, Text}
+use Rattle.gix_ref_packed_transaction.specs.Changes.{ChangeValue}
+use Rattle.gix_ref_packed_text.specs.declared.outcome.Rewrite.{Rewrite}
+use Rattle.gix_ref_packed_text.specs.declared.outcome.Rewrite.TheVariants.{Unchanged, Removed, Text}
 use Rattle.gix_ref_packed_transaction.specs.PackedTransactions.{IsMadeOf}
 
 -- the file as the rewrite makes it: its bytes, or none

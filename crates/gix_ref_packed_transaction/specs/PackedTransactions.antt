@@ -4,7 +4,7 @@ use Rattle.std.specs.Cmp.Lexicographic.{slice_cmp}
 use Rattle.std.specs.List.Sorted.{IsStrictlySortedBy}
 use Rattle.std.specs.Ordering.{nat_cmp}
 use Rattle.gix_ref_hash.specs.declared.hash.Kind.{Kind}
-use Rattle.gix_ref_base.specs.PackedRecords.{Record}
+use Rattle.gix_ref_target.specs.PackedRecords.{Record}
 use Rattle.gix_ref_files.specs.Files.{FaultCounts, IsMet}
 use Rattle.gix_ref_files.specs.Lock.{lock_of}
 use Rattle.gix_ref_files.specs.Tree.{Tree, Path, Content, is_file, is_folder}
@@ -12,12 +12,12 @@ use Rattle.gix_ref_files.specs.Tree.Content.{File}
 use Rattle.gix_ref_files.specs.declared.files.FileError.TheVariants.{Memory as no_memory}
 use Rattle.gix_ref_packed.specs.Buffers.{buffer_text, buffer_line, HoldsRecords}
 use Rattle.gix_ref_packed.specs.declared.packed.buffer.Buffer.{Buffer}
-use Rattle.gix_ref_rewrite.specs.declared.outcome.Rewrite.{Rewrite}
-use Rattle.gix_ref_rewrite.specs.declared.outcome.Rewrite.TheVariants.{Unchanged, Removed, Text}
-use Rattle.gix_ref_repack.specs.Changes.{ChangeValue, IsChanged, change_values, keys_in}
-use Rattle.gix_ref_repack.specs.Refusals.{IsReadText, IsStuckIn}
-use Rattle.gix_ref_repack.specs.declared.error.Error.{Error}
-use Rattle.gix_ref_repack.specs.declared.error.Error.TheVariants.{Commit, Iteration, Io, Memory}
+use Rattle.gix_ref_packed_text.specs.declared.outcome.Rewrite.{Rewrite}
+use Rattle.gix_ref_packed_text.specs.declared.outcome.Rewrite.TheVariants.{Unchanged, Removed, Text}
+use Rattle.gix_ref_packed_transaction.specs.Changes.{ChangeValue, IsChanged, change_values, keys_in}
+use Rattle.gix_ref_packed_transaction.specs.Refusals.{IsReadText, IsStuckIn}
+use Rattle.gix_ref_packed_transaction.specs.declared.error.Error.{Error}
+use Rattle.gix_ref_packed_transaction.specs.declared.error.Error.TheVariants.{Commit, Iteration, Io, Memory}
 use Rattle.gix_ref_packed_transaction.specs.declared.transaction.Transaction.{Transaction}
 
 -- the records that it was made with, as they are in the file; none where there was no file

@@ -6,15 +6,15 @@ use Rattle.std.specs.Ordering.{nat_cmp}
 use Rattle.gix_ref_hash.specs.Ids.{id_kind}
 use Rattle.gix_ref_hash.specs.declared.hash.Kind.{Kind}
 use Rattle.gix_ref_hash.specs.declared.hash.ObjectId.{ObjectId}
-use Rattle.gix_ref_base.specs.Targets.{target_value}
+use Rattle.gix_ref_target.specs.Targets.{target_value}
 use Rattle.gix_ref_object.specs.Objects.{Stored}
 use Rattle.gix_ref_object.specs.Peeling.{peel}
 use Rattle.gix_ref_edits.specs.RefEdits.{name_of, is_of_reference}
 use Rattle.gix_ref_edits.specs.declared.transaction.Change.{Change}
 use Rattle.gix_ref_edits.specs.declared.transaction.Change.TheVariants.{Update, Delete}
 use Rattle.gix_ref_edits.specs.declared.transaction.RefEdit.{RefEdit}
-use Rattle.gix_ref_rewrite.specs.Laws.{IsIdOf}
-use Rattle.gix_ref_repack.specs.Changes.{ChangeValue, keys_in}
+use Rattle.gix_ref_packed_text.specs.Laws.{IsIdOf}
+use Rattle.gix_ref_packed_transaction.specs.Changes.{ChangeValue, keys_in}
 use Rattle.gix_ref_transaction.specs.Causes.{deletes_reference}
 use Rattle.gix_ref_transaction.specs.First.{FirstFault}
 use Rattle.gix_ref_transaction.specs.Packing.{new_object}

@@ -1,2 +1,3 @@
-pub mod LockSteps
+pub mod ChangedKeys
 pub mod Keeping
+pub mod LockSteps

@@ -2,9 +2,9 @@
 //! as they are written. As gix-ref's `packed::Transaction`.
 ghost use Rattle.std.specs.Prelude.{◌≡◌, ◌≤◌, ◌⊎◌, [], Some, None, false, Option, OnOk, OnErr, IfErr, MatchOption};
 ghost use Rattle.std.specs.List.{All};
-ghost use Rattle.gix_ref_grammar.specs.NameGrammar.{IsFullName};
+ghost use Rattle.gix_ref_name.specs.NameGrammar.{IsFullName};
 ghost use Rattle.gix_ref_edits.specs.RefEdits.{name_of};
-ghost use Rattle.gix_ref_repack.specs.Changes.{AreReadable};
+ghost use Rattle.gix_ref_packed_transaction.specs.Changes.{AreReadable};
 ghost use Rattle.gix_ref_files.specs.DiskCalls.{RemovingFileOn};
 ghost use Rattle.gix_ref_files.specs.Files.{AtEveryStop, Loses, OnEveryDisk, HasRisen, disk_of, NoFewer};
 ghost use Rattle.gix_ref_files.specs.Lock.{lock_of};
@@ -15,6 +15,7 @@ mod changes;
 pub mod commit;
 pub mod prepare;
 
+use crate::changes::KeyChange;
 use crate::transaction::changes::sorted_changes;
 use crate::transaction::commit::{put_rewrite, rewritten};
 use gix_ref_edits::transaction::RefEdit;
@@ -23,7 +24,6 @@ use gix_ref_files::lock::{Lock, LockFile};
 use gix_ref_hash::hash::Kind;
 use gix_ref_object::object::Find;
 use gix_ref_packed::packed::Buffer;
-use gix_ref_repack::changes::KeyChange;
 use std::alloc::Global;
 use std::fmt;
 use thiserror::Error;

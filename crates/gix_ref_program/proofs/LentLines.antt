@@ -9,7 +9,7 @@ use Rattle.gix_ref_hash.specs.declared.hash.ObjectId.{ObjectId}
 use Rattle.gix_ref_name.specs.Names.{full_ref_bytes}
 use Rattle.gix_ref_name.specs.declared.name.FullName.{FullName}
 use Rattle.gix_ref_name.specs.declared.name.FullNameRef.{FullNameRef}
-use Rattle.gix_ref_base.specs.declared.target.Target.TheVariants.{Object}
+use Rattle.gix_ref_target.specs.declared.target.Target.TheVariants.{Object}
 use Rattle.gix_ref_theory.specs.Readings.{reading_of_id}
 use Rattle.gix_ref_theory.specs.Lookups.{peeled_of}
 use Rattle.gix_ref_lookup.proofs.Answering.{digits_read}

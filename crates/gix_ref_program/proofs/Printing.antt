@@ -3,15 +3,15 @@ use Rattle.std.proofs.Common.{◌≡◌, inl, inr, ℕ, List, [], Bool, true, fa
 use Rattle.std.specs.Prelude.{IfOk, OnOk}
 use Rattle.std.specs.Iterator.Runs.{WholeRun}
 use Rattle.std.specs.Io.KnownBytes.{Appends}
-use Rattle.gix_ref_grammar.specs.NameGrammar.{full_error}
+use Rattle.gix_ref_name.specs.NameGrammar.{full_error}
 use Rattle.gix_ref_files.specs.Files.{Meaning}
 use Rattle.gix_ref_files.specs.Tree.{Content, is_file, bytes_of}
 use Rattle.gix_ref_files.specs.declared.files.ReadAt.{Ghosts}
 use Rattle.gix_ref_log.specs.LogItems.{IsRun, items_from}
 use Rattle.gix_ref_log.specs.LogWindows.{NextStep}
 use Rattle.gix_ref_log.specs.declared.log.iter.backward.Reverse.{Reverse}
-use Rattle.gix_ref_reflog.specs.declared.error.Error.{Error as LogError}
-use Rattle.gix_ref_reflog.specs.declared.error.Error.TheVariants as log_errors
+use Rattle.gix_ref_lookup.specs.declared.reflog.error.Error.{Error as LogError}
+use Rattle.gix_ref_lookup.specs.declared.reflog.error.Error.TheVariants as log_errors
 use Rattle.gix_ref_store.specs.Reflogs.{reflog_at, ReadsBackward, EndsAtErrors, IsNoReverse, IsNoReflog}
 use Rattle.gix_ref_store.specs.declared.file.store.Store.{Store}
 use Rattle.gix_ref_program.specs.LogPrinting.{log_text}

@@ -5,8 +5,8 @@ use Rattle.std.specs.Io.KnownBytes.{Appends}
 use Rattle.std.specs.List.{flat_map}
 use Rattle.gix_ref_files.specs.Files.{Meaning, Leaves, Loses, FaultCounts}
 use Rattle.gix_ref_files.specs.Tree.{Tree}
-use Rattle.gix_ref_sequences.specs.Sequences.{AreDone, AtNext}
-use Rattle.gix_ref_sequences.proofs.Sequences.{done_keeps, done_more, loses_starts, losses_go_on, stops_begin, stops_go_on, within_first}
+use Rattle.gix_ref_theory.specs.Sequences.{AreDone, AtNext}
+use Rattle.gix_ref_theory.proofs.Sequences.{done_keeps, done_more, loses_starts, losses_go_on, stops_begin, stops_go_on, within_first}
 use Rattle.gix_ref_transaction.specs.OwnLocks.{paths_of}
 use Rattle.gix_ref_store.specs.Prepared.{HasGoodRecords, IsAtRest, tree_of}
 use Rattle.gix_ref_store.specs.Store.{files_of}

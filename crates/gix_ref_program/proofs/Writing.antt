@@ -4,7 +4,7 @@ use Rattle.gix_ref_files.specs.Disk.{Lost}
 use Rattle.gix_ref_files.specs.Files.{Meaning, Loses, disk_of}
 use Rattle.gix_ref_files.specs.Tree.{Tree, file_of}
 use Rattle.gix_ref_files.proofs.Settling.{lost_holds}
-use Rattle.gix_ref_sequences.proofs.Sequences.{loses_starts}
+use Rattle.gix_ref_theory.proofs.Sequences.{loses_starts}
 use Rattle.gix_ref_program.specs.Writes.{IsKept}
 
 -- a loss of power leaves each file that was settled

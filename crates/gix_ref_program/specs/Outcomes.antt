@@ -5,25 +5,25 @@ use Rattle.std.specs.declared.alloc.Global.{Global}
 use Rattle.hex.specs.Hex.{encode_lower}
 use Rattle.gix_ref_hash.specs.Ids.{id_bytes}
 use Rattle.gix_ref_name.specs.Names.{full_bytes}
-use Rattle.gix_ref_base.specs.Targets.{TargetValue, target_value}
-use Rattle.gix_ref_base.specs.Targets.TargetValue.{object_id, symbolic_name}
-use Rattle.gix_ref_grammar.specs.declared.name.error.Error as names
-use Rattle.gix_ref_grammar.specs.declared.name.error.Error.TheVariants as name
+use Rattle.gix_ref_target.specs.Targets.{TargetValue, target_value}
+use Rattle.gix_ref_target.specs.Targets.TargetValue.{object_id, symbolic_name}
+use Rattle.gix_ref_name.specs.declared.name.error.Error as names
+use Rattle.gix_ref_name.specs.declared.name.error.Error.TheVariants as name
 use Rattle.gix_ref_transaction.specs.declared.prepare.error.Error as prepares
 use Rattle.gix_ref_transaction.specs.declared.prepare.error.Error.TheVariants as prepare
-use Rattle.gix_ref_lines.specs.declared.create_or_update.Error as lines
-use Rattle.gix_ref_lines.specs.declared.create_or_update.Error.TheVariants as line
+use Rattle.gix_ref_reflog.specs.declared.create_or_update.Error as lines
+use Rattle.gix_ref_reflog.specs.declared.create_or_update.Error.TheVariants as line
 use Rattle.gix_ref_commit.specs.declared.error.Error as commits
 use Rattle.gix_ref_commit.specs.declared.error.Error.TheVariants as commit
 use Rattle.gix_ref_lookup.specs.declared.find.error.Error as finds
 use Rattle.gix_ref_lookup.specs.declared.find.error.Error.TheVariants as find
-use Rattle.gix_ref_records.specs.declared.raw.Reference.{Reference}
+use Rattle.gix_ref_packed_text.specs.declared.raw.Reference.{Reference}
 use Rattle.gix_ref_packed.specs.declared.packed.buffer.open.Error as opens
 use Rattle.gix_ref_packed.specs.declared.packed.buffer.open.Error.TheVariants as opening
 use Rattle.gix_ref_listing.specs.declared.prefix.Error as lists
 use Rattle.gix_ref_listing.specs.declared.prefix.Error.TheVariants as list
-use Rattle.gix_ref_reflog.specs.declared.error.Error as logs
-use Rattle.gix_ref_reflog.specs.declared.error.Error.TheVariants as log
+use Rattle.gix_ref_lookup.specs.declared.reflog.error.Error as logs
+use Rattle.gix_ref_lookup.specs.declared.reflog.error.Error.TheVariants as log
 use Rattle.gix_ref_program.specs.declared.update.UpdateError.TheVariants as error
 use Rattle.gix_ref_program.specs.declared.refusal.Refusal.{Refusal}
 use Rattle.gix_ref_program.specs.declared.refusal.Refusal.TheVariants as refusals

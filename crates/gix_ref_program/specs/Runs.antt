@@ -3,7 +3,7 @@ use Rattle.std.specs.Prelude.{◌≡◌, ◌⊎◌, ℕ, List, [], ◌∷◌, Bo
 use Rattle.gix_ref_files.specs.declared.files.FileError.{FileError}
 use Rattle.std.specs.Io.KnownBytes.{Appends}
 use Rattle.std.specs.List.{AllByRecursion, flat_map}
-use Rattle.gix_ref_grammar.specs.NameGrammar.{full_error, partial_error}
+use Rattle.gix_ref_name.specs.NameGrammar.{full_error, partial_error}
 use Rattle.gix_ref_name.specs.Namespaces.{expanded}
 use Rattle.gix_ref_hash.specs.declared.hash.Kind.{Kind}
 use Rattle.gix_ref_files.specs.Tree.{Tree, is_file}
@@ -13,7 +13,7 @@ use Rattle.gix_ref_lookup.specs.CleanPaths.{is_clean}
 use Rattle.gix_ref_log.specs.Signatures.{Who, signature_ref_who}
 use Rattle.gix_ref_log.specs.declared.actor.SignatureRef.{SignatureRef}
 use Rattle.std.specs.Option.{option_map}
-use Rattle.gix_ref_base.specs.PackedRecords.{Record}
+use Rattle.gix_ref_target.specs.PackedRecords.{Record}
 use Rattle.gix_ref_files.specs.declared.files.ReadAt.{Ghosts}
 use Rattle.gix_ref_lookup.specs.Lookups.{IsSound}
 use Rattle.gix_ref_lookup.specs.declared.settings.Settings.{Settings}
@@ -25,7 +25,7 @@ use Rattle.gix_ref_store.specs.Store.{files_of, folders, kind_of}
 use Rattle.gix_ref_store.specs.Reflogs.{reflog_at, IsNoReflog}
 use Rattle.gix_ref_store.specs.Listings.{prefix_of_all, walked_prefix, AreFirst, IsNoListing, IsWalkedIn}
 use Rattle.gix_ref_packed.specs.OpenFiles.{HasReadFault}
-use Rattle.gix_ref_records.specs.declared.raw.Reference.{Reference}
+use Rattle.gix_ref_packed_text.specs.declared.raw.Reference.{Reference}
 use Rattle.gix_ref_listing.specs.CleanPrefixes.{IsAcceptedPrefix}
 use Rattle.gix_ref_listing.specs.Listings.{Listed as ListedName}
 use Rattle.gix_ref_listing.specs.WholeListings.{IsListing, IsNameOrMet}
@@ -36,8 +36,8 @@ use Rattle.gix_ref_log.specs.LogItems.{EndsAtError}
 use Rattle.gix_ref_log.specs.declared.log.line.Line.{Line as LogLine}
 use Rattle.gix_ref_log.specs.declared.log.iter.error.ReverseError.{ReverseError}
 use Rattle.gix_ref_store.specs.declared.file.store.Store.{Store}
-use Rattle.gix_ref_lines.specs.declared.write_reflog.WriteReflog.TheVariants.{Normal, Disable}
-use Rattle.gix_ref_lines.specs.declared.write_reflog.WriteReflog.{WriteReflog}
+use Rattle.gix_ref_reflog.specs.declared.write_reflog.WriteReflog.TheVariants.{Normal, Disable}
+use Rattle.gix_ref_reflog.specs.declared.write_reflog.WriteReflog.{WriteReflog}
 pub use Rattle.gix_ref_program.specs.AskedEdits.{IsExpected, IsLogChange, IsEditOf, IsUpdateOf, IsDeletionEdit, IsDeletionOf, IsAskedFor, BreaksRule, IsNoName, NoEdit, message_text}
 use Rattle.gix_ref_program.specs.Outcomes.{printed, status_of}
 use Rattle.gix_ref_object.specs.declared.object.Never.{Never}

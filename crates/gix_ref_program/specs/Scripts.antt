@@ -5,7 +5,7 @@ use Rattle.std.specs.Io.KnownBytes.{Appends}
 use Rattle.std.specs.List.{flat_map}
 use Rattle.gix_ref_files.specs.Files.{Meaning, FaultCounts}
 use Rattle.gix_ref_files.specs.Tree.{Path, Tree}
-use Rattle.gix_ref_sequences.specs.Sequences.{AreDone, EndsAtStep, IsWithinSteps}
+use Rattle.gix_ref_theory.specs.Sequences.{AreDone, EndsAtStep, IsWithinSteps}
 use Rattle.gix_ref_store.specs.Prepared.{tree_of}
 use Rattle.gix_ref_store.specs.Store.{files_of}
 use Rattle.gix_ref_store.specs.declared.file.store.Store.{Store}

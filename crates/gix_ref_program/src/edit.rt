@@ -1,19 +1,19 @@
 //! The edits that commands ask for.
 ghost use Rattle.std.specs.Prelude.{◌≡◌, false, None, MatchResult};
 ghost use Rattle.std.specs.Option.{option_map};
-ghost use Rattle.gix_ref_grammar.specs.NameGrammar.{full_error};
+ghost use Rattle.gix_ref_name.specs.NameGrammar.{full_error};
 ghost use Rattle.gix_ref_name.specs.Names.{full_bytes};
-ghost use Rattle.gix_ref_base.specs.Targets.{target_value};
-ghost use Rattle.gix_ref_base.specs.Targets.TargetValue.{object_id, symbolic_name};
+ghost use Rattle.gix_ref_target.specs.Targets.{target_value};
+ghost use Rattle.gix_ref_target.specs.Targets.TargetValue.{object_id, symbolic_name};
 ghost use Rattle.gix_ref_program.specs.AskedEdits.{IsAskedFor, IsDeletionEdit, IsEditOf, IsExpected, IsLogChange, IsNoName, NoEdit};
 ghost use Rattle.gix_ref_program.specs.Words.{IsWrite, Symbolic, command_asked};
 
 use crate::refusal::Refusal;
 use crate::words::Command;
-use gix_ref_base::target::Target;
 use gix_ref_edits::transaction::{Change, LogChange, PreviousValue, RefEdit, RefLog};
 use gix_ref_hash::hash::{Kind, ObjectId};
 use gix_ref_name::name::{FullName, FullNameRef};
+use gix_ref_target::target::Target;
 use std::alloc::Global;
 
 /// What an update with this OLD expects: the null id that there is no reference, another id that the reference has it.

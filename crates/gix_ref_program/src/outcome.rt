@@ -1,12 +1,12 @@
 //! The outcome of a line, and how it is printed.
 ghost use Rattle.std.specs.Prelude.{◌≡◌, ◌++◌, [], IfOk, OnOk};
 ghost use Rattle.std.specs.Io.KnownBytes.{Appends};
-ghost use Rattle.gix_ref_base.specs.Targets.{target_value};
+ghost use Rattle.gix_ref_target.specs.Targets.{target_value};
 ghost use Rattle.gix_ref_program.specs.Outcomes.{lock_lines, shown_target, reference_line, printed, status_of};
 
 use crate::refusal::Refusal;
-use gix_ref_base::target::Target;
 use gix_ref_store::raw::Reference;
+use gix_ref_target::target::Target;
 use std::alloc::{AllocError, Global};
 use std::io;
 use std::io::Write;

@@ -3,9 +3,9 @@ ghost use Rattle.std.specs.Prelude.{◌≡◌};
 ghost use Rattle.gix_ref_program.specs.Outcomes.{name_word, prepare_word, line_word, commit_word, find_word, open_word, list_word, log_word, refusal_word};
 
 use crate::update::UpdateError;
-use gix_ref_lines::create_or_update;
 use gix_ref_name::name;
 use gix_ref_packed::packed::buffer::open;
+use gix_ref_reflog::create_or_update;
 use gix_ref_store::file::transaction::{commit, prepare};
 use gix_ref_store::file::{find, iter, log};
 use thiserror::Error;

@@ -1,1 +1,6 @@
-pub mod LineEquality
+pub mod BlockedPaths
+pub mod Deciding
+pub mod LeafSteps
+pub mod LineSteps
+pub mod LogPaths
+pub mod OwnNames

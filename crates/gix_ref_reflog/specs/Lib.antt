@@ -1,2 +1,5 @@
-pub mod Orders
-pub mod Reflogs
+pub mod AskedEdits
+pub mod DueLines
+pub mod LineCauses
+pub mod MadeLogs
+pub mod internal

@@ -1,28 +1,28 @@
-//! Why a reflog is not read.
-use gix_ref_files::files::FileError;
-use gix_ref_log::log::iter::EmptyBuffer;
-use gix_ref_name::name;
-use std::alloc::AllocError;
+//! Why the log lines of a commit are not decided.
+use crate::create_or_update;
+use std::alloc::{AllocError, AllocFailed};
 use thiserror::Error;
 
-/// The errors of reading the reflog of a name.
-#[derive(Clone, Copy, Debug, PartialEq, Eq, Error)]
+/// Why the log lines of a commit are not decided. Nothing was written.
+#[derive(Debug, Drop, Error)]
 pub enum Error {
-    /// A text is not a valid name: for callers who convert one first. No call here returns this.
-    #[error("the name of a reference is not valid: {0}")]
-    RefnameValidation(name::Error),
-    /// The log could not be read.
-    #[error("the reflog could not be read: {0}")]
-    Io(FileError),
-    /// A component of its path is the name of a Windows device, as `CON`, and the store prohibits these.
-    #[error("a component of the path of the reflog is the name of a Windows device")]
-    DeviceName,
-    /// The buffer for reading it from its end has no room for a byte.
-    #[error("the buffer for reading a reflog from its end is empty")]
-    EmptyBuffer,
-    /// There was no memory for its path or its bytes.
+    /// A line is due that cannot be added. As `CreateOrUpdateRefLog` of gix-ref's `file::transaction::commit::Error`.
+    #[error("{0}")]
+    CreateOrUpdateRefLog(create_or_update::Error),
+    /// A growth of memory was refused.
     #[error("out of memory")]
     Memory,
+}
+
+impl From<create_or_update::Error> for Error {
+    ghost use Rattle.std.specs.Prelude.{◌≡◌};
+    ghost use Rattle.gix_ref_reflog.specs.declared.error.Error.TheVariants.{CreateOrUpdateRefLog};
+
+    ghost from_gives = { λ error e. e ≡ CreateOrUpdateRefLog error };
+
+    fn from(error: create_or_update::Error) -> Error {
+        Error::CreateOrUpdateRefLog(error)
+    }
 }
 
 impl From<AllocError> for Error {
@@ -36,38 +36,14 @@ impl From<AllocError> for Error {
     }
 }
 
-impl From<name::Error> for Error {
+/// Drops the value that found no memory.
+impl<T: Drop> From<AllocFailed<T>> for Error {
     ghost use Rattle.std.specs.Prelude.{◌≡◌};
-    ghost use Rattle.gix_ref_reflog.specs.declared.error.Error.TheVariants.{RefnameValidation};
+    ghost use Rattle.gix_ref_reflog.specs.declared.error.Error.TheVariants.{Memory};
 
-    ghost from_gives = { λ error e. e ≡ RefnameValidation error };
+    ghost from_gives = { λ _ e. e ≡ Memory };
 
-    fn from(error: name::Error) -> Error {
-        Error::RefnameValidation(error)
-    }
-}
-
-impl From<FileError> for Error {
-    ghost use Rattle.std.specs.Prelude.{◌≡◌};
-    ghost use Rattle.gix_ref_reflog.specs.Reflogs.{of_files};
-
-    ghost from_gives = { λ error e. e ≡ of_files error };
-
-    fn from(error: FileError) -> Error {
-        match error {
-            FileError::Memory => Error::Memory,
-            other => Error::Io(other),
-        }
-    }
-}
-
-impl From<EmptyBuffer> for Error {
-    ghost use Rattle.std.specs.Prelude.{◌≡◌};
-    ghost use Rattle.gix_ref_reflog.specs.declared.error.Error.TheVariants.{EmptyBuffer};
-
-    ghost from_gives = { λ _ e. e ≡ EmptyBuffer };
-
-    fn from(_error: EmptyBuffer) -> Error {
-        Error::EmptyBuffer
+    fn from(_error: AllocFailed<T>) -> Error {
+        Error::Memory
     }
 }

@@ -1,8 +1,15 @@
-//! The reflogs of a store: whether a name has one, and its bytes (`git reflog`); the orders of lines and signatures.
+//! The log lines of a commit of references, which are decided before the commit writes anything (`git reflog`).
 #![tactic(auto)]
 
-mod error;
+pub mod create_or_update;
+pub mod decide;
+pub mod error;
+pub mod ids;
 pub mod laws;
-pub mod reflog;
-
-pub use error::Error;
+mod leaves;
+mod line;
+pub mod logs;
+mod names;
+mod place;
+mod rules;
+pub mod write_reflog;

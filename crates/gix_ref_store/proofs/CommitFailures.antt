@@ -13,7 +13,7 @@ use Rattle.gix_ref_files.specs.declared.steps.Cause.{Cause}
 use Rattle.gix_ref_files.specs.declared.steps.Cause.TheVariants.{File as Fault, Sync, Unexpected, Asked}
 use Rattle.gix_ref_files.proofs.Puts.{put_other}
 use Rattle.gix_ref_lookup.specs.declared.folders.Dirs.{Dirs}
-use Rattle.gix_ref_rewrite.specs.declared.outcome.Rewrite.{Rewrite}
+use Rattle.gix_ref_packed_text.specs.declared.outcome.Rewrite.{Rewrite}
 use Rattle.gix_ref_edits.specs.declared.transaction.RefEdit.{RefEdit}
 use Rattle.gix_ref_transaction.specs.CommitRenames.{SeeLogs, log_at, path_in, place_at}
 use Rattle.gix_ref_transaction.specs.CarriedEdits.{change_of}
@@ -24,28 +24,28 @@ use Rattle.gix_ref_files.specs.Disk.{folder_of}
 use Rattle.gix_ref_theory.specs.Edits as plan
 use Rattle.gix_ref_theory.specs.Readings as readings
 use Rattle.gix_ref_log.specs.declared.actor.SignatureRef.{SignatureRef}
-use Rattle.gix_ref_lines.specs.AskedEdits.{all_but_logs, asked, but_log, outcomes_of}
-use Rattle.gix_ref_lines.specs.DueLines.{log_outcomes}
-use Rattle.gix_ref_lines.specs.LineCauses.{IsCountedError}
-use Rattle.gix_ref_lines.specs.declared.create_or_update.Error.{Error as LogError}
-use Rattle.gix_ref_lines.specs.declared.create_or_update.Error.TheVariants.{CreateLeadingDirectories, Append, MessageWithNewlines, MissingCommitter, SignatureUnwritable}
+use Rattle.gix_ref_reflog.specs.AskedEdits.{all_but_logs, asked, but_log, outcomes_of}
+use Rattle.gix_ref_reflog.specs.DueLines.{log_outcomes}
+use Rattle.gix_ref_reflog.specs.LineCauses.{IsCountedError}
+use Rattle.gix_ref_reflog.specs.declared.create_or_update.Error.{Error as LogError}
+use Rattle.gix_ref_reflog.specs.declared.create_or_update.Error.TheVariants.{CreateLeadingDirectories, Append, MessageWithNewlines, MissingCommitter, SignatureUnwritable}
 use Rattle.gix_ref_transaction.specs.OwnLocks.{is_in, RemovesLocks}
 use Rattle.gix_ref_transaction.specs.PrepareSteps.{held_locks, lock_paths, packed_places, updates, IsPackedPlace}
 use Rattle.gix_ref_transaction.specs.declared.edit.Edit.{Edit}
 use Rattle.gix_ref_transaction.proofs.Adds.{any_cases, any_left, any_right, clash, in_here}
-use Rattle.gix_ref_repack.specs.declared.error.Error.{Error as RepackError}
-use Rattle.gix_ref_repack.specs.declared.error.Error.TheVariants as repack
+use Rattle.gix_ref_packed_transaction.specs.declared.error.Error.{Error as RepackError}
+use Rattle.gix_ref_packed_transaction.specs.declared.error.Error.TheVariants as repack
 use Rattle.gix_ref_commit.specs.Cleared.{AllInWay, AreInWay, AreInWayOf, FoldersGo, all_removed, cleared, commit_entries, folder_lists, is_seen, removals, written_at}
 use Rattle.gix_ref_commit.specs.Decided.{FillsPacked, IsFilled}
 use Rattle.gix_ref_commit.specs.Entries.{Entry, bare, done_at, done_before, done_of, planned_entries, IsOfEdit, bare_steps}
-use Rattle.gix_ref_base.specs.PackedRecords.{Record}
+use Rattle.gix_ref_target.specs.PackedRecords.{Record}
 use Rattle.gix_ref_lookup.specs.Lookups.{ArePackedRecords}
 use Rattle.gix_ref_theory.specs.Between.{AreEdits}
 use Rattle.gix_ref_theory.specs.OnRealTrees.{view_of}
 use Rattle.gix_ref_transaction.specs.Packing.{plan_edits}
 use Rattle.gix_ref_transaction.specs.PackedCauses.{ids_among}
-use Rattle.gix_ref_repack.specs.Refusals.{IsCountedRefusal, IsRepackFault, IsRefusedRewrite}
-use Rattle.gix_ref_repack.specs.Repacks.{IsRepack}
+use Rattle.gix_ref_packed_transaction.specs.Refusals.{IsCountedRefusal, IsRepackFault, IsRefusedRewrite}
+use Rattle.gix_ref_packed_transaction.specs.Repacks.{IsRepack}
 use Rattle.gix_ref_commit.specs.Failures.{AllOfEdits, IsNameAt, IsOfListing, SaysFault, SaysFile, SaysInWay, SaysLogFault, SaysWhy, of_repack}
 use Rattle.gix_ref_commit.specs.LogEffects.{AreLogsOf, IsLogOf}
 use Rattle.gix_ref_commit.specs.Unfinished.{EndsAtStep, EndsIn, IsRaised}

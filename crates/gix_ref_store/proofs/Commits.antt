@@ -3,8 +3,8 @@ use Rattle.std.proofs.Common.{◌≡◌, ◌≢◌, inl, inr, ⊎_elim, ◌⊎�
 use Rattle.std.specs.Prelude.{nat_eq, bytes_eq, if◌then◌else◌, nat_lt}
 use Rattle.std.proofs.lemmas.Bool.{eqb-true, eqb-false, ltb-true}
 use Rattle.gix_ref_hash.specs.declared.hash.Kind.{Kind}
-use Rattle.gix_ref_base.specs.Layout.{Layout}
-use Rattle.gix_ref_base.specs.PackedRecords.{Record}
+use Rattle.gix_ref_target.specs.Layout.{Layout}
+use Rattle.gix_ref_target.specs.PackedRecords.{Record}
 use Rattle.gix_ref_files.specs.Disk.{Disk, Lost}
 use Rattle.gix_ref_files.specs.DiskSteps.{IsReachedBy, IsSyncedAfter}
 use Rattle.gix_ref_files.specs.Files.{Meaning, disk_of, Leaves, Passes, FaultCounts}
@@ -23,8 +23,8 @@ use Rattle.gix_ref_lookup.specs.Lookups.{ArePackedRecords}
 use Rattle.gix_ref_lookup.specs.declared.folders.Dirs.{Dirs}
 use Rattle.gix_ref_lookup.proofs.Laying.{folders_laid}
 use Rattle.gix_ref_name.specs.declared.namespace.Namespace.{Namespace}
-use Rattle.gix_ref_rewrite.specs.declared.outcome.Rewrite.{Rewrite}
-use Rattle.gix_ref_rewrite.specs.declared.outcome.Rewrite.TheVariants.{Unchanged, Removed, Text}
+use Rattle.gix_ref_packed_text.specs.declared.outcome.Rewrite.{Rewrite}
+use Rattle.gix_ref_packed_text.specs.declared.outcome.Rewrite.TheVariants.{Unchanged, Removed, Text}
 use Rattle.gix_ref_theory.specs.Between.{AreEdits}
 use Rattle.gix_ref_theory.specs.ConcreteStore.{store_of}
 use Rattle.gix_ref_theory.specs.Edits as plan
@@ -57,14 +57,14 @@ use Rattle.gix_ref_transaction.proofs.PackedLemmas.{records_are}
 use Rattle.gix_ref_transaction.proofs.PackedLocks.{taken_was_free}
 use Rattle.gix_ref_transaction.proofs.Removing.{times_append, locks_by_places}
 use Rattle.gix_ref_transaction.proofs.Renames.{lock_found}
-use Rattle.gix_ref_repack.specs.Repacks.{AllCanBePut, IsRepack}
+use Rattle.gix_ref_packed_transaction.specs.Repacks.{AllCanBePut, IsRepack}
 use Rattle.gix_ref_commit.specs.Cleared.{AllInWay, FoldersGo, LosesNoMore, OnlyFolders, commit_entries, folder_lists, roots_of}
 use Rattle.gix_ref_commit.specs.CommittedTrees.{AreCommitted, IsOldOrNew}
 use Rattle.gix_ref_commit.specs.Decided.{FillsPacked, IsFilled}
 use Rattle.gix_ref_commit.specs.Entries.{Entry, bare, bare_steps, done_before, done_of, packed_before, packed_done, planned_entries, renames_packed, steps_in}
 use Rattle.gix_ref_commit.specs.LogEffects.{AreLogsOf, Extra, but_lines, extras_in, with_ends, with_extras}
-use Rattle.gix_ref_lines.specs.AskedEdits.{all_but_logs, asked, outcomes_of}
-use Rattle.gix_ref_lines.specs.DueLines.{log_outcomes}
+use Rattle.gix_ref_reflog.specs.AskedEdits.{all_but_logs, asked, outcomes_of}
+use Rattle.gix_ref_reflog.specs.DueLines.{log_outcomes}
 use Rattle.gix_ref_log.specs.declared.actor.SignatureRef.{SignatureRef}
 use Rattle.gix_ref_commit.specs.Unfinished.{EndsAtStep, EndsIn}
 use Rattle.gix_ref_commit.specs.declared.folders.InWay.{InWay}

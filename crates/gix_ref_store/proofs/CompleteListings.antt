@@ -4,7 +4,7 @@ use Rattle.std.specs.Iterator.{Yields}
 use Rattle.std.specs.List.{AllByRecursion, Contains}
 use Rattle.gix_ref_files.specs.Files.{Meaning, FaultCounts}
 use Rattle.gix_ref_name.specs.Names.{full_bytes}
-use Rattle.gix_ref_records.specs.declared.raw.Reference.{Reference}
+use Rattle.gix_ref_packed_text.specs.declared.raw.Reference.{Reference}
 use Rattle.gix_ref_lookup.specs.Lookups.{Among, IsOpenedText, meaning_in, packed_refs_in}
 use Rattle.gix_ref_lookup.specs.declared.settings.Settings.{Settings}
 use denote.Ref.{Bor}
@@ -13,7 +13,7 @@ use Rattle.std.specs.Prelude.{IfOk}
 use Rattle.gix_ref_hash.specs.declared.hash.Kind.{Kind}
 use Rattle.gix_ref_files.specs.Tree.{Tree}
 use Rattle.gix_ref_theory.specs.OnRealTrees.{view_of}
-use Rattle.gix_ref_records.specs.Prefixes.{NamesAscend}
+use Rattle.gix_ref_packed_text.specs.Prefixes.{NamesAscend}
 use Rattle.gix_ref_packed.specs.Buffers.{buffer_kind, buffer_text}
 use Rattle.gix_ref_packed.specs.FilePrefixes.{HoldsAsked}
 use Rattle.gix_ref_packed.specs.YetToGive.{IsAsked}

@@ -3,7 +3,7 @@ use Rattle.std.proofs.Common.{List, [], ◌∷◌, Result, Ok, Err}
 use Rattle.gix_ref_files.proofs.Meeting.{no_fewer_starts, no_fewer_joins, met_wider}
 use Rattle.gix_ref_files.specs.Files.{Meaning, FaultCounts, NoFewer}
 use Rattle.gix_ref_theory.specs.Views.{View}
-use Rattle.gix_ref_records.specs.declared.raw.Reference.{Reference}
+use Rattle.gix_ref_packed_text.specs.declared.raw.Reference.{Reference}
 use Rattle.gix_ref_lookup.specs.declared.settings.Settings.{Settings}
 use Rattle.gix_ref_lookup.specs.declared.find.error.ReadError.TheVariants.{File as file_error, DeviceName}
 use Rattle.gix_ref_listing.specs.Items.{IsItem}

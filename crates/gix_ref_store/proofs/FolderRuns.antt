@@ -10,8 +10,8 @@ use Rattle.gix_ref_files.specs.Tree.{Tree, Path, Content, appended, folders_to, 
 use Rattle.gix_ref_files.specs.Tree.Content.{File, Folder}
 use Rattle.gix_ref_files.proofs.Puts.{put_at, put_other}
 use Rattle.gix_ref_lookup.specs.declared.folders.Dirs.{Dirs}
-use Rattle.gix_ref_rewrite.specs.declared.outcome.Rewrite.{Rewrite}
-use Rattle.gix_ref_rewrite.specs.declared.outcome.Rewrite.TheVariants.{Unchanged, Removed, Text}
+use Rattle.gix_ref_packed_text.specs.declared.outcome.Rewrite.{Rewrite}
+use Rattle.gix_ref_packed_text.specs.declared.outcome.Rewrite.TheVariants.{Unchanged, Removed, Text}
 use Rattle.gix_ref_theory.specs.Edits as plan
 use Rattle.gix_ref_theory.specs.Readings as readings
 use Rattle.gix_ref_edits.specs.RefEdits.{name_of}
@@ -24,8 +24,8 @@ use Rattle.gix_ref_transaction.specs.declared.edit.Effect.TheVariants as effects
 use Rattle.gix_ref_transaction.specs.declared.edit.LogEffect.{LogEffect}
 use Rattle.gix_ref_transaction.specs.declared.edit.LogEffect.TheVariants as logs
 use Rattle.gix_ref_transaction.proofs.Adds.{clash, either_way, in_here, is_same_path, same_path}
-use Rattle.gix_ref_lines.specs.AskedEdits.{all_but_logs, but_log, outcome_of, outcomes_of}
-use Rattle.gix_ref_lines.specs.DueLines.{LogOutcome}
+use Rattle.gix_ref_reflog.specs.AskedEdits.{all_but_logs, but_log, outcome_of, outcomes_of}
+use Rattle.gix_ref_reflog.specs.DueLines.{LogOutcome}
 use Rattle.gix_ref_commit.specs.Cleared.{AllInWay, AreInWayOf, FoldersGo, IsAbove, IsAtOrBelow, all_removed, cleared, is_seen, removals, removed_file, removed_log, roots_of, written_at}
 use Rattle.gix_ref_commit.specs.Decided.{FillsPacked}
 use Rattle.gix_ref_commit.proofs.LogFolders.{folders_either}

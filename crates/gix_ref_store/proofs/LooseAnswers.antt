@@ -1,10 +1,10 @@
 -- A loose reference of a result.
 use Rattle.std.proofs.Common.{◌≡◌, Option, Some, None, ◌∙◌, ap, sym}
 use Rattle.gix_ref_name.specs.Names.{full_bytes}
-use Rattle.gix_ref_base.specs.Targets.{target_value}
+use Rattle.gix_ref_target.specs.Targets.{target_value}
 use Rattle.gix_ref_theory.specs.Lookups.{Hit}
 use Rattle.gix_ref_theory.specs.Readings.Reading.{Is}
-use Rattle.gix_ref_records.specs.declared.raw.Reference.{Reference}
+use Rattle.gix_ref_packed_text.specs.declared.raw.Reference.{Reference}
 use Rattle.gix_ref_lookup.specs.Lookups.{ReturnsHit}
 use Rattle.gix_ref_lookup.specs.declared.loose.Reference.{Reference as Loose}
 use Rattle.gix_ref_lookup.specs.declared.find.existing.Error.{Error as Missing}

@@ -3,7 +3,7 @@ use Rattle.gix_ref_transaction.proofs.Faults.{risen_by_before, risen_by_none}
 use Rattle.gix_ref_files.proofs.Meeting.{no_fewer_joins, no_fewer_starts}
 use Rattle.gix_ref_files.specs.declared.files.FileError.{FileError}
 use Rattle.std.proofs.Common.{◌≡◌, ◌⊎◌, inl, inr, ⊎_elim, List, [], true, Option, refl, sym, ◌∙◌, ap, subst, arith, Result, Ok, Err, IfOk, IfErr, length}
-use Rattle.gix_ref_base.specs.Targets.{TargetValue}
+use Rattle.gix_ref_target.specs.Targets.{TargetValue}
 use Rattle.gix_ref_files.specs.Disk.{Disk}
 use Rattle.gix_ref_files.specs.Tree.{Tree, Path}
 use Rattle.gix_ref_files.specs.Files.{Meaning, Leaves, Passes, HasRisenBy, FaultCounts}

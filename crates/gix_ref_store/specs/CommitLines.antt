@@ -9,9 +9,9 @@ use Rattle.gix_ref_log.specs.declared.actor.SignatureRef.{SignatureRef}
 use Rattle.gix_ref_lookup.specs.StoreLayout.{namespace_text}
 use Rattle.gix_ref_theory.specs.OnRealTrees.{view_of}
 use Rattle.gix_ref_transaction.specs.declared.edit.Edit.{Edit}
-use Rattle.gix_ref_lines.specs.AskedEdits.{asked}
-use Rattle.gix_ref_lines.specs.DueLines.{LogRules, due_lines}
-use Rattle.gix_ref_lines.specs.LineCauses.{AllHaveNoCause}
+use Rattle.gix_ref_reflog.specs.AskedEdits.{asked}
+use Rattle.gix_ref_reflog.specs.DueLines.{LogRules, due_lines}
+use Rattle.gix_ref_reflog.specs.LineCauses.{AllHaveNoCause}
 use Rattle.gix_ref_commit.specs.LogEffects.{Extra, with_ends}
 use Rattle.gix_ref_store.specs.Prepared.{tree_of}
 use Rattle.gix_ref_store.specs.Store.{meaning_of}

@@ -1,7 +1,7 @@
 -- What `commit` returns and leaves.
 use Rattle.std.specs.Prelude.{◌≡◌, ◌≢◌, ◌<◌, ◌≤◌, ◌⊎◌, ℕ, List, true, false, Option, Some, None, Result, Ok, Err, length, ◌++◌}
 use Rattle.std.specs.List.{list_any}
-use Rattle.gix_ref_base.specs.PackedRecords.{Record}
+use Rattle.gix_ref_target.specs.PackedRecords.{Record}
 use Rattle.gix_ref_files.specs.Tree.{Tree, Path, is_blocked, is_file, is_folder, IsEmptyFolder}
 use Rattle.gix_ref_files.specs.declared.files.FileError.{FileError}
 use Rattle.gix_ref_files.specs.declared.files.FileError.TheVariants.{Memory as no_memory}
@@ -11,7 +11,7 @@ use Rattle.gix_ref_files.specs.Disk.{Lost, folder_of}
 use Rattle.gix_ref_files.specs.Files.{Meaning, Leaves, Loses, FaultCounts, IsMet}
 use Rattle.gix_ref_lookup.specs.Lookups.{ArePackedRecords}
 use Rattle.gix_ref_lookup.specs.declared.folders.Dirs.{Dirs}
-use Rattle.gix_ref_rewrite.specs.declared.outcome.Rewrite.{Rewrite}
+use Rattle.gix_ref_packed_text.specs.declared.outcome.Rewrite.{Rewrite}
 use Rattle.gix_ref_theory.specs.Between.{AreEdits}
 use Rattle.gix_ref_theory.specs.Edits.{Mode}
 use Rattle.gix_ref_theory.specs.Losses.{IsLostWell}
@@ -24,14 +24,14 @@ use Rattle.gix_ref_transaction.specs.Packing.{HaveTheirPuts, plan_edits}
 use Rattle.gix_ref_transaction.specs.PrepareSteps.{held_locks, ids_in, possible_locks, updates, IsPackedPlace}
 use Rattle.gix_ref_transaction.specs.declared.edit.Edit.{Edit}
 use Rattle.gix_ref_log.specs.declared.actor.SignatureRef.{SignatureRef}
-use Rattle.gix_ref_lines.specs.AskedEdits.{all_but_logs, asked, outcomes_of}
-use Rattle.gix_ref_lines.specs.DueLines.{log_outcomes}
-use Rattle.gix_ref_lines.specs.LineCauses.{FirstFails}
-use Rattle.gix_ref_lines.specs.declared.create_or_update.Error.{Error as LogError}
-use Rattle.gix_ref_lines.specs.declared.create_or_update.Error.TheVariants.{CreateLeadingDirectories, Append}
-use Rattle.gix_ref_repack.specs.Refusals.{IsBadLine, IsReadFile}
-use Rattle.gix_ref_repack.specs.Repacks.{AllCanBePut, IsRepack, alters_record}
-use Rattle.gix_ref_repack.specs.declared.error.Error.TheVariants as repack
+use Rattle.gix_ref_reflog.specs.AskedEdits.{all_but_logs, asked, outcomes_of}
+use Rattle.gix_ref_reflog.specs.DueLines.{log_outcomes}
+use Rattle.gix_ref_reflog.specs.LineCauses.{FirstFails}
+use Rattle.gix_ref_reflog.specs.declared.create_or_update.Error.{Error as LogError}
+use Rattle.gix_ref_reflog.specs.declared.create_or_update.Error.TheVariants.{CreateLeadingDirectories, Append}
+use Rattle.gix_ref_packed_transaction.specs.Refusals.{IsBadLine, IsReadFile}
+use Rattle.gix_ref_packed_transaction.specs.Repacks.{AllCanBePut, IsRepack, alters_record}
+use Rattle.gix_ref_packed_transaction.specs.declared.error.Error.TheVariants as repack
 use Rattle.gix_ref_commit.specs.Cleared.{AllInWay, AreAllFolders, FoldersGo, HasEntries, HoldsMore, all_removed, commit_entries, folder_lists, is_seen, removals}
 use Rattle.gix_ref_commit.specs.CommittedTrees.{AreCommitted, IsOldOrNew}
 use Rattle.gix_ref_commit.specs.Decided.{IsFilled, IsPackedLockEmpty}

@@ -15,9 +15,9 @@ use Rattle.gix_ref_transaction.specs.declared.edit.Edit.{Edit}
 use Rattle.gix_ref_transaction.specs.declared.edit.Effect.{Effect}
 use Rattle.gix_ref_transaction.specs.declared.edit.Effect.TheVariants as effects
 use Rattle.gix_ref_log.specs.declared.actor.SignatureRef.{SignatureRef}
-use Rattle.gix_ref_lines.specs.AskedEdits.{asked}
-use Rattle.gix_ref_lines.specs.DueLines.{LogOutcome, log_outcomes}
-use Rattle.gix_ref_lines.specs.DueLines.LogOutcome.{Stays, Gains, Goes}
+use Rattle.gix_ref_reflog.specs.AskedEdits.{asked}
+use Rattle.gix_ref_reflog.specs.DueLines.{LogOutcome, log_outcomes}
+use Rattle.gix_ref_reflog.specs.DueLines.LogOutcome.{Stays, Gains, Goes}
 use Rattle.gix_ref_theory.specs.OnRealTrees.{view_of}
 use Rattle.gix_ref_commit.specs.Cleared.{IsAbove, IsAtOrBelow, removed_file, roots_of}
 use Rattle.gix_ref_store.specs.CommitLines.{line_rules}

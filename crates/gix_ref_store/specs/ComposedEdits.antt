@@ -1,7 +1,7 @@
 -- Edits whose names are composed (`core.precomposeUnicode` of `git config`).
 use Rattle.std.specs.Prelude.{◌≡◌, ℕ, List, [], ◌∷◌, Bool, true, false, if◌then◌else◌}
 use Rattle.std.specs.Option.{is_none}
-use Rattle.gix_ref_grammar.specs.NameGrammar.{full_error}
+use Rattle.gix_ref_name.specs.NameGrammar.{full_error}
 use Rattle.gix_ref_name.specs.ComposedNames.{composed}
 use Rattle.gix_ref_edits.specs.RefEdits.{name_of}
 use Rattle.gix_ref_edits.specs.declared.transaction.RefEdit.{RefEdit}

@@ -1,7 +1,7 @@
 -- What a commit decides inside of a store of logs, of `packed-refs` and of the folders in its way, or why it could not; and the
 -- locks that it names.
 use Rattle.std.specs.Prelude.{◌≡◌, ◌≢◌, ◌<◌, ℕ, List, Option, None, Result, Ok, Err, length}
-use Rattle.gix_ref_base.specs.PackedRecords.{Record}
+use Rattle.gix_ref_target.specs.PackedRecords.{Record}
 use Rattle.gix_ref_files.specs.Files.{Meaning, FaultCounts}
 use Rattle.gix_ref_lookup.specs.Lookups.{ArePackedRecords}
 use Rattle.gix_ref_theory.specs.Between.{AreEdits}
@@ -11,18 +11,18 @@ use Rattle.gix_ref_transaction.specs.Packing.{plan_edits}
 use Rattle.gix_ref_transaction.specs.PrepareSteps.{updates, AreWholeLocks}
 use Rattle.gix_ref_transaction.specs.declared.edit.Edit.{Edit}
 use Rattle.gix_ref_log.specs.declared.actor.SignatureRef.{SignatureRef}
-use Rattle.gix_ref_lines.specs.AskedEdits.{asked, outcomes_of}
-use Rattle.gix_ref_lines.specs.DueLines.{log_outcomes}
-use Rattle.gix_ref_lines.specs.LineCauses.{FirstFails, IsCountedError}
-use Rattle.gix_ref_repack.specs.Refusals.{IsBadLine}
-use Rattle.gix_ref_repack.specs.declared.error.Error.TheVariants as repack
+use Rattle.gix_ref_reflog.specs.AskedEdits.{asked, outcomes_of}
+use Rattle.gix_ref_reflog.specs.DueLines.{log_outcomes}
+use Rattle.gix_ref_reflog.specs.LineCauses.{FirstFails, IsCountedError}
+use Rattle.gix_ref_packed_transaction.specs.Refusals.{IsBadLine}
+use Rattle.gix_ref_packed_transaction.specs.declared.error.Error.TheVariants as repack
 use Rattle.gix_ref_commit.specs.declared.error.Error.{Error}
 use Rattle.gix_ref_commit.specs.declared.error.Error.TheVariants.{CreateOrUpdateRefLog, LockCommit, PackedTransactionCommit, Memory}
 use Rattle.gix_ref_commit.specs.Cleared.{AllInWay, all_removed, folder_lists}
 use Rattle.gix_ref_commit.specs.Decided.{IsFilled}
 use Rattle.gix_ref_commit.specs.Entries.{planned_entries}
 use Rattle.gix_ref_commit.specs.Failures.{IsNameAt}
-use Rattle.gix_ref_lines.specs.declared.create_or_update.Error.TheVariants.{Append}
+use Rattle.gix_ref_reflog.specs.declared.create_or_update.Error.TheVariants.{Append}
 use Rattle.gix_ref_store.specs.CommitLines.{LinesPass, line_rules, log_path_at}
 use Rattle.gix_ref_store.specs.CommitResult.{IsFaultBetween, IsPackedEmpty, RepacksFrom}
 use Rattle.gix_ref_store.specs.Prepared.{disk_in, tree_of}
@@ -30,7 +30,7 @@ use Rattle.gix_ref_store.specs.Store.{files_of, kind_of, meaning_of}
 use Rattle.gix_ref_store.specs.declared.file.store.Store.{Store}
 use Rattle.gix_ref_store.specs.declared.file.transaction.commit.carry_out.EndedEarly.{EndedEarly}
 use Rattle.gix_ref_store.specs.declared.file.transaction.commit.decide.Decisions.{Decisions}
-use Rattle.gix_ref_rewrite.specs.declared.outcome.Rewrite.{Rewrite}
+use Rattle.gix_ref_packed_text.specs.declared.outcome.Rewrite.{Rewrite}
 use Rattle.gix_ref_files.specs.Tree.{Path}
 use Rattle.gix_ref_transaction.specs.OwnLocks.{paths_of}
 use Rattle.gix_ref_transaction.specs.declared.release.Remains.{Remains}

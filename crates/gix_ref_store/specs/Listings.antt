@@ -5,13 +5,13 @@ use Rattle.std.specs.Iterator.{Yields}
 use Rattle.std.specs.List.{AllByRecursion}
 use Rattle.gix_ref_name.specs.Names.{full_bytes}
 use Rattle.gix_ref_name.specs.declared.namespace.Namespace.{Namespace}
-use Rattle.gix_ref_base.specs.PackedRecords.{Record}
+use Rattle.gix_ref_target.specs.PackedRecords.{Record}
 use Rattle.gix_ref_files.specs.Files.{Meaning, FaultCounts, NoFewer}
 use Rattle.gix_ref_files.specs.declared.files.ReadAt.{Ghosts}
 use Rattle.gix_ref_packed.specs.Buffers.{count_open}
 use Rattle.gix_ref_packed.specs.OpenFiles.{CountsRefusal}
 use Rattle.gix_ref_packed.specs.declared.packed.buffer.Buffer.{Buffer}
-use Rattle.gix_ref_records.specs.declared.raw.Reference.{Reference}
+use Rattle.gix_ref_packed_text.specs.declared.raw.Reference.{Reference}
 use Rattle.gix_ref_listing.specs.CleanPrefixes.{IsRefusedPrefix}
 use Rattle.gix_ref_listing.specs.Items.{IsItem, IsRecordItem}
 use Rattle.gix_ref_listing.specs.Listings.{Listed, merge_left}
@@ -24,7 +24,7 @@ use Rattle.gix_ref_listing.specs.WholeListings.{AreHeldOf, IsListing, IsNameOrMe
 use Rattle.gix_ref_listing.specs.declared.error.Error.{Error}
 use Rattle.gix_ref_listing.specs.declared.list.LooseNames.{LooseNames}
 use Rattle.gix_ref_listing.specs.declared.own_records.OwnRecord.{OwnRecord}
-use Rattle.gix_ref_records.specs.Prefixes.{NamesAscend}
+use Rattle.gix_ref_packed_text.specs.Prefixes.{NamesAscend}
 use Rattle.gix_ref_lookup.specs.Lookups.{Among, IsOpenedText, packed_refs_in}
 use Rattle.gix_ref_lookup.specs.declared.settings.Settings.{Settings}
 use Rattle.gix_ref_theory.specs.Views.{View}

@@ -1,6 +1,6 @@
 -- The options of a store.
 use Rattle.std.specs.Prelude.{false}
-use Rattle.gix_ref_lines.specs.declared.write_reflog.WriteReflog.TheVariants.{Normal}
+use Rattle.gix_ref_reflog.specs.declared.write_reflog.WriteReflog.TheVariants.{Normal}
 use Rattle.gix_ref_store.specs.declared.store.Options.{Options}
 
 -- what `Options::default()` returns

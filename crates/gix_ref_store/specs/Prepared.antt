@@ -1,7 +1,7 @@
 -- What `prepare` returns and leaves.
 use Rattle.std.specs.Prelude.{◌≡◌, ◌≤◌, ◌⊎◌, List, [], true, false, Option, All, map, length}
 use Rattle.gix_ref_files.specs.declared.files.FileError.{FileError}
-use Rattle.gix_ref_base.specs.Targets.{TargetValue}
+use Rattle.gix_ref_target.specs.Targets.{TargetValue}
 use Rattle.gix_ref_hash.specs.declared.hash.ObjectId.{ObjectId}
 use Rattle.gix_ref_object.specs.Objects.{Stored}
 use Rattle.gix_ref_files.specs.Tree.{Tree, Path, is_file}
@@ -22,7 +22,7 @@ use Rattle.gix_ref_transaction.specs.PrepareSteps.{AreEmpty, AreLockable, AreWho
 use Rattle.gix_ref_transaction.specs.CarriedEdits.{AreCarried}
 use Rattle.gix_ref_transaction.specs.Packing.{HaveTheirPuts}
 use Rattle.gix_ref_transaction.specs.Peels.{ArePut, IsLockCause}
-use Rattle.gix_ref_repack.specs.Repacks.{AllCanBePut}
+use Rattle.gix_ref_packed_transaction.specs.Repacks.{AllCanBePut}
 use Rattle.gix_ref_transaction.specs.Parents.{parents_in, split_parents}
 use Rattle.gix_ref_transaction.specs.Splits.{all_rounds, AreDirect, AreSplit, CanFollow, name_led_to, Refuses, values_of}
 use Rattle.gix_ref_edits.specs.DoubledNames.{NoneDoubled}

@@ -12,9 +12,9 @@ use Rattle.gix_ref_log.specs.declared.log.line.Line.{Line}
 use Rattle.gix_ref_log.specs.declared.log.iter.error.ReverseError.{ReverseError}
 use Rattle.gix_ref_log.specs.declared.log.iter.backward.Reverse.{Reverse}
 use Rattle.gix_ref_log.specs.declared.log.iter.forwards.Forward.{Forward}
-use Rattle.gix_ref_reflog.specs.Reflogs as reflogs
-use Rattle.gix_ref_reflog.specs.declared.error.Error.{Error}
-use Rattle.gix_ref_reflog.specs.declared.error.Error.TheVariants.{EmptyBuffer}
+use Rattle.gix_ref_lookup.specs.Reflogs as reflogs
+use Rattle.gix_ref_lookup.specs.declared.reflog.error.Error.{Error}
+use Rattle.gix_ref_lookup.specs.declared.reflog.error.Error.TheVariants.{EmptyBuffer}
 use Rattle.gix_ref_store.specs.Store as stores
 use Rattle.gix_ref_store.specs.Lookup.{settings_of}
 use Rattle.gix_ref_store.specs.declared.file.store.Store.{Store}

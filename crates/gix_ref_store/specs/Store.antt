@@ -3,7 +3,7 @@ use Rattle.std.specs.Prelude.{◌≡◌, true, false, Option, None, Vec, vec_ite
 use Rattle.std.specs.Option.{option_map}
 use Rattle.std.specs.declared.alloc.Global.{Global}
 use Rattle.gix_ref_hash.specs.declared.hash.Kind.{Kind}
-use Rattle.gix_ref_base.specs.Layout.{Layout, AreCompatible}
+use Rattle.gix_ref_target.specs.Layout.{Layout, AreCompatible}
 use Rattle.gix_ref_lookup.specs.CleanPaths.{are_clean, common_of}
 use Rattle.gix_ref_lookup.specs.StoreLayout.{folders_of, git_options}
 use Rattle.gix_ref_theory.specs.Readings as readings

@@ -1,5 +1,5 @@
 //! The options of a store.
-pub use gix_ref_lines::write_reflog::WriteReflog;
+pub use gix_ref_reflog::write_reflog::WriteReflog;
 
 /// The options of a store. As gix-ref's `store::init::Options`.
 #[derive(Clone, Copy, Debug)]

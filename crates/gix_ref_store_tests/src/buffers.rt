@@ -1,4 +1,5 @@
 //! Lookups among loose files alone and among the records of a buffer, and the buffer of `packed-refs`.
+use crate::values::{Id, files, object, partial, store};
 use gix_ref_files::files::FileError;
 use gix_ref_hash::hash::Kind;
 use gix_ref_memory::memory::Memory;
@@ -6,7 +7,6 @@ use gix_ref_packed::packed::Buffer;
 use gix_ref_packed::packed::buffer::open;
 use gix_ref_store::file::Store;
 use gix_ref_store::file::find::existing;
-use gix_ref_test_values::values::{Id, files, object, partial, store};
 use std::alloc::Global;
 use std::io::ErrorKind;
 use std::process::Abort;

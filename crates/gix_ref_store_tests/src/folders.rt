@@ -1,10 +1,10 @@
 //! In which folders there is a store.
+use crate::values::bytes;
 use gix_ref_hash::hash::Kind;
 use gix_ref_memory::memory::Memory;
 use gix_ref_store::file::Store;
 use gix_ref_store::file::store::Error;
 use gix_ref_store::store::{Options, WriteReflog};
-use gix_ref_test_values::values::bytes;
 use std::alloc::Global;
 use std::process::Abort;
 

@@ -13,3 +13,5 @@ mod loose;
 mod slow;
 #[cfg(test)]
 mod slow_listings;
+#[cfg(test)]
+mod values;

@@ -1,9 +1,9 @@
 //! Listings: loose references and those of `packed-refs` by ascending names, and faults in their places.
-use gix_ref_base::target::Target;
+use crate::values::{Id, digits, store};
 use gix_ref_memory::memory::Memory;
 use gix_ref_store::file::iter::{Error, LooseThenPacked, loose_then_packed};
 use gix_ref_store::raw::Reference;
-use gix_ref_test_values::values::{Id, digits, store};
+use gix_ref_target::target::Target;
 use std::alloc::Global;
 use std::process::Abort;
 

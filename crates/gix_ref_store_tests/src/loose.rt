@@ -1,10 +1,10 @@
 //! Loose texts and the targets that they hold.
-use gix_ref_base::target::{Kind as TargetKind, Target};
+use crate::values::full_name;
 use gix_ref_hash::hash::Kind;
 use gix_ref_name::name;
 use gix_ref_store::file::loose::{Error, Reference};
 use gix_ref_store::raw;
-use gix_ref_test_values::values::full_name;
+use gix_ref_target::target::{Kind as TargetKind, Target};
 use std::alloc::{AllocError, Global};
 use std::process::Abort;
 

@@ -1,9 +1,9 @@
 //! Lookups in small stores, each compared with a plain search over the same files.
+use crate::values::{partial, store};
 use gix_ref_hash::hash::ObjectId;
 use gix_ref_memory::memory::Memory;
 use gix_ref_store::file::find::existing;
 use gix_ref_store::raw::Reference;
-use gix_ref_test_values::values::{partial, store};
 use std::alloc::Global;
 use std::process::Abort;
 

@@ -1,10 +1,10 @@
 //! Listings of small stores, each compared with a plain list made by loops over the same files and lines.
 use crate::slow::{digits, has_bit, next, record_of};
+use crate::values::store;
 use gix_ref_hash::hash::ObjectId;
 use gix_ref_memory::memory::Memory;
 use gix_ref_store::file::iter::{LooseThenPacked, Platform, loose_then_packed};
 use gix_ref_store::raw::Reference;
-use gix_ref_test_values::values::store;
 use std::alloc::Global;
 use std::process::Abort;
 

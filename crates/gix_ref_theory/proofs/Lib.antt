@@ -15,10 +15,12 @@ pub mod Reached
 pub mod ReadingLemmas
 pub mod Roots
 pub mod RunLosses
+pub mod Sequences
 pub mod SharedLogs
 pub mod SmallCommit
 pub mod StopLogs
 pub mod Stops
 pub mod Trees
 pub mod Whole
+pub mod WorkedExample
 pub mod Writes

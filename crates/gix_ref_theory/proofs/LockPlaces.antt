@@ -3,9 +3,9 @@ use Rattle.std.proofs.Common.{◌≡◌, ◌≢◌, inl, inr, ℕ, List, [], ◌
 use Rattle.std.proofs.lemmas.Bool.{false≢true, or_right}
 use Rattle.std.proofs.lemmas.List.{append_cancel_right}
 use Rattle.gix_ref_files.specs.Lock.{lock_of}
-use Rattle.gix_ref_base.specs.Layout.{Layout, IsLayout, below, packed_refs}
-use Rattle.gix_ref_base.specs.Locations.{Location}
-use Rattle.gix_ref_base.proofs.LocationLemmas.{head, has_slash, short, has_spot}
+use Rattle.gix_ref_target.specs.Layout.{Layout, IsLayout, below, packed_refs}
+use Rattle.gix_ref_target.specs.Locations.{Location}
+use Rattle.gix_ref_target.proofs.LocationLemmas.{head, has_slash, short, has_spot}
 use Rattle.gix_ref_theory.specs.ConcreteStore.{Options, store_of}
 use Rattle.gix_ref_theory.specs.LockPlaces.{NoLockIsBelowAnother, NoLockIsBelowThatOfPackedRefs}
 use Rattle.gix_ref_theory.proofs.PlaceLaws.{PlaceShape, Plain, Within, Named, IsPlaceShape, IsStart, IsNamespace, IsLaid, IsSpot, Lies, end_of, place_path, place_at, has_place, ends_as, start_below, cancel, cancel_below, cancel_slash, nowhere, laid, known, row_by, spot_is, spot_ends, ends_compare, no_lock_inside}

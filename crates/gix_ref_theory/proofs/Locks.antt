@@ -8,7 +8,7 @@ use Rattle.gix_ref_theory.specs.Between.{AreEdits, InOrder, IsBetween, IsCommitt
 use Rattle.gix_ref_theory.specs.Edits.{Edit, Mode, alters_packed, edited_reading, effect, effect_of_change, file_of_records}
 use Rattle.gix_ref_theory.specs.Edits.Effect.{Keeps}
 use Rattle.gix_ref_theory.specs.Plan.{file_writes, line_writes, log_removals, loose_removals, packed_writes, place_removal, place_writes, plan, writes_of_updates}
-use Rattle.gix_ref_base.specs.PackedRecords.{Record}
+use Rattle.gix_ref_target.specs.PackedRecords.{Record}
 use Rattle.gix_ref_theory.specs.Readings.{HasLaws, Store, reading, records_of_file}
 use Rattle.gix_ref_theory.specs.Views.{IsOwnLock, IsSameButLocks, View}
 use Rattle.gix_ref_files.specs.Lock.{lock_of}

@@ -9,7 +9,7 @@ use Rattle.gix_ref_theory.specs.Edits.{Change, Edit, Effect, Mode, due, effect, 
 use Rattle.gix_ref_theory.specs.Edits.Change.{Delete, Update}
 use Rattle.gix_ref_theory.specs.Edits.Effect.{Keeps, Removes, Writes}
 use Rattle.gix_ref_theory.specs.Plan.{line_writes, log_removal, log_removals, loose_removals, packed_writes, place_writes, plan, writes_of_updates}
-use Rattle.gix_ref_base.specs.PackedRecords.{Record}
+use Rattle.gix_ref_target.specs.PackedRecords.{Record}
 use Rattle.gix_ref_theory.specs.Readings.{HasLaws, Store}
 use Rattle.gix_ref_theory.specs.Views.{Ending, IsPartOf, View, Write, after, after_write, file_bytes}
 use Rattle.gix_ref_theory.specs.Views.Write.{Append, Put, Remove}

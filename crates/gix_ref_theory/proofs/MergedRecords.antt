@@ -11,8 +11,8 @@ use Rattle.std.proofs.lemmas.Cmp.{nat_list_cmp_total}
 use Rattle.std.proofs.lemmas.Map.Text.{is_eq-slice_cmp}
 use Rattle.std.proofs.lemmas.List.Elements.{All-head, All-tail}
 use Rattle.gix_ref_theory.proofs.Writes.{same, same_true}
-use Rattle.gix_ref_base.specs.Layout.{below}
-use Rattle.gix_ref_base.specs.PackedRecords.{Record, record_named}
+use Rattle.gix_ref_target.specs.Layout.{below}
+use Rattle.gix_ref_target.specs.PackedRecords.{Record, record_named}
 use Rattle.gix_ref_theory.specs.Theorems.{MergedRecordsAreOne}
 
 -- the name is below this one

@@ -7,15 +7,15 @@ use Rattle.std.proofs.lemmas.Bool.Decides.{Decides-eqb}
 use Rattle.std.proofs.lemmas.List.{append-nil}
 use Rattle.std.proofs.lemmas.Slice.Eq.{ends_is}
 use Rattle.gix_ref_hash.specs.Bytes.{BeginsWith, NoByte, is_empty}
-use Rattle.gix_ref_grammar.specs.NameGrammar.{is_pseudo_byte, is_locked, partial_error, IsPartialName}
+use Rattle.gix_ref_name.specs.NameGrammar.{is_pseudo_byte, is_locked, partial_error, IsPartialName}
 use Rattle.gix_ref_hash.proofs.ByteLemmas.{apart}
-use Rattle.gix_ref_grammar.proofs.PartialNames.{IsPath, IsComponent, rules_of, first_component, last_component}
+use Rattle.gix_ref_name.proofs.PartialNames.{IsPath, IsComponent, rules_of, first_component, last_component}
 use Rattle.gix_ref_theory.proofs.Writes.{same}
-use Rattle.gix_ref_base.proofs.LocationLemmas.{head, has_slash, EndsIn, ends_after, short, no_slash_test, test_no_slash, IsBy, HasSpot, has_spot}
-use Rattle.gix_ref_base.specs.Layout.{IsLayout, Layout, LiesIn, below, is_private_ref, packed_refs}
+use Rattle.gix_ref_target.proofs.LocationLemmas.{head, has_slash, EndsIn, ends_after, short, no_slash_test, test_no_slash, IsBy, HasSpot, has_spot}
+use Rattle.gix_ref_target.specs.Layout.{IsLayout, Layout, LiesIn, below, is_private_ref, packed_refs}
 use Rattle.gix_ref_theory.specs.Readings.{HasLaws}
-use Rattle.gix_ref_base.specs.Locations.{Location, is_safe, paths_at, row_of, location}
-use Rattle.gix_ref_base.specs.Locations.Location.{ThisWorktree, LinkedWorktree, MainWorktree, Common}
+use Rattle.gix_ref_target.specs.Locations.{Location, is_safe, paths_at, row_of, location}
+use Rattle.gix_ref_target.specs.Locations.Location.{ThisWorktree, LinkedWorktree, MainWorktree, Common}
 use Rattle.gix_ref_theory.specs.ConcreteStore.{Options, store_of}
 use Rattle.gix_ref_files.specs.Lock.{lock_of}
 

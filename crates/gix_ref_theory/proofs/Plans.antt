@@ -6,9 +6,9 @@ use Rattle.gix_ref_theory.specs.Between.{AreEdits, IsEdit}
 use Rattle.gix_ref_theory.specs.Edits.{Change, Edit, Effect, Mode, alters_change, alters_packed, edited_reading, effect, file_of_records, is_key, merged_record, new_reading, edited_record}
 use Rattle.gix_ref_theory.specs.Edits.Change.{Delete, Update}
 use Rattle.gix_ref_theory.specs.Edits.Effect.{Keeps, Removes, Writes}
-use Rattle.gix_ref_base.specs.Layout.{below}
+use Rattle.gix_ref_target.specs.Layout.{below}
 use Rattle.gix_ref_theory.specs.Plan.{file_writes, line_writes, log_removal, log_removals, loose_removals, packed_writes, place_removal, place_writes, plan, writes_of_updates}
-use Rattle.gix_ref_base.specs.PackedRecords.{Record}
+use Rattle.gix_ref_target.specs.PackedRecords.{Record}
 use Rattle.gix_ref_theory.specs.Readings.{Reading, Store, records_of_file}
 use Rattle.gix_ref_theory.specs.Views.{View, Write}
 

@@ -4,13 +4,13 @@ use Rattle.std.proofs.lemmas.Bool.{cond-false, false≢true, true≢false, cases
 use Rattle.gix_ref_hash.specs.declared.hash.ObjectId.{ObjectId}
 use Rattle.gix_ref_hash.specs.declared.hash.ObjectId.TheVariants.{Sha1, Sha256}
 use Rattle.gix_ref_theory.proofs.Writes.{same}
-use Rattle.gix_ref_base.specs.Targets.{TargetValue}
-use Rattle.gix_ref_base.specs.Targets.TargetValue.{object_id, symbolic_name}
+use Rattle.gix_ref_target.specs.Targets.{TargetValue}
+use Rattle.gix_ref_target.specs.Targets.TargetValue.{object_id, symbolic_name}
 use Rattle.gix_ref_theory.specs.Edits.{Change, Edit, Effect, Mode, alters_change, effect_of_change, has_already, is_same_id, new_reading, packs, edited_record, removes_packed}
 use Rattle.gix_ref_theory.specs.Edits.Change.{Delete, Update}
 use Rattle.gix_ref_theory.specs.Edits.Mode.{DeletionsOnly, Packing, PackingAndRemoving}
 use Rattle.gix_ref_theory.specs.Edits.Effect.{Keeps, Removes, Writes}
-use Rattle.gix_ref_base.specs.PackedRecords.{Record, record_named, id_read, written_id}
+use Rattle.gix_ref_target.specs.PackedRecords.{Record, record_named, id_read, written_id}
 use Rattle.gix_ref_theory.specs.Readings.{Reading, Store, as_read, reading, reading_by, reading_of_id, reading_of_loose, reading_of_record, records_of_file}
 use Rattle.gix_ref_theory.specs.Readings.Reading.{Absent, Fault, Is}
 use Rattle.gix_ref_theory.specs.Views.{View}

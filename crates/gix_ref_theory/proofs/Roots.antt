@@ -8,9 +8,9 @@ use Rattle.std.proofs.lemmas.Slice.Eq.{starts_is}
 use Rattle.gix_ref_files.specs.Tree.{Path, fronts}
 use Rattle.gix_ref_files.specs.Settled.{IsIn, AreIn, SettlesPath, climb}
 use Rattle.gix_ref_files.proofs.Climbing.{climbs}
-use Rattle.gix_ref_base.specs.Layout.{Layout, LiesIn, below, packed_refs}
-use Rattle.gix_ref_base.specs.Locations.{Location, location, row_of}
-use Rattle.gix_ref_base.specs.Locations.Location.{Common, ThisWorktree, MainWorktree, LinkedWorktree}
+use Rattle.gix_ref_target.specs.Layout.{Layout, LiesIn, below, packed_refs}
+use Rattle.gix_ref_target.specs.Locations.{Location, location, row_of}
+use Rattle.gix_ref_target.specs.Locations.Location.{Common, ThisWorktree, MainWorktree, LinkedWorktree}
 use Rattle.gix_ref_name.proofs.FrontLemmas.{begins_true, begins_false}
 use Rattle.gix_ref_theory.specs.ConcreteStore.{store_of}
 use Rattle.gix_ref_theory.specs.Roots.{root_of, roots, LogsSettle, PackedSettles, PlacesSettle}

@@ -1,10 +1,10 @@
 -- Which names share a log though they have two places.
 use Rattle.std.proofs.Common.{◌≡◌, ℕ, List, [], ◌∷◌, ◌++◌, true, false, refl, sym, ap, ◌∙◌, inl, inr, ◌⊎◌, codes, arith}
-use Rattle.gix_ref_base.proofs.LocationLemmas.{head, has_slash, HasSpot, has_spot}
+use Rattle.gix_ref_target.proofs.LocationLemmas.{head, has_slash, HasSpot, has_spot}
 use Rattle.gix_ref_theory.proofs.PlaceLaws.{Known, IsSpot, IsNamespace, IsOutside, IsLaid, PlaceShape, Plain, Within, Named, PlainLog, LinkedLog, place_path, log_path, log_of_shape, IsPlaceShape, cancel, cancel_below, cancel_slash, nowhere, inside, start_r, start_private, known, row_by, spot_is, laid, same_front}
-use Rattle.gix_ref_base.specs.Layout.{IsLayout, Layout, below}
-use Rattle.gix_ref_base.specs.Locations.{Location, row_of}
-use Rattle.gix_ref_base.specs.Locations.Location.{ThisWorktree, LinkedWorktree, MainWorktree, Common}
+use Rattle.gix_ref_target.specs.Layout.{IsLayout, Layout, below}
+use Rattle.gix_ref_target.specs.Locations.{Location, row_of}
+use Rattle.gix_ref_target.specs.Locations.Location.{ThisWorktree, LinkedWorktree, MainWorktree, Common}
 use Rattle.gix_ref_theory.specs.ConcreteStore.{Options, store_of}
 use Rattle.gix_ref_theory.specs.Theorems.{SharesLog}
 

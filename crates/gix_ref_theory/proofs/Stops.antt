@@ -10,7 +10,7 @@ use Rattle.gix_ref_theory.specs.Edits.{Change, Edit, Effect, Mode, alters_change
 use Rattle.gix_ref_theory.specs.Edits.Change.{Delete, Update}
 use Rattle.gix_ref_theory.specs.Edits.Effect.{Keeps, Removes, Writes}
 use Rattle.gix_ref_theory.specs.Plan.{log_removals, loose_removals, packed_writes, plan, writes_of_updates}
-use Rattle.gix_ref_base.specs.PackedRecords.{Record, record_named}
+use Rattle.gix_ref_target.specs.PackedRecords.{Record, record_named}
 use Rattle.gix_ref_theory.specs.Readings.{HasLaws, Reading, Store, reading, reading_by, reading_of_record, records_of_file}
 use Rattle.gix_ref_theory.specs.Readings.Reading.{Fault}
 use Rattle.gix_ref_theory.specs.Views.{Ending, View, Write}

@@ -11,7 +11,7 @@ use Rattle.gix_ref_theory.specs.Between.{IsCommitted, IsCommittedFile, IsEdit, M
 use Rattle.gix_ref_theory.specs.Edits.{Edit, Effect, Mode, alters_packed, effect, file_of_records, new_reading, removes_log}
 use Rattle.gix_ref_theory.specs.Edits.Effect.{Keeps, Removes, Writes}
 use Rattle.gix_ref_theory.specs.Plan.{log_removals, loose_removals, packed_writes, plan, writes_of_updates}
-use Rattle.gix_ref_base.specs.PackedRecords.{Record}
+use Rattle.gix_ref_target.specs.PackedRecords.{Record}
 use Rattle.gix_ref_theory.specs.Readings.{HasLaws, Store, reading, records_of_file}
 use Rattle.gix_ref_theory.specs.Views.{IsSameView, View, after}
 use Rattle.gix_ref_theory.specs.Views.Ending.{Stop}

@@ -2,7 +2,7 @@
 use Rattle.std.proofs.Common.{◌≡◌, ◌≢◌, ℕ, List, [], ◌∷◌, ◌++◌, Option, Some, None, Bool, true, false, ◌||◌, cond, refl, sym, ap, ◌∙◌, subst, inl, inr, bytes_eq, ◌⊎◌}
 use Rattle.std.proofs.lemmas.Bool.{or_left, or_right, or_cases, or_parts, false_from_ne_true, cond-true, cond-false, false≢true, cases_Bool}
 use Rattle.std.proofs.lemmas.Slice.Eq.{bytes_eq-Decides}
-use Rattle.gix_ref_base.specs.Layout.{below}
+use Rattle.gix_ref_target.specs.Layout.{below}
 use Rattle.gix_ref_theory.specs.Views.{Ending, IsPartOf, IsLeftByWrites, IsSameView, View, Write, after, after_write, file_bytes}
 use Rattle.gix_ref_theory.specs.Views.Write.{Append, Put, Remove}
 

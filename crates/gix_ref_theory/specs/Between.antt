@@ -3,12 +3,12 @@ use Rattle.std.specs.Prelude.{◌≡◌, ◌≢◌, ℕ, List, [], ◌∷◌, �
 use Rattle.std.specs.Cmp.Lexicographic.{slice_cmp}
 use Rattle.std.specs.Ordering.{nat_cmp}
 use Rattle.std.specs.declared.cmp.Ordering.TheVariants.{Less}
-use Rattle.gix_ref_base.specs.Targets.{TargetValue}
+use Rattle.gix_ref_target.specs.Targets.{TargetValue}
 use Rattle.gix_ref_files.specs.Tree.{Path}
 use Rattle.gix_ref_theory.specs.Views.{Ending, IsPartOf, View, file_bytes, IsOwnLock}
 use Rattle.gix_ref_hash.specs.declared.hash.ObjectId.{ObjectId}
-use Rattle.gix_ref_base.specs.Targets.TargetValue.{object_id}
-use Rattle.gix_ref_base.specs.PackedRecords.{Record, record_named, id_read, written_id}
+use Rattle.gix_ref_target.specs.Targets.TargetValue.{object_id}
+use Rattle.gix_ref_target.specs.PackedRecords.{Record, record_named, id_read, written_id}
 use Rattle.gix_ref_theory.specs.Readings.{Store, reading, records_of_file}
 use Rattle.gix_ref_theory.specs.Edits.{Edit, Change, Effect, Mode, effect, removes_packed, packs, merged_record, alters_packed, file_of_records, is_deletion, due, is_due, removes_log, edited_reading}
 use Rattle.gix_ref_theory.specs.Edits.Change.{Update, Delete}

@@ -2,14 +2,14 @@
 use Rattle.std.specs.Prelude.{ℕ, List, [], ◌∷◌, ◌++◌, Option, Bool, ◌&&◌, is_none, codes, nat_eq, if◌then◌else◌}
 use Rattle.std.specs.List.{list_any, starts_with}
 use Rattle.gix_ref_hash.specs.Bytes.{components, without_front}
-use Rattle.gix_ref_grammar.specs.NameGrammar.{partial_error}
+use Rattle.gix_ref_name.specs.NameGrammar.{partial_error}
 use Rattle.gix_ref_name.specs.Namespaces.{stripped}
-use Rattle.gix_ref_base.specs.PackedRecords.{Record, written_id, written_text}
-use Rattle.gix_ref_base.specs.Targets.{TargetValue}
-use Rattle.gix_ref_base.specs.Targets.TargetValue.{object_id, symbolic_name}
+use Rattle.gix_ref_target.specs.PackedRecords.{Record, written_id, written_text}
+use Rattle.gix_ref_target.specs.Targets.{TargetValue}
+use Rattle.gix_ref_target.specs.Targets.TargetValue.{object_id, symbolic_name}
 use Rattle.gix_ref_files.specs.Tree.{Path}
-use Rattle.gix_ref_base.specs.Layout.{Layout, below, packed_refs}
-use Rattle.gix_ref_base.specs.Locations.{is_safe, paths_at}
+use Rattle.gix_ref_target.specs.Layout.{Layout, below, packed_refs}
+use Rattle.gix_ref_target.specs.Locations.{is_safe, paths_at}
 use Rattle.gix_ref_theory.specs.Readings.{Store}
 
 -- the text of a loose file: the digits of the id, or `ref: ` and the name, and LF

@@ -5,10 +5,10 @@ use Rattle.std.specs.Option.{option_map}
 use Rattle.gix_ref_files.specs.Tree.{Path}
 use Rattle.gix_ref_hash.specs.declared.hash.ObjectId.{ObjectId}
 use Rattle.gix_ref_hash.specs.declared.hash.ObjectId.TheVariants.{Sha1, Sha256}
-use Rattle.gix_ref_base.specs.Targets.{TargetValue}
-use Rattle.gix_ref_base.specs.Targets.TargetValue.{object_id, symbolic_name}
+use Rattle.gix_ref_target.specs.Targets.{TargetValue}
+use Rattle.gix_ref_target.specs.Targets.TargetValue.{object_id, symbolic_name}
 use Rattle.gix_ref_theory.specs.Views.{View, file_bytes}
-use Rattle.gix_ref_base.specs.PackedRecords.{Record, record_named, written_id}
+use Rattle.gix_ref_target.specs.PackedRecords.{Record, record_named, written_id}
 use Rattle.gix_ref_theory.specs.Readings.{Store, Reading, reading, as_read}
 use Rattle.gix_ref_theory.specs.Readings.Reading.{Is, Absent}
 

@@ -1,14 +1,16 @@
 pub mod Between
 pub mod ConcreteStore
 pub mod Edits
-pub mod Lookups
+pub mod Example
 pub mod LockPlaces
+pub mod Lookups
 pub mod Losses
 pub mod OnDisks
 pub mod OnRealTrees
 pub mod Plan
 pub mod Readings
 pub mod Roots
+pub mod Sequences
 pub mod SmallCommit
 pub mod Theorems
 pub mod Views

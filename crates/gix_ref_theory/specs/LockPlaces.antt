@@ -1,7 +1,7 @@
 -- Where locks lie.
 use Rattle.std.specs.Prelude.{◌≡◌, ◌≢◌, ℕ, List, true}
 use Rattle.gix_ref_files.specs.Lock.{lock_of}
-use Rattle.gix_ref_base.specs.Layout.{Layout, IsLayout, below, packed_refs}
+use Rattle.gix_ref_target.specs.Layout.{Layout, IsLayout, below, packed_refs}
 use Rattle.gix_ref_theory.specs.ConcreteStore.{Options, store_of}
 
 -- No lock lies below another one: no component of a name ends with `.lock`.

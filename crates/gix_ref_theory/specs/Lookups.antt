@@ -1,7 +1,7 @@
 -- What a lookup of a partial name finds (`gitrevisions`): the first of its candidates that is there.
 use Rattle.std.specs.Prelude.{ℕ, List, [], ◌∷◌, Option, Some, None, Bool, true, false, if◌then◌else◌}
 use Rattle.gix_ref_hash.specs.declared.hash.ObjectId.{ObjectId}
-use Rattle.gix_ref_base.specs.PackedRecords.{Record, record_named, id_read}
+use Rattle.gix_ref_target.specs.PackedRecords.{Record, record_named, id_read}
 use Rattle.gix_ref_theory.specs.Views.{View}
 use Rattle.gix_ref_theory.specs.Readings.{Store, Reading, reading_among}
 use Rattle.gix_ref_theory.specs.Readings.Reading.{Is, Fault, Absent}

@@ -5,7 +5,7 @@ use Rattle.gix_ref_files.specs.Disk.{Disk, Lost}
 use Rattle.gix_ref_files.specs.Lock.{lock_of}
 use Rattle.gix_ref_files.specs.Settled.{AllStay, IsSettledAt, IsAllSettled}
 use Rattle.gix_ref_files.specs.DiskSteps.{Synced, IsReachedBy, IsSyncedAfter}
-use Rattle.gix_ref_base.specs.PackedRecords.{Record}
+use Rattle.gix_ref_target.specs.PackedRecords.{Record}
 use Rattle.gix_ref_theory.specs.OnDisks.{CarryOutSynced, IsWithin, IsSpokenOf, AreWhole}
 use Rattle.gix_ref_theory.specs.OnRealTrees.{view_of}
 use Rattle.gix_ref_theory.specs.Views.{View, IsSameButLocks}

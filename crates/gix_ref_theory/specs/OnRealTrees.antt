@@ -8,7 +8,7 @@ use Rattle.gix_ref_files.specs.Steps.Step.{Create, Append as AppendStep, Line as
 use Rattle.gix_ref_files.specs.declared.steps.Cause.{Cause}
 use Rattle.gix_ref_theory.specs.Views.{View, Write, changed_at, file_bytes, IsSameView, IsOwnLock, IsSameButLocks}
 use Rattle.gix_ref_theory.specs.Views.Write.{Append, Put, Remove}
-use Rattle.gix_ref_base.specs.PackedRecords.{Record}
+use Rattle.gix_ref_target.specs.PackedRecords.{Record}
 use Rattle.gix_ref_theory.specs.Readings.{Store, HasLaws}
 use Rattle.gix_ref_theory.specs.Edits.{Edit, Mode, removes_packed}
 use Rattle.gix_ref_theory.specs.Plan.{plan}

@@ -4,7 +4,7 @@ use Rattle.std.specs.List.{flat_map}
 use Rattle.gix_ref_files.specs.Tree.{Path}
 use Rattle.gix_ref_theory.specs.Views.{View, Write}
 use Rattle.gix_ref_theory.specs.Views.Write.{Append, Put, Remove}
-use Rattle.gix_ref_base.specs.PackedRecords.{Record}
+use Rattle.gix_ref_target.specs.PackedRecords.{Record}
 use Rattle.gix_ref_theory.specs.Readings.{Store, records_of_file}
 use Rattle.gix_ref_theory.specs.Edits.{Change, Edit, Mode, Effect, effect, alters_packed, file_of_records}
 use Rattle.gix_ref_theory.specs.Edits.Change.{Update, Delete}

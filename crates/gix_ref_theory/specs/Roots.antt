@@ -3,7 +3,7 @@ use Rattle.std.specs.Prelude.{◌≤◌, ℕ, List, [], ◌∷◌, ◌++◌, len
 use Rattle.std.specs.List.{starts_with}
 use Rattle.gix_ref_files.specs.Tree.{Path, fronts}
 use Rattle.gix_ref_files.specs.Settled.{SettlesPath, climb}
-use Rattle.gix_ref_base.specs.Layout.{Layout, below}
+use Rattle.gix_ref_target.specs.Layout.{Layout, below}
 use Rattle.gix_ref_theory.specs.ConcreteStore.{Options, store_of}
 
 -- How long the root of a path is: the git folder for a path below it, else the common folder.

@@ -4,10 +4,10 @@
 use Rattle.std.specs.Prelude.{◌≡◌, ◌≢◌, ℕ, List, [], ◌∷◌, ◌++◌, true, false, codes, ◌⊎◌}
 use Rattle.gix_ref_files.specs.Tree.{Path}
 use Rattle.gix_ref_theory.specs.Views.{View, after, IsLeft, IsOwnLock, IsSameButLocks}
-use Rattle.gix_ref_base.specs.PackedRecords.{Record}
+use Rattle.gix_ref_target.specs.PackedRecords.{Record}
 use Rattle.gix_ref_theory.specs.Readings.{Store, HasLaws}
-use Rattle.gix_ref_base.specs.Layout.{Layout, below, RefPaths, HasPaths, IsSafe, IsLayout}
-use Rattle.gix_ref_base.specs.Locations.{paths_at, is_safe}
+use Rattle.gix_ref_target.specs.Layout.{Layout, below, RefPaths, HasPaths, IsSafe, IsLayout}
+use Rattle.gix_ref_target.specs.Locations.{paths_at, is_safe}
 use Rattle.gix_ref_theory.specs.ConcreteStore.{Options, store_of}
 use Rattle.gix_ref_theory.specs.Edits.{Edit, Mode, removes_packed}
 use Rattle.gix_ref_theory.specs.Plan.{plan}

@@ -5,9 +5,9 @@ use Rattle.std.proofs.lemmas.Bool.{eqb-true}
 use Rattle.std.proofs.lemmas.List.{append_cancel_left, append_cancel_right}
 use Rattle.std.proofs.lemmas.List.Elements.{All-nil, All-cons}
 use Rattle.gix_ref_hash.specs.declared.hash.Kind.{Kind}
-use Rattle.gix_ref_base.specs.Layout.{Layout, IsLayout, below}
-use Rattle.gix_ref_base.specs.Locations.{is_safe}
-use Rattle.gix_ref_base.proofs.LocationLemmas.{head}
+use Rattle.gix_ref_target.specs.Layout.{Layout, IsLayout, below}
+use Rattle.gix_ref_target.specs.Locations.{is_safe}
+use Rattle.gix_ref_target.proofs.LocationLemmas.{head}
 use Rattle.gix_ref_files.specs.Tree.{Path, fronts, fronts_after}
 use Rattle.gix_ref_files.specs.Lock.{lock_of}
 use Rattle.gix_ref_theory.specs.Readings.{Store}

@@ -2,11 +2,11 @@
 use Rattle.std.proofs.Common.{◌≡◌, Bool, Some, IsSome, refl, subst}
 use Rattle.gix_ref_hash.specs.declared.hash.Kind.{Kind}
 use Rattle.gix_ref_hash.specs.declared.hash.ObjectId.{ObjectId}
-use Rattle.gix_ref_base.specs.PackedRecords.{id_read, written_id}
-use Rattle.gix_ref_base.specs.Targets.{TargetValue, target_value}
-use Rattle.gix_ref_base.specs.Targets.TargetValue.{object_id, symbolic_name}
-use Rattle.gix_ref_base.specs.Layout.{Layout}
-use Rattle.gix_ref_base.proofs.PackedRecordLemmas.{written_is_read}
+use Rattle.gix_ref_target.specs.PackedRecords.{id_read, written_id}
+use Rattle.gix_ref_target.specs.Targets.{TargetValue, target_value}
+use Rattle.gix_ref_target.specs.Targets.TargetValue.{object_id, symbolic_name}
+use Rattle.gix_ref_target.specs.Layout.{Layout}
+use Rattle.gix_ref_target.proofs.PackedRecordLemmas.{written_is_read}
 use Rattle.gix_ref_theory.specs.ConcreteStore.{store_of, loose_text}
 use Rattle.gix_ref_theory.specs.Edits.Change.{Update}
 use Rattle.gix_ref_theory.specs.Readings.{Store}

@@ -3,13 +3,13 @@ use Rattle.std.proofs.Common.{◌≡◌, ℕ, List, [], ◌∷◌, Option, Some,
 use Rattle.std.specs.Prelude.{is_none}
 use Rattle.std.specs.List.{list_any}
 use Rattle.std.specs.Option.{option_map}
-use Rattle.gix_ref_grammar.specs.DeviceNames.{is_device}
+use Rattle.gix_ref_name.specs.DeviceNames.{is_device}
 use Rattle.gix_ref_hash.specs.declared.hash.Kind.{Kind}
 use Rattle.gix_ref_hash.specs.declared.hash.ObjectId.{ObjectId}
-use Rattle.gix_ref_base.specs.PackedRecords.{Record, record_named, id_read}
-use Rattle.gix_ref_base.specs.Targets.{TargetValue, target_value, stripped_target}
-use Rattle.gix_ref_base.specs.Targets.TargetValue.{object_id, symbolic_name}
-use Rattle.gix_ref_base.specs.Layout.{Layout}
+use Rattle.gix_ref_target.specs.PackedRecords.{Record, record_named, id_read}
+use Rattle.gix_ref_target.specs.Targets.{TargetValue, target_value, stripped_target}
+use Rattle.gix_ref_target.specs.Targets.TargetValue.{object_id, symbolic_name}
+use Rattle.gix_ref_target.specs.Layout.{Layout}
 use Rattle.gix_ref_theory.specs.ConcreteStore.{store_of, loose_text}
 use Rattle.gix_ref_theory.specs.Edits.{Effect, Mode, effect_of_change, has_already, is_object, packs, packs_updates, removes_packed}
 use Rattle.gix_ref_theory.specs.Edits.Change.{Update}

@@ -2,8 +2,8 @@
 use Rattle.std.proofs.Common.{◌≡◌, ◌≢◌, inl, inr, ℕ, List, [], ◌∷◌, ◌++◌, Some, true, codes, refl, sym, ap, ◌∙◌, append_assoc, ◌==◌}
 use Rattle.std.proofs.lemmas.Bool.{false≢true, or_right}
 use Rattle.gix_ref_files.specs.Lock.{lock_of}
-use Rattle.gix_ref_base.specs.Layout.{Layout, IsLayout, below, packed_refs}
-use Rattle.gix_ref_base.proofs.LocationLemmas.{has_slash}
+use Rattle.gix_ref_target.specs.Layout.{Layout, IsLayout, below, packed_refs}
+use Rattle.gix_ref_target.proofs.LocationLemmas.{has_slash}
 use Rattle.gix_ref_theory.specs.ConcreteStore.{Options, store_of}
 use Rattle.gix_ref_theory.proofs.PlaceLaws.{Lies, cancel_below, has_place, known, laid, nowhere, place_at, place_path, row_by, spot_is}
 

@@ -7,11 +7,11 @@ use Rattle.std.proofs.Math.Seq.{take-append_seam}
 use Rattle.gix_ref_theory.specs.Edits.{Mode}
 use Rattle.gix_ref_transaction.specs.Parents.{parents_in}
 use Rattle.gix_ref_transaction.specs.PrepareSteps.{Given, AreSettled, HoldTexts, all_asked, all_given, given, effects_of, effects_on, files_at, ids_in, old_targets, packed_ids, place_paths, seen_files, targets_of, updates}
-use Rattle.gix_ref_transaction.specs.Causes.{NoCause}
+use Rattle.gix_ref_transaction.specs.Causes.{NoCause, IsCounted, IsCountedWith, IsPackedRefusal, id_of_record, packed_id}
 use Rattle.gix_ref_transaction.specs.declared.edit.Edit.{Edit}
 use Rattle.gix_ref_hash.specs.declared.hash.Kind.{Kind}
 use Rattle.gix_ref_hash.specs.declared.hash.ObjectId.{ObjectId}
-use Rattle.gix_ref_base.specs.PackedRecords.{Record, record_named, id_read}
+use Rattle.gix_ref_target.specs.PackedRecords.{Record, record_named, id_read}
 use Rattle.gix_ref_files.proofs.Meeting.{met_wider, no_fewer_starts}
 use Rattle.gix_ref_files.specs.declared.files.FileError.{FileError}
 use Rattle.gix_ref_files.specs.Files.{IsMet, FaultCounts, NoFewer}
@@ -19,7 +19,7 @@ use Rattle.gix_ref_files.specs.Tree.{Content, Path, Tree}
 use Rattle.gix_ref_packed.proofs.RecordsOfText.{records_computed}
 use Rattle.gix_ref_packed.specs.declared.packed.buffer.open.Error.{Error as OpenError}
 use Rattle.gix_ref_packed.specs.declared.packed.buffer.open.Error.TheVariants.{Iter, HeaderParsing, Io as unread, Memory as open_memory}
-use Rattle.gix_ref_base.specs.Layout.{Layout}
+use Rattle.gix_ref_target.specs.Layout.{Layout}
 use Rattle.gix_ref_theory.specs.ConcreteStore.{store_of}
 use Rattle.gix_ref_lookup.specs.StoreLayout.{git_options}
 use Rattle.gix_ref_theory.specs.Readings.{Store, reading_by, reading_of_record, reading_of_id, records_of_file}
@@ -27,9 +27,7 @@ use Rattle.gix_ref_theory.specs.Readings.Reading.{Absent}
 use Rattle.gix_ref_lookup.specs.Lookups.{IsNotPacked, ArePackedRecords}
 use Rattle.gix_ref_lookup.specs.declared.find.error.Error.{Error as LookupError}
 use Rattle.gix_ref_lookup.specs.declared.find.error.Error.TheVariants.{RefnameValidation, ReadFileContents, ReferenceCreation, PackedRef, PackedOpen, Memory}
-use Rattle.gix_ref_transaction.specs.Causes.{IsCounted, IsCountedWith, IsPackedRefusal, id_of_record, packed_id}
 use Rattle.gix_ref_transaction.specs.PackedCauses.{as_cause, ids_among}
-use Rattle.gix_ref_transaction.specs.PrepareSteps.{packed_ids}
 use Rattle.gix_ref_theory.specs.OnRealTrees.{view_of}
 use Rattle.gix_ref_edits.specs.RefEdits.{name_of}
 use Rattle.gix_ref_edits.specs.declared.transaction.RefEdit.{RefEdit}

@@ -7,8 +7,8 @@ use Rattle.std.proofs.lemmas.List.{get_or-map}
 use Rattle.gix_ref_hash.specs.Ids.{id_kind}
 use Rattle.gix_ref_hash.specs.declared.hash.Kind.{Kind}
 use Rattle.gix_ref_hash.specs.declared.hash.ObjectId.{ObjectId}
-use Rattle.gix_ref_base.specs.Targets.{TargetValue, target_value}
-use Rattle.gix_ref_base.specs.Targets.TargetValue.{object_id, symbolic_name}
+use Rattle.gix_ref_target.specs.Targets.{TargetValue, target_value}
+use Rattle.gix_ref_target.specs.Targets.TargetValue.{object_id, symbolic_name}
 use Rattle.gix_ref_object.specs.Objects.{Stored}
 use Rattle.gix_ref_object.specs.Peeling.{peel}
 use Rattle.gix_ref_theory.specs.Edits.{Mode, is_object, is_same_id, packs, packs_updates}

@@ -5,8 +5,8 @@ use Rattle.std.proofs.lemmas.List.{get_or-map, length-map, map-append, take_more
 use Rattle.std.proofs.Math.ListN.{set}
 use Rattle.gix_ref_hash.specs.declared.hash.Kind.{Kind}
 use Rattle.gix_ref_hash.specs.declared.hash.ObjectId.{ObjectId}
-use Rattle.gix_ref_base.specs.Layout.{Layout}
-use Rattle.gix_ref_base.specs.Targets.{target_value}
+use Rattle.gix_ref_target.specs.Layout.{Layout}
+use Rattle.gix_ref_target.specs.Targets.{target_value}
 use Rattle.gix_ref_files.specs.declared.files.ReadAt.{Ghosts}
 use Rattle.gix_ref_lookup.specs.Lookups.{AreStillAsked, IsOpenedText, IsSearched, SearchesNone}
 use Rattle.gix_ref_lookup.specs.LooseFiles.{IsDecoded}

@@ -7,9 +7,9 @@ use Rattle.std.specs.Option.{option_map}
 use Rattle.gix_ref_hash.specs.declared.hash.Kind.{Kind}
 use Rattle.gix_ref_name.specs.Names.{full_bytes}
 use Rattle.gix_ref_name.specs.declared.name.FullName.{FullName}
-use Rattle.gix_ref_base.specs.Layout.{Layout}
-use Rattle.gix_ref_base.specs.Targets.{TargetValue, target_name, target_value, stripped_target}
-use Rattle.gix_ref_base.specs.Targets.TargetValue.{object_id, symbolic_name}
+use Rattle.gix_ref_target.specs.Layout.{Layout}
+use Rattle.gix_ref_target.specs.Targets.{TargetValue, target_name, target_value, stripped_target}
+use Rattle.gix_ref_target.specs.Targets.TargetValue.{object_id, symbolic_name}
 use Rattle.gix_ref_theory.specs.ConcreteStore.{store_of}
 use Rattle.gix_ref_theory.specs.Readings.{Store, as_read}
 use Rattle.gix_ref_lookup.specs.StoreLayout.{git_options}

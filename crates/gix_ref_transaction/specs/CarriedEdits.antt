@@ -1,6 +1,6 @@
 -- Edits as the plan of a commit has them, and edits that carry what was found.
 use Rattle.std.specs.Prelude.{◌≡◌, ◌<◌, ℕ, List, Option, Some, None, MatchOption, length, slice_index_or}
-use Rattle.gix_ref_base.specs.Targets.{TargetValue, target_value}
+use Rattle.gix_ref_target.specs.Targets.{TargetValue, target_value}
 use Rattle.gix_ref_theory.specs.Edits as plan
 use Rattle.gix_ref_edits.specs.RefEdits.{name_of, expected_of, mode_of, is_forced, message_of, is_of_reference, matched}
 use Rattle.gix_ref_edits.specs.declared.transaction.Change.{Change}

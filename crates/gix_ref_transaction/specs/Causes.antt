@@ -3,10 +3,10 @@ use Rattle.std.specs.Prelude.{◌≡◌, ◌≢◌, ◌⊎◌, ℕ, List, [], �
 use Rattle.std.specs.List.{list_any, Any}
 use Rattle.std.specs.Option.{option_map}
 use Rattle.gix_ref_hash.specs.Ids.{id_kind, null_id, IsWhole}
-use Rattle.gix_ref_grammar.specs.NameGrammar.{IsFullName}
+use Rattle.gix_ref_name.specs.NameGrammar.{IsFullName}
 use Rattle.gix_ref_name.specs.Names.{full_bytes}
-use Rattle.gix_ref_base.specs.Targets.{TargetValue, target_value}
-use Rattle.gix_ref_base.specs.Targets.TargetValue.{object_id, symbolic_name}
+use Rattle.gix_ref_target.specs.Targets.{TargetValue, target_value}
+use Rattle.gix_ref_target.specs.Targets.TargetValue.{object_id, symbolic_name}
 use Rattle.gix_ref_hash.specs.declared.hash.Kind.{Kind}
 use Rattle.gix_ref_files.specs.Tree.{Tree, Path, Content, is_blocked, is_file, fronts}
 use Rattle.gix_ref_files.specs.Files.{FaultCounts, IsMet}
@@ -15,18 +15,18 @@ use Rattle.gix_ref_files.specs.declared.files.FileError.TheVariants.{Device, Not
 use Rattle.gix_ref_theory.specs.Views.{View}
 use Rattle.gix_ref_files.specs.Lock.{lock_of}
 use Rattle.gix_ref_theory.specs.OnRealTrees.{view_of}
-use Rattle.gix_ref_base.specs.PackedRecords.{Record, record_named, id_read}
+use Rattle.gix_ref_target.specs.PackedRecords.{Record, record_named, id_read}
 use Rattle.gix_ref_hash.specs.declared.hash.ObjectId.{ObjectId}
 use Rattle.gix_ref_packed.specs.Buffers.{IsRefusedFile}
 use Rattle.gix_ref_packed.specs.declared.packed.buffer.open.Error.TheVariants.{Io as unread}
 use Rattle.gix_ref_lookup.specs.Lookups.{ArePackedRecords, HasNoKey, IsOpenedText, OfKey}
 use Rattle.gix_ref_packed.specs.declared.packed.find.Error.TheVariants.{Parse}
-use Rattle.gix_ref_records.specs.Positions.{CannotRead, IsNotMalformed}
-use Rattle.gix_ref_records.specs.Windows.{HitsRecord}
-use Rattle.gix_ref_records.specs.declared.packed.window.Found.{Found}
+use Rattle.gix_ref_packed_text.specs.Positions.{CannotRead, IsNotMalformed}
+use Rattle.gix_ref_packed_text.specs.Windows.{HitsRecord}
+use Rattle.gix_ref_packed_text.specs.declared.packed.window.Found.{Found}
 use Rattle.gix_ref_theory.specs.Edits.{Mode, is_object, packs_updates, removes_packed}
 use Rattle.gix_ref_theory.specs.Readings.{Store, as_read, records_of_file}
-use Rattle.gix_ref_base.specs.Locations.{is_safe}
+use Rattle.gix_ref_target.specs.Locations.{is_safe}
 use Rattle.gix_ref_transaction.specs.OwnLocks.{is_in}
 use Rattle.gix_ref_transaction.specs.First.{AllPass, FirstFault}
 use Rattle.gix_ref_edits.specs.DoubledNames.{NoneDoubled, IsLeastDoubled}

@@ -1,7 +1,7 @@
 -- What `prepare` finds in `packed-refs`, and how its faults are reported.
 use Rattle.std.specs.Prelude.{List, Option, map}
 use Rattle.gix_ref_hash.specs.declared.hash.ObjectId.{ObjectId}
-use Rattle.gix_ref_base.specs.PackedRecords.{Record}
+use Rattle.gix_ref_target.specs.PackedRecords.{Record}
 use Rattle.gix_ref_theory.specs.Readings.{Store}
 use Rattle.gix_ref_edits.specs.RefEdits.{name_of}
 use Rattle.gix_ref_edits.specs.declared.transaction.RefEdit.{RefEdit}

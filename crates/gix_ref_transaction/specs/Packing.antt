@@ -1,8 +1,8 @@
 -- Which updates go into `packed-refs`, and with which object.
 use Rattle.std.specs.Prelude.{◌≡◌, ◌&&◌, ℕ, List, [], ◌∷◌, Option, Some, None, IfSome, map, if◌then◌else◌}
 use Rattle.gix_ref_hash.specs.declared.hash.ObjectId.{ObjectId}
-use Rattle.gix_ref_base.specs.Targets.{TargetValue, target_value}
-use Rattle.gix_ref_base.specs.Targets.TargetValue.{object_id, symbolic_name}
+use Rattle.gix_ref_target.specs.Targets.{TargetValue, target_value}
+use Rattle.gix_ref_target.specs.Targets.TargetValue.{object_id, symbolic_name}
 use Rattle.gix_ref_theory.specs.Edits as plan
 use Rattle.gix_ref_theory.specs.Edits.{Mode, packs}
 use Rattle.gix_ref_theory.specs.Edits.Mode.{DeletionsOnly, Packing as PackingUpdates, PackingAndRemoving}

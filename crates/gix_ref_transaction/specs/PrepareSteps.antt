@@ -2,8 +2,8 @@
 use Rattle.std.specs.Prelude.{◌≡◌, ◌⊎◌, ℕ, List, [], ◌∷◌, ◌++◌, Bool, true, false, not, ◌||◌, Option, Some, None, IsSome, is_none, is_some, map, if◌then◌else◌}
 use Rattle.std.specs.Option.{option_map}
 use Rattle.gix_ref_name.specs.Names.{full_bytes}
-use Rattle.gix_ref_base.specs.Targets.{TargetValue, target_value, stripped_target}
-use Rattle.gix_ref_base.specs.declared.target.Target.{Target}
+use Rattle.gix_ref_target.specs.Targets.{TargetValue, target_value, stripped_target}
+use Rattle.gix_ref_target.specs.declared.target.Target.{Target}
 use Rattle.gix_ref_files.specs.Tree.{Tree, Path, is_blocked, put}
 use Rattle.gix_ref_files.specs.Tree.Content.{File}
 use Rattle.gix_ref_files.specs.Disk.{Disk}
@@ -23,7 +23,7 @@ use Rattle.gix_ref_transaction.specs.Causes.{found, locks_of, packed_of, packed_
 use Rattle.gix_ref_transaction.specs.CarriedEdits.{edit_of}
 use Rattle.gix_ref_edits.specs.RefEdits.{name_of, new_of, expected_of, mode_of, is_of_reference, Expects}
 use Rattle.gix_ref_edits.specs.declared.transaction.Change.{Change}
-use Rattle.gix_ref_base.specs.Targets.TargetValue.{object_id}
+use Rattle.gix_ref_target.specs.Targets.TargetValue.{object_id}
 use Rattle.gix_ref_edits.specs.declared.transaction.RefEdit.{RefEdit}
 use Rattle.gix_ref_lookup.specs.declared.settings.Settings.{Settings}
 use Rattle.gix_ref_lookup.specs.declared.find.loose.Loose.{Loose}

@@ -1,7 +1,7 @@
 -- Splits of a transaction's edits, by what the loose files of a store lead to, and why they are refused.
 use Rattle.std.specs.Prelude.{◌≡◌, ◌⊎◌, ℕ, List, [], ◌∷◌, ◌++◌, true, false, Option, Some, None, map, All}
 use Rattle.gix_ref_hash.specs.declared.hash.Kind.{Kind}
-use Rattle.gix_ref_base.specs.Targets.{TargetValue, target_name}
+use Rattle.gix_ref_target.specs.Targets.{TargetValue, target_name}
 use Rattle.gix_ref_files.specs.Tree.{Tree}
 use Rattle.gix_ref_theory.specs.OnRealTrees.{view_of}
 use Rattle.gix_ref_theory.specs.Readings.{Store, as_read}

@@ -1,8 +1,8 @@
 //! An edit of a transaction, with its lock, what was found of its reference, and what becomes of the loose file.
 ghost use Rattle.std.specs.Prelude.{◌≡◌, [], OnOk, OnErr, IfOk, IfErr, IsErrOf, IsSome, is_some, Some, true, false, if◌then◌else◌};
 ghost use Rattle.std.specs.Option.{option_map};
-ghost use Rattle.gix_ref_base.specs.Targets.{target_value};
-ghost use Rattle.gix_ref_base.specs.Targets.TargetValue.{object_id};
+ghost use Rattle.gix_ref_target.specs.Targets.{target_value};
+ghost use Rattle.gix_ref_target.specs.Targets.TargetValue.{object_id};
 ghost use Rattle.gix_ref_files.specs.ReadOnly.{OnlyReads};
 ghost use Rattle.gix_ref_files.specs.Files.{disk_of, AtEveryStop, OnEveryDisk, count_after, DiskBecomes};
 ghost use Rattle.gix_ref_files.specs.Lock.{lock_of, MakesLock, Readying, Acquiring, after_locking, LockingOn};
@@ -21,7 +21,6 @@ ghost use Rattle.gix_ref_transaction.specs.PrepareSteps.{setting_of, value_of, l
 use crate::packing::{Packing, is_packed_alone};
 use crate::prepare::Error;
 use crate::prepare::expect::check_expected;
-use gix_ref_base::target::Target;
 use gix_ref_edits::transaction::{Change, RefEdit, RefLog};
 use gix_ref_files::files::{Create, FileError, Files, Node};
 use gix_ref_files::lock::LockFile;
@@ -31,6 +30,7 @@ use gix_ref_lookup::find::strip;
 use gix_ref_lookup::loose::text_of;
 use gix_ref_lookup::settings::Settings;
 use gix_ref_name::namespace::Namespace;
+use gix_ref_target::target::Target;
 use std::alloc::{AllocError, Global};
 
 /// What becomes of the loose file of a reference.

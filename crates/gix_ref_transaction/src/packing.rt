@@ -5,10 +5,10 @@ ghost use Rattle.gix_ref_transaction.specs.PrepareSteps.{setting_of};
 ghost use Rattle.gix_ref_transaction.specs.Packing.{mode_of_packing};
 
 use crate::prepare::packed_lock::has_key;
-use gix_ref_base::target::Target;
 use gix_ref_edits::transaction::{Change, RefEdit};
 use gix_ref_lookup::settings::Settings;
 use gix_ref_object::object::{Find, Never};
+use gix_ref_target::target::Target;
 use std::fmt;
 
 /// How a transaction uses `packed-refs`.

@@ -1,9 +1,9 @@
 //! Causes of a refusal and of a failed commit, with what they report.
 use crate::made::{To, is_target};
 use gix_ref_edits::transaction::SplitError;
-use gix_ref_lines::create_or_update;
 use gix_ref_name::name::FullName;
-use gix_ref_repack::error::Error as RepackError;
+use gix_ref_packed_transaction::error::Error as RepackError;
+use gix_ref_reflog::create_or_update;
 use gix_ref_store::file::transaction::commit;
 use gix_ref_store::file::transaction::prepare::Error;
 use gix_ref_transaction::prepare::packed;

@@ -10,7 +10,6 @@ use crate::random::{
 };
 use crate::reading::found;
 use crate::stores::{Kept, Packed, Puts};
-use gix_ref_base::target::Target;
 use gix_ref_files::files::Files;
 use gix_ref_memory::memory::Memory;
 use gix_ref_name::name::PartialNameRef;
@@ -19,6 +18,7 @@ use gix_ref_store::file::find::existing;
 use gix_ref_store::file::iter::LooseThenPacked;
 use gix_ref_store::raw::Reference;
 use gix_ref_store::store::WriteReflog;
+use gix_ref_target::target::Target;
 use std::alloc::Global;
 use std::process::Abort;
 

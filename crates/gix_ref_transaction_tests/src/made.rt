@@ -1,6 +1,5 @@
 //! Targets, expectations and edits as plain values, and as the store takes them.
 use crate::names::Setting;
-use gix_ref_base::target::Target;
 use gix_ref_edits::transaction::{Change, LogChange, PreviousValue, RefEdit, RefLog};
 use gix_ref_hash::hash::{Kind, ObjectId};
 use gix_ref_log::actor::{SignatureRef, Time};
@@ -8,6 +7,7 @@ use gix_ref_memory::memory::Memory;
 use gix_ref_name::name::{FullName, FullNameRef, PartialNameRef};
 use gix_ref_name::namespace::{Namespace, expand};
 use gix_ref_store::file::Store;
+use gix_ref_target::target::Target;
 use std::alloc::Global;
 use std::process::Abort;
 

@@ -1,7 +1,7 @@
 -- The search for empty folders.
 use Rattle.std.specs.Prelude.{◌≡◌, ◌≢◌, ◌⊎◌, ℕ, List, [], ◌∷◌, ◌++◌, AllPairs, Bool, Contains, IsSome, false, true, map, None}
 use Rattle.std.specs.List.{All}
-use Rattle.gix_ref_base.specs.Layout.{LiesIn}
+use Rattle.gix_ref_target.specs.Layout.{LiesIn}
 use Rattle.gix_ref_files.specs.Calls.{IsEntryName, entry_name}
 use Rattle.gix_ref_files.specs.Files.{FaultCounts, IsMet}
 use Rattle.gix_ref_files.specs.Settled.{IsIn}

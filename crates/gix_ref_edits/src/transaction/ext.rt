@@ -7,8 +7,8 @@ ghost use Rattle.gix_ref_edits.specs.SplitResults.{HasSplits, HasSplitsDoubling,
 
 use crate::transaction::RefEdit;
 use doubled::assure_single_names;
-use gix_ref_base::target::Target;
 use gix_ref_name::name::PartialNameRef;
+use gix_ref_target::target::Target;
 use rounds::extend_with_splits;
 use std::alloc::Global;
 

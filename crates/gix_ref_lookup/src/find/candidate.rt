@@ -3,14 +3,14 @@ ghost use Rattle.std.specs.Prelude.{◌≡◌, ◌⊎◌, false, ℕ, List, Opti
 ghost use Rattle.gix_ref_hash.specs.declared.hash.Kind.{Kind};
 ghost use Rattle.gix_ref_name.specs.Names.{full_bytes, full_ref_bytes};
 ghost use Rattle.gix_ref_name.specs.Namespaces.{stripped};
-ghost use Rattle.gix_ref_base.specs.PackedRecords.{Record};
-ghost use Rattle.gix_ref_base.specs.Targets.{target_value};
-ghost use Rattle.gix_ref_base.specs.Targets.TargetValue.{object_id};
+ghost use Rattle.gix_ref_target.specs.PackedRecords.{Record};
+ghost use Rattle.gix_ref_target.specs.Targets.{target_value};
+ghost use Rattle.gix_ref_target.specs.Targets.TargetValue.{object_id};
 ghost use Rattle.gix_ref_files.specs.Files.{AtEveryStop};
 ghost use Rattle.gix_ref_files.specs.Calls.{Unchanged};
 ghost use Rattle.gix_ref_theory.specs.OnRealTrees.{contents};
 ghost use Rattle.gix_ref_lookup.specs.StoreLayout.{namespace_text};
-ghost use Rattle.gix_ref_records.specs.Positions.{CannotRead};
+ghost use Rattle.gix_ref_packed_text.specs.Positions.{CannotRead};
 ghost use Rattle.gix_ref_packed.specs.Buffers.{IsRefusedFile};
 ghost use Rattle.gix_ref_packed.specs.OpenFiles.{HasReadFault};
 ghost use Rattle.gix_ref_lookup.specs.Lookups.{meaning_in, packed_refs_in, HasKey, OfKey, IsByRecord, IsLooseTarget, IsNotRead, IsNotReadAt, IsReady, AreAsked, IsOfKey, IsFaultOf, IsFaultOrMemory, IsNotPacked, AreHonest, IsSearched, IsHitOfKey, OfSearched, IsCandidate, IsSound, IsHit, CandidateFails, FindsNone, HasNoKey, IsMissing, SearchesNone};
@@ -20,12 +20,12 @@ use crate::find::loose::{Loose, loose_at};
 use crate::find::records::Records;
 use crate::find::{Error, ReadError, strip};
 use crate::settings::Settings;
-use gix_ref_base::target::Target;
 use gix_ref_files::files::{FileError, Files, ReadAt};
 use gix_ref_name::name::{FullName, FullNameRef};
 use gix_ref_name::namespace::Namespace;
 use gix_ref_packed::packed::Found;
 use gix_ref_packed::raw::Reference;
+use gix_ref_target::target::Target;
 use std::alloc::Global;
 
 /// The target in the file at this path, which is read for a name, less the namespace; `None` where there is no file.

@@ -2,7 +2,7 @@
 ghost use Rattle.std.specs.Prelude.{◌≡◌, ◌≢◌, ◌⊎◌, List, IfOk, IfErr, IfNone, IfSome, OnOk, MatchOption};
 ghost use Rattle.gix_ref_name.specs.ComposedNames.{decomposed};
 ghost use Rattle.gix_ref_name.specs.Names.{full_bytes, partial_bytes, partial_ref_bytes};
-ghost use Rattle.gix_ref_base.specs.PackedRecords.{Record};
+ghost use Rattle.gix_ref_target.specs.PackedRecords.{Record};
 ghost use Rattle.gix_ref_files.specs.Files.{AtEveryStop};
 ghost use Rattle.gix_ref_files.specs.Calls.{Unchanged};
 ghost use Rattle.gix_ref_theory.specs.OnRealTrees.{contents};

@@ -7,9 +7,9 @@ ghost use Rattle.gix_ref_theory.specs.OnRealTrees.{contents};
 ghost use Rattle.gix_ref_lookup.specs.LooseFiles.{IsDecoded};
 
 use crate::loose::{Error, decode};
-use gix_ref_base::target::Target;
 use gix_ref_files::files::{FileError, Files, Node};
 use gix_ref_hash::hash::Kind;
+use gix_ref_target::target::Target;
 use std::alloc::Global;
 
 /// What the loose file at a place is decoded to.

@@ -2,7 +2,7 @@
 ghost use Rattle.std.specs.Prelude.{◌≡◌, ◌⊎◌, ℕ, List, Option, None, IfOk, IfErr, OnOk};
 ghost use Rattle.gix_ref_hash.specs.declared.hash.Kind.{Kind};
 ghost use Rattle.gix_ref_name.specs.Names.{full_ref_bytes};
-ghost use Rattle.gix_ref_base.specs.PackedRecords.{Record};
+ghost use Rattle.gix_ref_target.specs.PackedRecords.{Record};
 ghost use Rattle.gix_ref_files.specs.ReadOnly.{OnlyReads};
 ghost use Rattle.gix_ref_packed.specs.Buffers.{buffer_text, buffer_kind, IsRefusedFile};
 ghost use Rattle.gix_ref_packed.specs.FileSearches.{FindsInFile};
@@ -120,11 +120,11 @@ fn open_records<'b, F: Files>(
 impl<R: ReadAt + Drop> Records<'_, R> {
     ghost use Rattle.std.specs.Prelude.{◌≡◌, ◌⊎◌, ℕ, List, Option, OnOk, OnErr, IfErr, IfOk, IfSome, IfNone, MatchResult, None};
     ghost use Rattle.gix_ref_name.specs.Names.{full_ref_bytes};
-    ghost use Rattle.gix_ref_base.specs.PackedRecords.{Record, record_named};
+    ghost use Rattle.gix_ref_target.specs.PackedRecords.{Record, record_named};
     ghost use Rattle.gix_ref_hash.specs.declared.hash.Kind.{Kind};
-    ghost use Rattle.gix_ref_records.specs.Positions.{CannotRead};
+    ghost use Rattle.gix_ref_packed_text.specs.Positions.{CannotRead};
     ghost use Rattle.gix_ref_packed.specs.Buffers.{IsRefusedFile};
-    ghost use Rattle.gix_ref_records.specs.Windows.{AreFound, HitsRecord};
+    ghost use Rattle.gix_ref_packed_text.specs.Windows.{AreFound, HitsRecord};
     ghost use Rattle.gix_ref_packed.specs.OpenFiles.{HasReadFault};
     ghost use Rattle.gix_ref_lookup.specs.Lookups.{meaning_in, packed_refs_in, AreAsked, IsSearched, IsReady, IsFaultOf, IsNotPacked, AreHonest, IsFaultOrMemory, OfSearched, FindsNone, SearchesNone};
 

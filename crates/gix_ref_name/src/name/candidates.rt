@@ -3,7 +3,7 @@ ghost use Rattle.std.specs.Prelude.{◌≡◌, ◌++◌, IfOk, IfSome, codes, if
 ghost use Rattle.std.specs.List.{Contains};
 ghost use Rattle.std.specs.Option.{option_map};
 ghost use Rattle.std.specs.Cmp.Lexicographic.{pointwise};
-ghost use Rattle.gix_ref_grammar.specs.NameGrammar.{IsFullName};
+ghost use Rattle.gix_ref_name.specs.NameGrammar.{IsFullName};
 ghost use Rattle.gix_ref_name.specs.Names.{partial_ref_bytes, full_bytes};
 ghost use Rattle.gix_ref_name.specs.Candidates.{is_rooted as rooted, fronts_of as fronts, remote_head as head_of_remote};
 

@@ -151,8 +151,8 @@ fn put_front(mut front: Vec<u8>, text: &[u8]) -> Result<Vec<u8>, AllocError>
 
 impl<'a> Category<'a> {
     ghost use Rattle.std.specs.Prelude.{◌≡◌, ◌⊎◌, ◌↔◌, IsTrue, IfOk, MatchResult, Some};
-    ghost use Rattle.gix_ref_grammar.specs.declared.name.error.Error.TheVariants.{Memory};
-    ghost use Rattle.gix_ref_grammar.specs.NameGrammar.{IsFullName, full_error};
+    ghost use Rattle.gix_ref_name.specs.declared.name.error.Error.TheVariants.{Memory};
+    ghost use Rattle.gix_ref_name.specs.NameGrammar.{IsFullName, full_error};
     ghost use Rattle.gix_ref_name.specs.Names.{full_bytes};
     ghost use Rattle.gix_ref_name.specs.Categories.{prefix_of, word_of, front_of, text_of, is_private};
 

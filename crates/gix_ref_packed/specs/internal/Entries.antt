@@ -2,9 +2,9 @@
 use Rattle.std.specs.Prelude.{ℕ, List}
 use Rattle.gix_ref_name.specs.Names.{full_ref_bytes}
 use Rattle.gix_ref_packed.specs.declared.packed.sorting.Entry.{Entry}
-use Rattle.gix_ref_base.specs.PackedRecords.{Record}
-use Rattle.gix_ref_records.specs.OpenedText.{Piece}
-use Rattle.gix_ref_records.specs.Views.{record_of}
+use Rattle.gix_ref_target.specs.PackedRecords.{Record}
+use Rattle.gix_ref_packed_text.specs.OpenedText.{Piece}
+use Rattle.gix_ref_packed_text.specs.Views.{record_of}
 
 abbrev pub entry_record : Entry → Record
 entry_record e = record_of e.reference

@@ -6,7 +6,7 @@ pub mod open;
 use crate::packed::sorting::sorted_text;
 use gix_ref_files::files::{FileError, Files, Node};
 use gix_ref_hash::hash::Kind;
-use gix_ref_records::packed::header_end::{
+use gix_ref_packed_text::packed::header_end::{
     HeaderEnd, first_line_behind, read_header_end, says_sorted,
 };
 use open::Error;
@@ -31,7 +31,7 @@ impl Buffer {
     ghost use Rattle.gix_ref_files.specs.Files.{AtEveryStop, OnEveryDisk};
     ghost use Rattle.gix_ref_files.specs.Calls.{Unchanged};
     ghost use Rattle.gix_ref_files.specs.DiskCalls.{Untouched};
-    ghost use Rattle.gix_ref_records.specs.OpenedText.{Keeps};
+    ghost use Rattle.gix_ref_packed_text.specs.OpenedText.{Keeps};
     ghost use Rattle.gix_ref_packed.specs.Buffers.{buffer_text, buffer_kind, buffer_line, Opened, IsRefusedText, IsRefusedFile, IsStuck, count_open};
 
     /// Opens the file at a path, whose ids are of the kind; `None` where no file is there. `Io` where it cannot be

@@ -13,8 +13,8 @@ use crate::packed::sorted_file::{FindError, ReadError, SortedFile, read_window};
 use gix_ref_files::files::{FileError, Files, ReadAt};
 use gix_ref_hash::hash::Kind;
 use gix_ref_name::name::FullNameRef;
-use gix_ref_records::packed::header_end::says_sorted;
-use gix_ref_records::packed::window::{Found, ids_of};
+use gix_ref_packed_text::packed::header_end::says_sorted;
+use gix_ref_packed_text::packed::window::{Found, ids_of};
 use std::alloc::Global;
 
 /// A `packed-refs` that is open for searches: the file itself where its header says that it is sorted, and else its
@@ -84,7 +84,7 @@ impl<R: ReadAt + Drop> PackedFile<R> {
     ghost use Rattle.gix_ref_packed.specs.Buffers.{IsRefusedFile};
     ghost use Rattle.gix_ref_packed.specs.OpenFiles.{OpenedFile, CountsRefusal, packed_file_text, packed_file_kind, packed_file_line, packed_file_faults, FailsFindByRead};
     ghost use Rattle.gix_ref_packed.specs.FilePrefixes.{BufferHoldsAsked, HoldsPrefix, FailsReadBy};
-    ghost use Rattle.gix_ref_records.specs.Prefixes.{NamesAscend};
+    ghost use Rattle.gix_ref_packed_text.specs.Prefixes.{NamesAscend};
     ghost use Rattle.gix_ref_packed.specs.FileSearches.{FindsInFile, IsNoChange, count_find};
 
     /// Opens the file at a path, whose ids are of the kind; `None` where no file is there. In place of the memory map of gix-ref's

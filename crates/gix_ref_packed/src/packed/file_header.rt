@@ -1,15 +1,15 @@
 //! The header of a `packed-refs` that stays in its file.
 ghost use Rattle.std.specs.Prelude.{◌≡◌, ℕ, List, length, take, true, IfOk, IfErr, MatchOption};
-ghost use Rattle.gix_ref_records.specs.Shown.{IfHere, IsHere};
-ghost use Rattle.gix_ref_records.specs.OpenedText.{NoHeader};
-ghost use Rattle.gix_ref_records.specs.HeaderEnds.{HeadsAt};
+ghost use Rattle.gix_ref_packed_text.specs.Shown.{IfHere, IsHere};
+ghost use Rattle.gix_ref_packed_text.specs.OpenedText.{NoHeader};
+ghost use Rattle.gix_ref_packed_text.specs.HeaderEnds.{HeadsAt};
 ghost use Rattle.gix_ref_packed.specs.FileSearches.{IsNoChange, count_read};
 
 use crate::packed::sorted_file::{MAX_WINDOW_DOUBLINGS, ReadError, read_window, window_size};
 use gix_ref_files::files::ReadAt;
-pub use gix_ref_records::packed::header_end::HeaderEnd;
-use gix_ref_records::packed::header_end::read_header_end;
-use gix_ref_records::packed::window::InWindow;
+pub use gix_ref_packed_text::packed::header_end::HeaderEnd;
+use gix_ref_packed_text::packed::header_end::read_header_end;
+use gix_ref_packed_text::packed::window::InWindow;
 
 /// What the header of a beginning of a text says of the text, which it is as a whole where `at_eof` holds. `Here(None)` where
 /// the text begins with `#` and has no header.

@@ -1,21 +1,21 @@
 //! The search for a reference in a `packed-refs` in memory, by halving.
 ghost use Rattle.std.specs.Prelude.{◌≡◌, ◌≤◌, ◌<◌, ◌++◌, true, false, length};
-ghost use Rattle.gix_ref_grammar.specs.NameGrammar.{IsPartialName};
+ghost use Rattle.gix_ref_name.specs.NameGrammar.{IsPartialName};
 ghost use Rattle.gix_ref_packed.specs.Searches.{Finds, FindsOne, FindsPartial};
-ghost use Rattle.gix_ref_records.specs.SearchCosts.{CountsProbes};
+ghost use Rattle.gix_ref_packed_text.specs.SearchCosts.{CountsProbes};
 ghost use Rattle.gix_ref_name.specs.Candidates.{is_rooted as rooted};
 
 pub mod existing;
 
 use crate::packed::buffer::Buffer;
-use gix_ref_base::layout::packed_key;
 use gix_ref_hash::hash::Kind;
 use gix_ref_name::name::candidates::is_rooted;
 use gix_ref_name::name::{self, FullNameRef, PartialNameRef};
-use gix_ref_records::packed::decode::take_record;
-use gix_ref_records::packed::search::search;
-use gix_ref_records::packed::searchable::InMemory;
-use gix_ref_records::packed::{Probes, Reference};
+use gix_ref_packed_text::packed::decode::take_record;
+use gix_ref_packed_text::packed::search::search;
+use gix_ref_packed_text::packed::searchable::InMemory;
+use gix_ref_packed_text::packed::{Probes, Reference};
+use gix_ref_target::layout::packed_key;
 use std::alloc::{AllocError, Global};
 use std::marker::Brand;
 use std::sync::ledger::{Blank, Ledger};
@@ -173,7 +173,7 @@ impl Buffer {
     ghost use Rattle.std.specs.Prelude.{◌≤◌, length};
     ghost use Rattle.gix_ref_name.specs.Names.{full_ref_bytes, partial_ref_bytes};
     ghost use Rattle.gix_ref_packed.specs.Searches.{Finds, FindsPartial, as_try_find};
-    ghost use Rattle.gix_ref_records.specs.SearchCosts.{CountsProbes};
+    ghost use Rattle.gix_ref_packed_text.specs.SearchCosts.{CountsProbes};
     ghost use Rattle.gix_ref_packed.specs.Buffers.{buffer_text, buffer_kind};
 
     /// The record of a full name, by halving: each look at a record is counted as a probe, and there are at most as many

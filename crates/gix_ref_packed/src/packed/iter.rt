@@ -1,9 +1,9 @@
 //! The records of a `packed-refs` in the order of its lines, with the lines that are no record.
 ghost use Rattle.std.specs.Prelude.{◌≡◌, ◌⊎◌, ◌+◌, ◌<◌, ◌^◌, List, length};
 ghost use Rattle.std.specs.Iterator.{at_most};
-ghost use Rattle.gix_ref_base.specs.PackedRecords.{Record};
-ghost use Rattle.gix_ref_records.specs.RecordGrammar.{Records, Rising};
-ghost use Rattle.gix_ref_records.specs.Prefixes.{IsBadStart, IsListStart, NamesAscend, SplitsAt, SplitsLines};
+ghost use Rattle.gix_ref_target.specs.PackedRecords.{Record};
+ghost use Rattle.gix_ref_packed_text.specs.RecordGrammar.{Records, Rising};
+ghost use Rattle.gix_ref_packed_text.specs.Prefixes.{IsBadStart, IsListStart, NamesAscend, SplitsAt, SplitsLines};
 
 mod error;
 mod parts;
@@ -12,10 +12,10 @@ use crate::packed::buffer::Buffer;
 use crate::packed::sorting::line_count;
 pub use error::Error;
 use gix_ref_hash::hash::Kind;
-use gix_ref_records::packed::Reference;
-use gix_ref_records::packed::bound::lower_bound_in_memory;
-use gix_ref_records::packed::decode::take_record;
-use gix_ref_records::packed::header_end::{first_line_behind, read_header_end};
+use gix_ref_packed_text::packed::Reference;
+use gix_ref_packed_text::packed::bound::lower_bound_in_memory;
+use gix_ref_packed_text::packed::decode::take_record;
+use gix_ref_packed_text::packed::header_end::{first_line_behind, read_header_end};
 use parts::{begins_with_prefix, begins_with_record, count_line_feeds, cut_line, first_line};
 
 /// Where the records of a prefix begin. Where halving met a line that has not the form of a record, that is the front of the
@@ -51,8 +51,8 @@ pub struct Iter<'a> {
 impl<'a> Iter<'a> {
     ghost use Rattle.std.specs.Prelude.{◌≡◌, List, Option, None, IfOk, IfErr, true};
     ghost use Rattle.std.specs.Iterator.Runs.{EachRunFrom};
-    ghost use Rattle.gix_ref_records.specs.declared.packed.decode.options.Header.{Header};
-    ghost use Rattle.gix_ref_records.specs.OpenedText.{Heads, line_behind};
+    ghost use Rattle.gix_ref_packed_text.specs.declared.packed.decode.options.Header.{Header};
+    ghost use Rattle.gix_ref_packed_text.specs.OpenedText.{Heads, line_behind};
     ghost use Rattle.gix_ref_packed.specs.Items.{ItemStep, AreItems, IsHeaderError, unread, unread_text};
 
     /// The records of a whole text, in the order of its lines; lines are numbered from 1, the header's too. The error,
@@ -134,9 +134,9 @@ impl<'a> Iterator for Iter<'a> {
 impl Buffer {
     ghost use Rattle.std.specs.Prelude.{◌≡◌, ◌+◌, ℕ, List, [], None, Some, true};
     ghost use Rattle.std.specs.Iterator.Runs.{EachRunFrom};
-    ghost use Rattle.gix_ref_base.specs.PackedRecords.{Record};
-    ghost use Rattle.gix_ref_records.specs.RecordGrammar.{Records, Rising};
-    ghost use Rattle.gix_ref_records.specs.Prefixes.{records_prefixed, IsListStart, NamesAscend};
+    ghost use Rattle.gix_ref_target.specs.PackedRecords.{Record};
+    ghost use Rattle.gix_ref_packed_text.specs.RecordGrammar.{Records, Rising};
+    ghost use Rattle.gix_ref_packed_text.specs.Prefixes.{records_prefixed, IsListStart, NamesAscend};
     ghost use Rattle.gix_ref_packed.specs.Buffers.{buffer_text, buffer_kind};
     ghost use Rattle.gix_ref_packed.specs.Items.{ItemStep, AreItems, AreRecords, unread_buffer, unread_from};
     ghost use Rattle.gix_ref_packed.specs.YetToGive.{IsYet, Owes};

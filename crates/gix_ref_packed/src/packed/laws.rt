@@ -1,5 +1,5 @@
 //! Laws of the text of `packed-refs`: how it is read, written and opened.
-ghost use Rattle.gix_ref_records.specs.WrittenText.{WrittenTextReadsBack, PackedTextIsOne};
+ghost use Rattle.gix_ref_packed_text.specs.WrittenText.{WrittenTextReadsBack, PackedTextIsOne};
 ghost use Rattle.gix_ref_packed.specs.Buffers.{OpenedHoldsRecords};
 ghost use Rattle.gix_ref_packed.specs.OpenFiles.{OpenedFileHoldsRecords};
 ghost use Rattle.gix_ref_packed.specs.FilePrefixes.{PrefixedBuffersHold};

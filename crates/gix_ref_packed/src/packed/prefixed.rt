@@ -1,15 +1,15 @@
 //! Reading, of a sorted file, only the records of a prefix.
 ghost use Rattle.std.specs.Prelude.{◌≡◌, ◌≤◌, List, IfOk, IfSome, IfNone, MatchBool};
-ghost use Rattle.gix_ref_base.specs.PackedRecords.{Record};
-ghost use Rattle.gix_ref_records.specs.RecordGrammar.{Records};
+ghost use Rattle.gix_ref_target.specs.PackedRecords.{Record};
+ghost use Rattle.gix_ref_packed_text.specs.RecordGrammar.{Records};
 ghost use Rattle.gix_ref_packed.specs.FilePrefixes.{IsPast, HasNoNext};
 
 use crate::packed::buffer::Buffer;
 use crate::packed::sorted_file::{ReadError, SortedFile, read_window};
 use gix_ref_files::files::ReadAt;
 use gix_ref_hash::hash::Kind;
-use gix_ref_records::packed::bound::{Bound, lower_bound};
-use gix_ref_records::packed::decode::take_record;
+use gix_ref_packed_text::packed::bound::{Bound, lower_bound};
+use gix_ref_packed_text::packed::decode::take_record;
 use std::alloc::{AllocError, Global};
 
 /// Where the records of a prefix are more than this part of the file, the whole is read: that costs less than to look
@@ -51,7 +51,7 @@ fn is_records(text: &[u8], kind: Kind) -> bool
 impl<R: ReadAt + Drop> SortedFile<R> {
     ghost use Rattle.std.specs.Prelude.{◌≡◌, ◌≤◌, ◌-◌, List, length, take, drop, IfOk, IfErr};
     ghost use Rattle.gix_ref_packed.specs.FilePrefixes.{BufferHoldsAsked, Encloses, EnclosesAsked, HoldsPrefix};
-    ghost use Rattle.gix_ref_records.specs.Prefixes.{NamesAscend};
+    ghost use Rattle.gix_ref_packed_text.specs.Prefixes.{NamesAscend};
     ghost use Rattle.gix_ref_packed.specs.FileSearches.{IsNoChange, count_read};
 
     /// Two places between which all records of the prefix are: halving finds either. They are those of all records where

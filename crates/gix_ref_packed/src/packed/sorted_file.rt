@@ -2,16 +2,16 @@
 ghost use Rattle.std.specs.Prelude.{◌≡◌, ◌+◌, ◌-◌, ◌<◌, ◌≤◌, ◌^◌, length, take, drop, OnOk, IfOk, IfErr};
 ghost use Rattle.gix_ref_name.specs.Names.{full_ref_bytes};
 ghost use Rattle.gix_ref_packed.specs.FileSearches.{IsNoChange, FindsInFile, count_read, count_find};
-ghost use Rattle.gix_ref_records.specs.Windows.{IsWindow};
+ghost use Rattle.gix_ref_packed_text.specs.Windows.{IsWindow};
 ghost use Rattle.gix_ref_packed.specs.declared.packed.sorted_file.TheConstants.{MAX_WINDOW_DOUBLINGS};
 
 use gix_ref_files::files::{FileError, ReadAt};
 use gix_ref_hash::hash::Kind;
 use gix_ref_name::name::FullNameRef;
-use gix_ref_records::packed::Probes;
-use gix_ref_records::packed::search::{SearchError, search};
-use gix_ref_records::packed::searchable::{Look, Probe, SearchableRecords};
-use gix_ref_records::packed::window::{Found, InWindow, probe_in, record_in};
+use gix_ref_packed_text::packed::Probes;
+use gix_ref_packed_text::packed::search::{SearchError, search};
+use gix_ref_packed_text::packed::searchable::{Look, Probe, SearchableRecords};
+use gix_ref_packed_text::packed::window::{Found, InWindow, probe_in, record_in};
 use std::alloc::{AllocError, Global};
 use std::marker::Brand;
 use std::sync::ledger::{Blank, Ledger};
@@ -126,11 +126,11 @@ pub(crate) fn read_window<R: ReadAt>(
 impl<R: ReadAt + Drop> SortedFile<R> {
     ghost use Rattle.std.specs.Prelude.{◌≡◌, ◌≤◌, ◌<◌, ◌+◌, ◌^◌, false, length, drop, IfOk, IfErr, IfSome, IsSome};
     ghost use Rattle.gix_ref_name.specs.Names.{full_ref_bytes};
-    ghost use Rattle.gix_ref_records.specs.SearchCosts.{CountsProbes};
-    ghost use Rattle.gix_ref_records.specs.Windows.{FrontIs};
-    ghost use Rattle.gix_ref_records.specs.Positions.{IsPlain};
-    ghost use Rattle.gix_ref_records.specs.Probed.{IsProbeAt};
-    ghost use Rattle.gix_ref_records.specs.Shown.{IfHere, IsHere};
+    ghost use Rattle.gix_ref_packed_text.specs.SearchCosts.{CountsProbes};
+    ghost use Rattle.gix_ref_packed_text.specs.Windows.{FrontIs};
+    ghost use Rattle.gix_ref_packed_text.specs.Positions.{IsPlain};
+    ghost use Rattle.gix_ref_packed_text.specs.Probed.{IsProbeAt};
+    ghost use Rattle.gix_ref_packed_text.specs.Shown.{IfHere, IsHere};
     ghost use Rattle.gix_ref_packed.specs.FileSearches.{IsNoChange, FindsInFile, count_read, count_find};
 
     /// The records of a file from that place on, in bytes. Nothing is read yet. Not in gix-ref, which maps the file into memory.

@@ -4,17 +4,17 @@ ghost use Rattle.std.specs.List.{All, flat_map};
 ghost use Rattle.std.specs.List.Sorted.{IsPermutation, IsSortedByKey, IsStableByKey};
 ghost use Rattle.std.specs.Cmp.Lexicographic.{slice_cmp};
 ghost use Rattle.std.specs.Ordering.{nat_cmp};
-ghost use Rattle.gix_ref_base.specs.PackedRecords.{Record};
-ghost use Rattle.gix_ref_records.specs.RecordGrammar.{Records, Below, Rising};
-ghost use Rattle.gix_ref_records.specs.OpenedText.{lines_of, IsPiece, SortsText};
-ghost use Rattle.gix_ref_records.specs.Views.{record_of};
+ghost use Rattle.gix_ref_target.specs.PackedRecords.{Record};
+ghost use Rattle.gix_ref_packed_text.specs.RecordGrammar.{Records, Below, Rising};
+ghost use Rattle.gix_ref_packed_text.specs.OpenedText.{lines_of, IsPiece, SortsText};
+ghost use Rattle.gix_ref_packed_text.specs.Views.{record_of};
 ghost use Rattle.gix_ref_packed.specs.internal.Entries.{entry_record, entry_piece, entry_ref_name, entry_bytes};
 ghost use Rattle.gix_ref_packed.specs.Buffers.{IsStuck};
 
 use crate::packed::buffer::open::Error;
 use gix_ref_hash::hash::Kind;
-use gix_ref_records::packed::Reference;
-use gix_ref_records::packed::decode::take_record;
+use gix_ref_packed_text::packed::Reference;
+use gix_ref_packed_text::packed::decode::take_record;
 use std::alloc::{AllocError, Global};
 use std::cmp::Ordering;
 

@@ -5,7 +5,7 @@ use Rattle.gix_ref_files.specs.Disk.{Disk, moved_on}
 use Rattle.gix_ref_files.specs.Lock.{lock_of}
 use Rattle.gix_ref_files.specs.Settled.{AllStay, MayHold}
 use Rattle.gix_ref_files.specs.Tree.{Path, file_of}
-use Rattle.gix_ref_rewrite.specs.declared.outcome.Rewrite.{Rewrite}
+use Rattle.gix_ref_packed_text.specs.declared.outcome.Rewrite.{Rewrite}
 use Rattle.gix_ref_packed_transaction.specs.PackedLosses.{BecomesFile, OthersSettled, folders_at}
 
 -- `packed-refs` may hold what it held, or what the rewrite makes of it; its folders stay, and so do all other files

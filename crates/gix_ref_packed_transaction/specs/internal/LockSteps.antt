@@ -5,8 +5,8 @@ use Rattle.gix_ref_files.specs.Lock.{lock_of}
 use Rattle.gix_ref_files.specs.Tree.{Tree, Path, is_file, is_folder}
 use Rattle.gix_ref_files.specs.declared.files.FileError.TheVariants.{Memory as no_memory}
 use Rattle.gix_ref_packed_transaction.specs.PackedTransactions.{OnlyLockChanges}
-use Rattle.gix_ref_repack.specs.declared.error.Error.{Error}
-use Rattle.gix_ref_repack.specs.declared.error.Error.TheVariants.{Commit, Iteration, Io, Memory}
+use Rattle.gix_ref_packed_transaction.specs.declared.error.Error.{Error}
+use Rattle.gix_ref_packed_transaction.specs.declared.error.Error.TheVariants.{Commit, Iteration, Io, Memory}
 
 -- the lock is gone, and nothing else has changed
 abbrev pub IsUnlocked : (place : Path) → (before T : Tree) → Type 0

@@ -3,21 +3,21 @@ ghost use Rattle.std.specs.Prelude.{◌≡◌, ◌≢◌, ◌⊎◌, [], IfErr, 
 ghost use Rattle.std.specs.List.{All};
 ghost use Rattle.std.specs.Option.{option_map};
 ghost use Rattle.gix_ref_hash.specs.Ids.{id_kind, IsWhole};
-ghost use Rattle.gix_ref_grammar.specs.NameGrammar.{IsFullName};
+ghost use Rattle.gix_ref_name.specs.NameGrammar.{IsFullName};
 ghost use Rattle.gix_ref_edits.specs.RefEdits.{name_of};
 ghost use Rattle.gix_ref_object.specs.Peeling.{peel};
-ghost use Rattle.gix_ref_rewrite.specs.Laws.{IsIdOf};
-ghost use Rattle.gix_ref_repack.specs.Changes.{AreReadable, change_value, change_values};
+ghost use Rattle.gix_ref_packed_text.specs.Laws.{IsIdOf};
+ghost use Rattle.gix_ref_packed_transaction.specs.Changes.{AreReadable, change_value, change_values};
 ghost use Rattle.gix_ref_transaction.specs.Peels.{HasEnd, IsPeeledOfKind, IsUnpeeled};
 ghost use Rattle.gix_ref_packed_transaction.specs.RecordChanges.{AreChangesOf, AreSortedChangesOf, IsChangeOf, IsFirstNotTaken, IsNotTaken, object_put};
 
+use crate::changes::KeyChange;
 use crate::transaction::prepare::Error;
-use gix_ref_base::target::Target;
 use gix_ref_edits::transaction::{Change, RefEdit, RefLog};
 use gix_ref_hash::hash::{Kind, ObjectId};
 use gix_ref_object::object::Find;
-use gix_ref_repack::changes::KeyChange;
-use gix_ref_rewrite::edit::NewRecord;
+use gix_ref_packed_text::edit::NewRecord;
+use gix_ref_target::target::Target;
 use gix_ref_transaction::edit::deletes_reference;
 use gix_ref_transaction::prepare::peel::end_of;
 use std::alloc::Global;

@@ -7,22 +7,22 @@ ghost use Rattle.gix_ref_files.specs.DiskCalls.{RemovingFileOn, RenamingOn, Sync
 ghost use Rattle.gix_ref_files.specs.Files.{AtEveryStop, OnEveryDisk, disk_of, DiskBecomes, NoFewer};
 ghost use Rattle.gix_ref_files.specs.Lock.{lock_of};
 ghost use Rattle.gix_ref_files.specs.Tree.{is_file, is_folder, moved};
-ghost use Rattle.gix_ref_repack.specs.Changes.{change_values};
+ghost use Rattle.gix_ref_packed_transaction.specs.Changes.{change_values};
 ghost use Rattle.gix_ref_packed_transaction.specs.PackedLosses.{IsReadyOn, SettlesPackedRefs};
 ghost use Rattle.gix_ref_packed_transaction.specs.PackedTransactions.{IsLockEmpty, IsMadeOf, IsOldOrRewritten, IsReadBuffer, IsRewritten, IsStuckBuffer, OnlyLockGoes};
 ghost use Rattle.gix_ref_packed_transaction.specs.internal.Keeping.{IsMoved, KeepsSettled};
 ghost use Rattle.gix_ref_packed_transaction.specs.internal.LockSteps.{IsUnlocked, IsWhyNotPut};
 
+use crate::changed::{changed, made};
+use crate::changes::KeyChange;
+pub use crate::error::Error;
+use crate::fill::write_text;
 use gix_ref_files::files::{FileError, Files, Rename};
 use gix_ref_files::lock::LockFile;
 use gix_ref_files::paths::folder;
 use gix_ref_hash::hash::Kind;
 use gix_ref_packed::packed::Buffer;
-use gix_ref_repack::changed::{changed, made};
-use gix_ref_repack::changes::KeyChange;
-pub use gix_ref_repack::error::Error;
-use gix_ref_repack::fill::write_text;
-use gix_ref_rewrite::outcome::Rewrite;
+use gix_ref_packed_text::outcome::Rewrite;
 use std::alloc::Global;
 use std::io::ErrorKind;
 

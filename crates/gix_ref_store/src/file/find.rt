@@ -28,7 +28,7 @@ fn not_found(alloc: Global, partial: PartialNameRef<'_>) -> existing::Error
 impl<F: Files> Store<F> {
     ghost use Rattle.std.specs.Prelude.{◌≡◌, List, Some, IfOk, IfErr, IfNone, OnOk, true, false, is_some};
     ghost use Rattle.gix_ref_name.specs.Names.{partial_ref_bytes};
-    ghost use Rattle.gix_ref_base.specs.PackedRecords.{Record};
+    ghost use Rattle.gix_ref_target.specs.PackedRecords.{Record};
     ghost use Rattle.gix_ref_lookup.specs.Lookups.{IsSound, AreHonest};
     ghost use Rattle.gix_ref_lookup.specs.declared.find.records.Records.TheVariants.{Unopened};
     ghost use Rattle.gix_ref_store.specs.Store.{files_of};

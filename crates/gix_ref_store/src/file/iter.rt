@@ -121,7 +121,7 @@ pub struct Platform<'s, F, P = Option<Buffer>> {
 
 impl<'s, F: Files> Platform<'s, F> {
     ghost use Rattle.std.specs.Prelude.{◌≡◌, List, IfOk, IfErr, OnOk};
-    ghost use Rattle.gix_ref_base.specs.PackedRecords.{Record};
+    ghost use Rattle.gix_ref_target.specs.PackedRecords.{Record};
     ghost use Rattle.gix_ref_listing.specs.declared.prefix.Error.TheVariants.{Memory};
     ghost use Rattle.gix_ref_listing.specs.CleanPrefixes.{IsAcceptedPrefix, IsRefusedPrefix};
     ghost use Rattle.gix_ref_store.specs.Lookup.{AreRecordsIn, LooksUp};
@@ -223,7 +223,7 @@ fn of_open(error: open::Error) -> Error
 
 impl<F: Files> Store<F> {
     ghost use Rattle.std.specs.Prelude.{◌≡◌, ◌⊎◌, ◌≤◌, ◌+◌, [], List, IfOk, IfErr, IfSome, IfNone, OnOk, OnErr};
-    ghost use Rattle.gix_ref_base.specs.PackedRecords.{Record};
+    ghost use Rattle.gix_ref_target.specs.PackedRecords.{Record};
     ghost use Rattle.gix_ref_listing.specs.declared.prefix.Error.TheVariants.{Memory};
     ghost use Rattle.gix_ref_store.specs.Lookup.{AreRecordsIn, CanBeOpened, LooksUp, settings_of};
     ghost use Rattle.std.specs.Option.{option_len};

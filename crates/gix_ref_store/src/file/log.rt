@@ -4,11 +4,11 @@ ghost use Rattle.std.specs.Prelude.{◌≡◌};
 use crate::file::settings::settings;
 use crate::file::store::Store;
 use gix_ref_files::files::Files;
-pub use gix_ref_lines::create_or_update;
 use gix_ref_log::log::iter::{Forward, Reverse, forward, reverse};
+pub use gix_ref_lookup::reflog::Error;
+use gix_ref_lookup::reflog::{log_exists, open_log, read_log};
 use gix_ref_name::name::FullNameRef;
-pub use gix_ref_reflog::Error;
-use gix_ref_reflog::reflog::{log_exists, open_log, read_log};
+pub use gix_ref_reflog::create_or_update;
 use std::alloc::Global;
 
 /// How many bytes `Platform::rev` keeps of a log in memory, which is the length of the longest line that it gives.
@@ -18,7 +18,7 @@ impl<F: Files> Store<F> {
     ghost use Rattle.std.specs.Prelude.{◌≡◌, length, false, IfOk, IfSome, IfErr, OnOk};
     ghost use Rattle.gix_ref_name.specs.Names.{full_ref_bytes};
     ghost use Rattle.gix_ref_files.specs.Tree.{is_file};
-    ghost use Rattle.gix_ref_reflog.specs.Reflogs.{count_log};
+    ghost use Rattle.gix_ref_lookup.specs.Reflogs.{count_log};
     ghost use Rattle.gix_ref_store.specs.Store.{files_of};
     ghost use Rattle.gix_ref_store.specs.Lookup.{LooksUp};
     ghost use Rattle.gix_ref_store.specs.Reflogs.{reflog_at, is_log_prohibited, ReadsForward, ReadsBackward, IsNoReflog, IsNoReverse, EndsAtErrors};

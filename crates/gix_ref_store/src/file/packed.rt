@@ -26,7 +26,7 @@ impl<F> Store<F> {
 
 impl<F: Files> Store<F> {
     ghost use Rattle.std.specs.Prelude.{◌≡◌, List, IfOk, IfErr, OnOk, Err, is_some};
-    ghost use Rattle.gix_ref_base.specs.PackedRecords.{Record};
+    ghost use Rattle.gix_ref_target.specs.PackedRecords.{Record};
     ghost use Rattle.gix_ref_files.specs.Tree.{is_file};
     ghost use Rattle.gix_ref_packed.specs.Buffers.{count_open};
     ghost use Rattle.gix_ref_packed.specs.OpenFiles.{CountsRefusal};

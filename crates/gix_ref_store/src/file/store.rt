@@ -56,7 +56,7 @@ fn are_clean_paths(git_dir: &Vec<u8>, common_dir: &Option<Vec<u8>>) -> bool
 
 impl<F> Store<F> {
     ghost use Rattle.std.specs.Prelude.{◌≡◌, IfOk, MatchResult, Some, None};
-    ghost use Rattle.gix_ref_base.specs.Layout.{packed_refs};
+    ghost use Rattle.gix_ref_target.specs.Layout.{packed_refs};
     ghost use Rattle.gix_ref_name.specs.Names.{full_ref_bytes};
     ghost use Rattle.std.specs.Option.{option_map};
     ghost use Rattle.gix_ref_store.specs.Options.{default_options};

@@ -5,7 +5,7 @@ use Rattle.std.specs.Option.{option_map}
 use Rattle.gix_ref_hash.specs.declared.hash.Kind.{Kind}
 use Rattle.gix_ref_name.specs.Names.{full_bytes}
 use Rattle.gix_ref_name.specs.declared.name.FullName.{FullName}
-use Rattle.gix_ref_base.specs.Targets.{TargetValue, target_name, target_value, stripped_target}
+use Rattle.gix_ref_target.specs.Targets.{TargetValue, target_name, target_value, stripped_target}
 use Rattle.gix_ref_lookup.specs.declared.find.loose.Loose.{Loose}
 use Rattle.gix_ref_lookup.specs.declared.find.loose.Loose.TheVariants as loose_files
 use Rattle.gix_ref_theory.specs.Readings.{Store}

@@ -5,10 +5,10 @@ use Rattle.gix_ref_files.specs.declared.files.ReadAt.{Ghosts}
 use Rattle.gix_ref_hash.specs.declared.hash.ObjectId.{ObjectId}
 use Rattle.gix_ref_theory.specs.Views.{View}
 use Rattle.gix_ref_edits.specs.RefEdits.{name_of}
-use Rattle.gix_ref_records.specs.Positions.{CannotRead}
-use Rattle.gix_ref_records.specs.Windows.{HitsRecord}
-use Rattle.gix_ref_records.specs.declared.packed.window.Found.{Found}
-use Rattle.gix_ref_base.specs.PackedRecords.{Record}
+use Rattle.gix_ref_packed_text.specs.Positions.{CannotRead}
+use Rattle.gix_ref_packed_text.specs.Windows.{HitsRecord}
+use Rattle.gix_ref_packed_text.specs.declared.packed.window.Found.{Found}
+use Rattle.gix_ref_target.specs.PackedRecords.{Record}
 use Rattle.gix_ref_files.specs.declared.files.FileError.{FileError}
 use Rattle.gix_ref_files.specs.Files.{Meaning, FaultCounts}
 use Rattle.gix_ref_files.specs.Tree.{Content}

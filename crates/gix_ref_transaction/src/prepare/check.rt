@@ -3,22 +3,22 @@ ghost use Rattle.std.specs.Prelude.{◌≡◌, ◌↔◌, ◌⊎◌, [], IsTrue,
 ghost use Rattle.std.specs.Option.{option_map};
 ghost use Rattle.gix_ref_hash.specs.Ids.{id_kind, IsWhole};
 ghost use Rattle.gix_ref_name.specs.Names.{full_ref_bytes};
-ghost use Rattle.gix_ref_base.specs.Targets.{target_ref_value};
+ghost use Rattle.gix_ref_target.specs.Targets.{target_ref_value};
 ghost use Rattle.gix_ref_transaction.specs.Causes.{IsValidEdit, IsInvalidEdit, IsWellNamed, IsMisnamed, AllValid, IsFirstInvalid, IsPossible, IsFullTarget, IsOfKind, IsWholeTarget, HasKind, IsNotIo, IsDoubling, names_of};
 ghost use Rattle.gix_ref_transaction.specs.PrepareSteps.{setting_of};
 ghost use Rattle.gix_ref_edits.specs.DoubledNames.{NoneDoubled};
-ghost use Rattle.gix_ref_base.specs.Locations.{is_safe};
+ghost use Rattle.gix_ref_target.specs.Locations.{is_safe};
 ghost use Rattle.gix_ref_edits.specs.RefEdits.{new_of};
 
 use crate::prepare::Error;
-use gix_ref_base::layout::location_of;
-use gix_ref_base::target::TargetRef;
 use gix_ref_edits::transaction::{
     Change, EditError, PreviousValue, RefEdit, RefEditsExt, SplitError,
 };
 use gix_ref_hash::hash::{Kind, ObjectId};
 use gix_ref_lookup::settings::Settings;
 use gix_ref_name::name::FullNameRef;
+use gix_ref_target::layout::location_of;
+use gix_ref_target::target::TargetRef;
 use std::alloc::{AllocError, Global};
 
 /// Whether a change can be: a deletion does not expect that there is no reference.

@@ -1,10 +1,10 @@
 //! Why a transaction is not prepared.
-use gix_ref_base::target::Target;
 use gix_ref_edits::transaction::SplitError;
 use gix_ref_files::files::FileError;
 use gix_ref_lookup::loose;
 use gix_ref_name::name::FullName;
 use gix_ref_packed::packed;
+use gix_ref_target::target::Target;
 use std::alloc::AllocError;
 use std::convert::Infallible;
 use thiserror::Error;

@@ -1,15 +1,15 @@
 //! What was found against what an edit expects.
 ghost use Rattle.std.specs.Prelude.{◌≡◌, ◌≢◌, Some, None, MatchResult, MatchBool, IsErrAnd};
-ghost use Rattle.gix_ref_base.specs.Targets.{target_value};
+ghost use Rattle.gix_ref_target.specs.Targets.{target_value};
 ghost use Rattle.gix_ref_edits.specs.RefEdits.{Expects, expected_of, new_of, previous_of};
 ghost use Rattle.gix_ref_transaction.specs.Causes.{required, IsMismatch, IsPossible};
 ghost use Rattle.gix_ref_transaction.specs.PrepareSteps.{value_of};
 ghost use Rattle.gix_ref_edits.specs.declared.transaction.PreviousValue.TheVariants.{MustNotExist as must_not_exist};
 
 use crate::prepare::Error;
-use gix_ref_base::target::Target;
 use gix_ref_edits::transaction::{Change, PreviousValue, RefEdit};
 use gix_ref_hash::hash::Kind;
+use gix_ref_target::target::Target;
 use std::alloc::Global;
 
 /// Whether two targets are the same.

@@ -17,11 +17,11 @@ ghost use Rattle.gix_ref_transaction.specs.PrepareSteps.{setting_of, updates, pa
 use crate::edit::{Edit, take_lock as make_lock};
 use crate::packing::{Packing, is_packed};
 use crate::prepare::Error;
-use gix_ref_base::layout::packed_key;
 use gix_ref_edits::transaction::{Change, RefEdit, RefLog};
 use gix_ref_files::files::{Create, Files, Node};
 use gix_ref_files::lock::LockFile;
 use gix_ref_lookup::settings::Settings;
+use gix_ref_target::layout::packed_key;
 use std::alloc::Global;
 
 /// Whether a change is of the reference, and not of its log alone.

@@ -10,12 +10,12 @@ ghost use Rattle.gix_ref_transaction.specs.PrepareSteps.{all_asked, ids_in, sett
 use crate::edit::{Edit, PackedObject};
 use crate::packing::{PackedRefs, is_packed};
 use crate::prepare::{Error, packed};
-use gix_ref_base::target::Target;
 use gix_ref_edits::transaction::Change;
 use gix_ref_hash::hash::{Kind, ObjectId};
 use gix_ref_lookup::settings::Settings;
 use gix_ref_object::object::{Find, FindError};
 use gix_ref_object::peel::{PeelError, peel_to_end};
+use gix_ref_target::target::Target;
 use std::alloc::Global;
 
 /// How a fault of peeling is reported.

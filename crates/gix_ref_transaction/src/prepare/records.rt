@@ -3,7 +3,7 @@ ghost use Rattle.std.specs.Prelude.{◌≡◌, ◌⊎◌, ℕ, List, Option, Non
 ghost use Rattle.gix_ref_files.specs.Files.{count_after, FaultCounts};
 ghost use Rattle.gix_ref_hash.specs.declared.hash.Kind.{Kind};
 ghost use Rattle.gix_ref_name.specs.Names.{full_ref_bytes};
-ghost use Rattle.gix_ref_base.specs.PackedRecords.{Record, record_named};
+ghost use Rattle.gix_ref_target.specs.PackedRecords.{Record, record_named};
 ghost use Rattle.gix_ref_files.specs.Tree.{Content};
 ghost use Rattle.gix_ref_files.specs.ReadOnly.{OnlyReads};
 ghost use Rattle.gix_ref_theory.specs.OnRealTrees.{contents};

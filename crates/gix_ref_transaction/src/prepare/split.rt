@@ -2,7 +2,7 @@
 ghost use Rattle.std.specs.Prelude.{◌≡◌, ◌<◌, ◌+◌, ◌^◌, ◌⊎◌, true, OnOk, IfOk, IfErr, MatchBool, All, length, vec_len};
 ghost use Rattle.std.specs.Option.{option_map};
 ghost use Rattle.gix_ref_name.specs.Names.{full_bytes, full_ref_bytes};
-ghost use Rattle.gix_ref_base.specs.Targets.{target_name, target_value};
+ghost use Rattle.gix_ref_target.specs.Targets.{target_name, target_value};
 ghost use Rattle.gix_ref_theory.specs.OnRealTrees.{contents};
 ghost use Rattle.gix_ref_lookup.specs.StoreLayout.{namespace_text};
 ghost use Rattle.gix_ref_edits.specs.EditValues.{edit_value};
@@ -18,7 +18,6 @@ ghost use Rattle.gix_ref_transaction.specs.internal.SplitRounds.{name_by, led_to
 
 use crate::prepare::Error;
 use crate::prepare::check::check_name;
-use gix_ref_base::target::Target;
 use gix_ref_edits::transaction::{RefEdit, SplitError};
 use gix_ref_files::files::Files;
 use gix_ref_lookup::find::loose::{Loose, loose_at};
@@ -26,6 +25,7 @@ use gix_ref_lookup::find::strip;
 use gix_ref_lookup::settings::Settings;
 use gix_ref_name::name::{FullName, FullNameRef};
 use gix_ref_name::namespace::Namespace;
+use gix_ref_target::target::Target;
 use std::alloc::{AllocError, Global};
 
 /// Edits of a split list.

@@ -5,7 +5,7 @@ use Rattle.gix_ref_files.specs.Disk.{Disk}
 use Rattle.gix_ref_files.specs.Lock.{lock_of}
 use Rattle.gix_ref_files.specs.Tree.{Tree, put}
 use Rattle.gix_ref_files.specs.Tree.Content.{File}
-use Rattle.gix_ref_rewrite.specs.declared.outcome.Rewrite.{Rewrite}
+use Rattle.gix_ref_packed_text.specs.declared.outcome.Rewrite.{Rewrite}
 use Rattle.gix_ref_transaction.specs.PrepareSteps.{AreWholeLocks}
 use Rattle.gix_ref_commit.specs.Decided.{IsFilled}
 use Rattle.gix_ref_commit.proofs.Filling.{empty_at, fills_here, fills_none, not_filled, reads_then_fills, wholes_filled}

@@ -9,8 +9,8 @@ ghost use Rattle.gix_ref_edits.specs.SplitResults.{HasSplits, HasTooManySplits};
 
 use crate::transaction::RefEdit;
 use crate::transaction::ext::{EditEntry, SplitError};
-use gix_ref_base::target::Target;
 use gix_ref_name::name::PartialNameRef;
+use gix_ref_target::target::Target;
 use std::alloc::Global;
 
 /// Looks up the reference of an entry's edit, where the edit follows it. Where it is symbolic, the entry for the child

@@ -7,8 +7,8 @@ ghost use Rattle.gix_ref_edits.specs.internal.Rounds.{HasRound, IsLookUpFault, v
 
 use crate::transaction::ext::SplitError;
 use crate::transaction::{Change, PreviousValue, RefEdit, RefLog};
-use gix_ref_base::target::Target;
 use gix_ref_name::name::{FullName, PartialNameRef};
+use gix_ref_target::target::Target;
 use std::alloc::AllocError;
 
 impl Change {

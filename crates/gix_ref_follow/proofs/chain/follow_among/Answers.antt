@@ -1,8 +1,8 @@
 use Rattle.std.proofs.Common.{◌≡◌, ◌-◌, ◌+◌, suc, List, Err, arith, sym, ◌∙◌, ap, subst}
-use Rattle.gix_ref_base.specs.Targets.{target_value}
-use Rattle.gix_ref_base.specs.PackedRecords.{Record}
+use Rattle.gix_ref_target.specs.Targets.{target_value}
+use Rattle.gix_ref_target.specs.PackedRecords.{Record}
 use Rattle.gix_ref_store.specs.Lookup.{AreAskedIn}
-use Rattle.gix_ref_records.specs.declared.raw.Reference.{Reference}
+use Rattle.gix_ref_packed_text.specs.declared.raw.Reference.{Reference}
 use Rattle.gix_ref_follow.specs.Following.{HitsByName, IsStep, at_of, follow}
 use Rattle.gix_ref_follow.specs.Followed.{bytes_of_names, finds_in, HitsNext, RefusesStep, Follows, IsNotFollowed}
 use Rattle.gix_ref_follow.proofs.Steps.{id_of, follow_object, follow_none, follow_on, follows_refused, leads_more}

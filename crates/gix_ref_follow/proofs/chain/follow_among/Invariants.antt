@@ -1,5 +1,5 @@
 use Rattle.std.proofs.Common.{◌≡◌, ◌-◌, List}
-use Rattle.gix_ref_base.specs.PackedRecords.{Record}
+use Rattle.gix_ref_target.specs.PackedRecords.{Record}
 use Rattle.gix_ref_lookup.specs.Lookups.{AreHonest}
 use Rattle.gix_ref_store.specs.Lookup.{AreAskedIn, AreStillAskedIn, LooksUp}
 use Rattle.gix_ref_store.specs.Store.{files_of}

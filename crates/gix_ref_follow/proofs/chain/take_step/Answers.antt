@@ -1,7 +1,7 @@
 use Rattle.std.proofs.Common.{ℕ, List, Some, sym, subst, refl}
 use Rattle.gix_ref_name.specs.Names.{full_bytes}
-use Rattle.gix_ref_base.specs.Targets.{target_value}
-use Rattle.gix_ref_records.specs.declared.raw.Reference.{Reference}
+use Rattle.gix_ref_target.specs.Targets.{target_value}
+use Rattle.gix_ref_packed_text.specs.declared.raw.Reference.{Reference}
 use Rattle.gix_ref_lookup.proofs.Opening.{if_err}
 use Rattle.gix_ref_lookup.specs.declared.find.existing.Error.{Error as Missing}
 use Rattle.gix_ref_store.specs.Lookup.{MissesBy, MissesIn, HitsIn}

@@ -1,10 +1,9 @@
-use Rattle.std.proofs.Common.{sym, ap, subst, List, ℕ}
-use Rattle.gix_ref_records.specs.Prefixes.{records_prefixed}
+use Rattle.std.proofs.Common.{sym, ap, subst, List, ℕ, []}
+use Rattle.gix_ref_packed_text.specs.Prefixes.{records_prefixed}
 use Rattle.gix_ref_listing.specs.OwnRecords.{own_records}
 use Rattle.gix_ref_listing.specs.Listings.{merged_listing}
 use Rattle.gix_ref_listing.specs.WholeListings.{AreHeldOf, IsAskedOf, key_in}
 use Rattle.gix_ref_listing.specs.PlainSettings.{plain}
-use Rattle.std.proofs.Common.{[]}
 use Rattle.gix_ref_listing.specs.OwedNames.{IsTextFor}
 use Rattle.gix_ref_listing.proofs.OwedLemmas.{under_names}
 use Rattle.gix_ref_listing.proofs.PlainListings.{same_own, to_plain, owes_to_plain}

@@ -1,8 +1,7 @@
-use Rattle.std.proofs.Common.{◌∙◌, ap, subst, ◌++◌, List}
-use Rattle.gix_ref_base.specs.PackedRecords.{Record}
-use Rattle.gix_ref_records.specs.Prefixes.{records_prefixed}
+use Rattle.std.proofs.Common.{◌∙◌, ap, subst, ◌++◌, List, [], Some, sym}
+use Rattle.gix_ref_target.specs.PackedRecords.{Record}
+use Rattle.gix_ref_packed_text.specs.Prefixes.{records_prefixed}
 use Rattle.gix_ref_packed.specs.YetToGive.{IsYet}
-use Rattle.std.proofs.Common.{[], Some, sym}
 use Rattle.gix_ref_packed.specs.Buffers.{buffer_kind, buffer_text}
 use Rattle.gix_ref_listing.specs.OwedNames.{Text, OwesOthers}
 use Rattle.gix_ref_listing.proofs.OwedLemmas.{owes_all}

@@ -1,5 +1,5 @@
 use Rattle.std.proofs.Common.{sym, ◌∙◌, ap, Some, None, rules}
-use Rattle.gix_ref_records.specs.Views.{record_of}
+use Rattle.gix_ref_packed_text.specs.Views.{record_of}
 use Rattle.gix_ref_packed.proofs.OneItem.{next_gives_first}
 use Rattle.gix_ref_listing.specs.OwnRecords.{own_records, with_own}
 use Rattle.gix_ref_listing.proofs.OwedLemmas.{ended, passed, taken}

@@ -1,5 +1,5 @@
 use Rattle.std.proofs.Common.{ℕ, List, Some, ◌≡◌, ◌≤◌}
-use Rattle.gix_ref_base.specs.PackedRecords.{Record}
+use Rattle.gix_ref_target.specs.PackedRecords.{Record}
 use Rattle.gix_ref_packed.specs.YetToGive.{IsYet}
 use Rattle.gix_ref_listing.specs.OwedNames.{Text, OwesOthers}
 use Rattle.gix_ref_listing.specs.OwnRecords.{own_records, records_left}

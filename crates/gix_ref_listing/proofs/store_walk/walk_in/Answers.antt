@@ -1,5 +1,5 @@
 use Rattle.std.proofs.Common.{◌∙◌, refl}
-use Rattle.gix_ref_base.specs.Layout.{below}
+use Rattle.gix_ref_target.specs.Layout.{below}
 use Rattle.gix_ref_theory.specs.OnRealTrees.{view_of}
 use Rattle.gix_ref_lookup.specs.StoreLayout.{namespace_text}
 use Rattle.gix_ref_listing.proofs.StoreWalks.{of_root, all_store}

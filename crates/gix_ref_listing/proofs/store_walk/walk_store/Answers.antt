@@ -1,7 +1,7 @@
 use Rattle.std.proofs.Common.{◌≢◌, [], sym, subst, List, ℕ}
 use Rattle.gix_ref_files.proofs.Meeting.{no_fewer_starts}
 use Rattle.std.specs.List.{All}
-use Rattle.gix_ref_base.specs.Layout.{below}
+use Rattle.gix_ref_target.specs.Layout.{below}
 use Rattle.gix_ref_files.specs.Tree.{Tree}
 use Rattle.gix_ref_theory.specs.OnRealTrees.{view_of}
 use Rattle.gix_ref_lookup.specs.StoreLayout.{namespace_text}

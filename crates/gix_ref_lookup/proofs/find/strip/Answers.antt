@@ -1,4 +1,4 @@
-use Rattle.gix_ref_base.specs.Targets.{target_value}
+use Rattle.gix_ref_target.specs.Targets.{target_value}
 use Rattle.gix_ref_lookup.proofs.Stripping.{nothing_less}
 use Rattle.gix_ref_lookup.proofs.find.strip.Goals as goal
 

@@ -1,5 +1,5 @@
 use Rattle.std.proofs.Common.{[], sym}
-use Rattle.gix_ref_base.specs.Layout.{below}
+use Rattle.gix_ref_target.specs.Layout.{below}
 use Rattle.gix_ref_name.proofs.FrontLemmas.{without-append, without-none}
 use Rattle.gix_ref_lookup.proofs.Answering.{below_true, below_false}
 use Rattle.gix_ref_lookup.proofs.settings.below.Goals as goal

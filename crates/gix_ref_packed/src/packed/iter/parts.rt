@@ -3,13 +3,13 @@ ghost use Rattle.std.specs.Prelude.{◌≡◌, ◌<◌, ◌≤◌, ℕ, List, le
 ghost use Rattle.std.specs.Bool.{OnTrue};
 ghost use Rattle.std.specs.List.{starts_with};
 ghost use Rattle.std.specs.Option.{option_map};
-ghost use Rattle.gix_ref_base.specs.PackedRecords.{Record};
-ghost use Rattle.gix_ref_records.specs.RecordGrammar.{Takes};
+ghost use Rattle.gix_ref_target.specs.PackedRecords.{Record};
+ghost use Rattle.gix_ref_packed_text.specs.RecordGrammar.{Takes};
 ghost use Rattle.gix_ref_packed.specs.Items.{CutsAtFeed, FirstLine, has_prefix, line_feeds, line_without_cr};
 
 use gix_ref_hash::bytes::cut;
 use gix_ref_hash::hash::Kind;
-use gix_ref_records::packed::decode::take_record;
+use gix_ref_packed_text::packed::decode::take_record;
 use memchr::memchr_iter;
 
 /// The line at the front of the text, up to its LF, and what follows it; the whole text where it has no LF.

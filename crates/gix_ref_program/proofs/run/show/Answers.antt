@@ -1,5 +1,5 @@
 use Rattle.std.proofs.Common.{List, ℕ, Some, None, true, sym, subst}
-use Rattle.gix_ref_base.specs.PackedRecords.{Record}
+use Rattle.gix_ref_target.specs.PackedRecords.{Record}
 use Rattle.gix_ref_lookup.specs.declared.find.records.Records.TheVariants.{Unopened}
 use Rattle.gix_ref_store.specs.Lookup.{AreRecordsIn, FindsAmong, HitsIn, FailsIn}
 use Rattle.gix_ref_program.specs.Runs.{ShowOutcome}

@@ -1,7 +1,7 @@
 use Rattle.std.specs.Prelude.{unwrap_or}
-use Rattle.gix_ref_base.specs.Locations.{location}
-use Rattle.gix_ref_base.specs.Locations.Location.{Common}
-use Rattle.gix_ref_base.proofs.LocationLemmas.{has_paths, paths_are_table, safe_is_tested, tested_is_safe}
+use Rattle.gix_ref_target.specs.Locations.{location}
+use Rattle.gix_ref_target.specs.Locations.Location.{Common}
+use Rattle.gix_ref_target.proofs.LocationLemmas.{has_paths, paths_are_table, safe_is_tested, tested_is_safe}
 use Rattle.gix_ref_theory.proofs.LockPlaces.{no_lock_below, no_lock_below_packed}
 use Rattle.gix_ref_theory.proofs.PlaceLaws.{laws_hold, one_log}
 use Rattle.gix_ref_theory.proofs.Roots.{in_namespace, places_settle}

@@ -1,5 +1,5 @@
 use Rattle.std.proofs.Common.{refl, ap, ◌∙◌, [], ◌∷◌, Some, None, Ok}
-use Rattle.gix_ref_base.specs.declared.target.Target.TheVariants.{Symbolic, Object}
+use Rattle.gix_ref_target.specs.declared.target.Target.TheVariants.{Symbolic, Object}
 use Rattle.gix_ref_name.specs.Names.{full_bytes}
 use Rattle.gix_ref_edits.specs.EditValues.{EditValue}
 use Rattle.std.proofs.lemmas.Result.{err_from_is_err_and}

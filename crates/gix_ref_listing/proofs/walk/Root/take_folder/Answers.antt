@@ -4,7 +4,7 @@ use Rattle.std.specs.List.{All}
 use Rattle.std.specs.declared.alloc.Global.{Global}
 use Rattle.std.proofs.lemmas.List.Elements.{All-append, All-cons, All-nil}
 use Rattle.gix_ref_hash.specs.Bytes.{BeginsWith}
-use Rattle.gix_ref_grammar.specs.NameGrammar.{IsPartialName}
+use Rattle.gix_ref_name.specs.NameGrammar.{IsPartialName}
 use Rattle.gix_ref_listing.specs.Walks.{IsBelow, IsInnerPath}
 use Rattle.gix_ref_listing.proofs.WalkLemmas.{leads, fronts_nest, among_before, among_pushed, not_both}
 use Rattle.gix_ref_listing.proofs.walk.Root.take_folder.Goals as goal

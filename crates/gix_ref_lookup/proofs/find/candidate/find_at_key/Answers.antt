@@ -1,6 +1,6 @@
 use Rattle.std.proofs.Common.{inr, None}
 use Rattle.gix_ref_name.specs.Names.{full_ref_bytes}
-use Rattle.gix_ref_records.specs.Positions.{CannotRead}
+use Rattle.gix_ref_packed_text.specs.Positions.{CannotRead}
 use Rattle.gix_ref_lookup.specs.StoreLayout.{namespace_text}
 use Rattle.gix_ref_lookup.specs.Lookups.{meaning_in, packed_refs_in, AreHonest, OfSearched, OfKey, IsFaultOf}
 use Rattle.gix_ref_packed.specs.OpenFiles.{HasReadFault}

@@ -1,6 +1,6 @@
 use Rattle.std.proofs.Common.{subst}
 use Rattle.gix_ref_files.specs.Tree.{Path}
-use Rattle.gix_ref_base.specs.Targets.{target_value}
+use Rattle.gix_ref_target.specs.Targets.{target_value}
 use Rattle.gix_ref_theory.specs.OnRealTrees.{view_of}
 use Rattle.gix_ref_lookup.specs.StoreLayout.{folders_of}
 use Rattle.gix_ref_lookup.specs.LooseFiles.{IsDecoded}

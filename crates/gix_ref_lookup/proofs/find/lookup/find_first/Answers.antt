@@ -2,7 +2,7 @@ use Rattle.std.proofs.Common.{◌≡◌, inl, ℕ, ◌+◌, List, [], ◌++◌, 
 use Rattle.std.specs.List.{AllByRecursion}
 use Rattle.gix_ref_name.specs.Candidates.{candidates, fronts_of}
 use Rattle.gix_ref_name.specs.Names.{partial_ref_bytes, full_ref_bytes}
-use Rattle.gix_ref_base.specs.PackedRecords.{Record}
+use Rattle.gix_ref_target.specs.PackedRecords.{Record}
 use Rattle.gix_ref_files.specs.Tree.{Tree}
 use Rattle.gix_ref_files.proofs.Moments.{joins, weaken}
 use Rattle.gix_ref_theory.specs.Lookups.{first_hit}

@@ -1,5 +1,5 @@
 use Rattle.std.proofs.Common.{◌≡◌, ap, ◌∙◌, sym, length, arith}
-use Rattle.gix_ref_base.specs.Layout.{LiesIn, below}
+use Rattle.gix_ref_target.specs.Layout.{LiesIn, below}
 use Rattle.gix_ref_lookup.specs.CleanPaths.{common_of}
 use Rattle.gix_ref_theory.proofs.Roots.{root_below, root_elsewhere}
 use Rattle.gix_ref_lookup.proofs.folders.Dirs.root.Goals as goal

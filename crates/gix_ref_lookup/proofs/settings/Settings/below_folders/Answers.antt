@@ -1,6 +1,6 @@
 use Rattle.std.proofs.Common.{[], Bool, List, ℕ, if◌then◌else◌, sym, ◌∙◌, ap}
 use Rattle.gix_ref_hash.specs.Bytes.{without_front}
-use Rattle.gix_ref_base.specs.Layout.{below}
+use Rattle.gix_ref_target.specs.Layout.{below}
 use Rattle.gix_ref_name.proofs.FrontLemmas.{begins_true, begins_false, without-append}
 use Rattle.gix_ref_lookup.specs.StoreLayout.{folders_of}
 use Rattle.gix_ref_lookup.proofs.Answering.{below_true, below_false}

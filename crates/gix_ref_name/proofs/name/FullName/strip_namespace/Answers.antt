@@ -1,6 +1,6 @@
 use Rattle.std.proofs.Common.{◌≡◌, ◌≢◌, ◌++◌, ℕ, List, true, None, length, take, drop, sym, ◌∙◌, ap, rules}
 use Rattle.std.specs.Option.{is_some}
-use Rattle.gix_ref_grammar.specs.NameGrammar.{partial_error}
+use Rattle.gix_ref_name.specs.NameGrammar.{partial_error}
 use Rattle.gix_ref_name.specs.Names.{full_bytes}
 use Rattle.gix_ref_name.specs.Namespaces.{namespace_bytes}
 use Rattle.gix_ref_name.proofs.FrontLemmas.{stripped-append, stripped-bad, stripped-none, moved_front}

@@ -1,6 +1,6 @@
 use Rattle.std.proofs.Common.{◌≡◌, ◌++◌, Some, None, sym, ◌∙◌, ap}
 use Rattle.std.proofs.lemmas.List.{append_cancel_left}
-use Rattle.gix_ref_grammar.specs.NameGrammar.{partial_error}
+use Rattle.gix_ref_name.specs.NameGrammar.{partial_error}
 use Rattle.gix_ref_name.proofs.name.FullNameRef.without_namespace.Goals as goal
 
 pub returns-in-Some-broken_partial_rule : goal.returns-in-Some-broken_partial_rule

@@ -1,5 +1,5 @@
 use Rattle.std.proofs.Common.{◌≡◌, ◌++◌, subst, sym, rules}
-use Rattle.gix_ref_grammar.specs.NameGrammar.{IsPartialName, IsFullName}
+use Rattle.gix_ref_name.specs.NameGrammar.{IsPartialName, IsFullName}
 use Rattle.gix_ref_name.specs.Names.{partial_ref_bytes}
 use Rattle.gix_ref_name.proofs.CandidateNames.{named_behind}
 use Rattle.gix_ref_name.proofs.name.candidates.name_behind.Goals as goal

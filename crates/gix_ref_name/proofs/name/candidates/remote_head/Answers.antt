@@ -1,5 +1,5 @@
 use Rattle.std.proofs.Common.{◌≡◌, ◌++◌, subst, sym, ◌∙◌, rules, codes, append_assoc}
-use Rattle.gix_ref_grammar.specs.NameGrammar.{IsPartialName, IsFullName}
+use Rattle.gix_ref_name.specs.NameGrammar.{IsPartialName, IsFullName}
 use Rattle.gix_ref_name.proofs.CandidateNames.{remote_named}
 use Rattle.gix_ref_name.proofs.name.candidates.remote_head.Goals as goal
 

@@ -1,6 +1,6 @@
 use Rattle.std.proofs.Common.{inl, inr, ◌∙◌, ap, subst, ◌++◌}
 use Rattle.gix_ref_name.specs.Namespaces.{expanded}
-use Rattle.gix_ref_grammar.proofs.PartialNames.{IsPath, rules_of, first_component, last_component}
+use Rattle.gix_ref_name.proofs.PartialNames.{IsPath, rules_of, first_component, last_component}
 use Rattle.gix_ref_name.proofs.Expanding.{keeps_none, keeps_more, begins_more, begins_test, ends_test, value_more, value_last}
 use Rattle.gix_ref_name.proofs.namespace.expansion.expand.Goals as goal
 

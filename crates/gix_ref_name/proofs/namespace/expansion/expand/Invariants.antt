@@ -1,7 +1,7 @@
 use Rattle.std.proofs.Common.{◌≡◌, ◌++◌, length}
 use Rattle.gix_ref_name.specs.Namespaces.{expanded}
 use Rattle.gix_ref_name.proofs.Expanding.{KeepsNames, Begun}
-use Rattle.gix_ref_grammar.proofs.PartialNames.{IsPath}
+use Rattle.gix_ref_name.proofs.PartialNames.{IsPath}
 use Rattle.gix_ref_name.proofs.namespace.expansion.expand.Given as goal
 
 abbrev pub invariant-loop-component : goal.invariant-loop-component

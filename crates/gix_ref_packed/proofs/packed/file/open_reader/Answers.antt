@@ -3,8 +3,8 @@ use Rattle.std.proofs.Common.{◌≡◌, Bool, true, Option, Some, None, List, �
 use Rattle.gix_ref_hash.specs.declared.hash.Kind.{Kind}
 use Rattle.gix_ref_packed.specs.declared.packed.buffer.open.Error.{Error}
 use Rattle.gix_ref_packed.specs.declared.packed.buffer.open.Error.TheVariants.{Iter, HeaderParsing, Io, Memory}
-use Rattle.gix_ref_records.specs.OpenedText.{Keeps, line_behind, says_sorted}
-use Rattle.gix_ref_records.specs.declared.packed.decode.options.Header.{Header}
+use Rattle.gix_ref_packed_text.specs.OpenedText.{Keeps, line_behind, says_sorted}
+use Rattle.gix_ref_packed_text.specs.declared.packed.decode.options.Header.{Header}
 use Rattle.gix_ref_packed.specs.Buffers.{IsRefusedText, IsRefusedBytes}
 use Rattle.gix_ref_packed.proofs.packed.file.open_reader.Goals as goal
 

@@ -1,9 +1,8 @@
-use Rattle.std.proofs.Common.{◌≡◌, ◌≢◌, ◌==◌, List, ℕ, [], true, false, length, sym, ap, ◌∙◌, subst}
-use Rattle.std.proofs.Common.{◌≤◌, take, arith}
+use Rattle.std.proofs.Common.{◌≡◌, ◌≢◌, ◌==◌, List, ℕ, [], true, false, length, sym, ap, ◌∙◌, subst, ◌≤◌, take, arith}
 use Rattle.std.proofs.lemmas.List.{length-take}
-use Rattle.gix_ref_records.specs.OpenedText.{NoHeader}
-use Rattle.gix_ref_records.specs.HeaderEnds.{HeadsAt}
-use Rattle.gix_ref_records.proofs.HeaderLemmas.{heads_wider}
+use Rattle.gix_ref_packed_text.specs.OpenedText.{NoHeader}
+use Rattle.gix_ref_packed_text.specs.HeaderEnds.{HeadsAt}
+use Rattle.gix_ref_packed_text.proofs.HeaderLemmas.{heads_wider}
 use Rattle.gix_ref_packed.proofs.packed.file_header.header_end_in.Goals as goal
 
 some_left : (n : List ℕ) → (length n == 0) ≡ false → n ≢ []

@@ -1,5 +1,5 @@
 use Rattle.std.proofs.Common.{◌≡◌, None, Some, [], ap, lit<, refl, sym, ◌∙◌}
-use Rattle.gix_ref_base.specs.Locations.{key_outside}
+use Rattle.gix_ref_target.specs.Locations.{key_outside}
 use Rattle.gix_ref_packed.specs.declared.packed.find.Error.TheVariants.{Parse}
 use Rattle.gix_ref_packed.specs.Searches.{FindsPartial}
 use Rattle.gix_ref_packed.proofs.NamesInTurn.{rooted_is_full, asks_key, failed_for, last_for, is_err}

@@ -1,5 +1,5 @@
 use Rattle.std.proofs.Common.{inr}
-use Rattle.gix_ref_records.proofs.TakenLines.{splits_front}
+use Rattle.gix_ref_packed_text.proofs.TakenLines.{splits_front}
 use Rattle.gix_ref_packed.proofs.packed.iter.first_of_prefix.Goals as goal
 
 pub returns-then-begins_with_record-clause-lines : goal.returns-then-begins_with_record-clause-lines

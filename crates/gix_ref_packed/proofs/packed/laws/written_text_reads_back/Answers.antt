@@ -1,4 +1,4 @@
-use Rattle.gix_ref_records.proofs.ReadBack.{reads_back, text_is_one}
+use Rattle.gix_ref_packed_text.proofs.ReadBack.{reads_back, text_is_one}
 use Rattle.gix_ref_packed.proofs.packed.laws.written_text_reads_back.Goals as goal
 
 pub returns-clause-back : goal.returns-clause-back

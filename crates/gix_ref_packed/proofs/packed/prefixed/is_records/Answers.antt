@@ -1,6 +1,6 @@
 use Rattle.std.proofs.Common.{◌≡◌, ◌==◌, true, length, sym, refl, ap, [], eqb-true}
 use Rattle.std.proofs.lemmas.List.{nil_from_length}
-use Rattle.gix_ref_records.proofs.RecordBytes.{fronts_more, fronts_all, not_stuck}
+use Rattle.gix_ref_packed_text.proofs.RecordBytes.{fronts_more, fronts_all, not_stuck}
 use Rattle.gix_ref_packed.proofs.packed.prefixed.is_records.Goals as goal
 
 pub loop-rest-init : goal.loop-rest-init

@@ -1,6 +1,6 @@
 use Rattle.std.proofs.Common.{List, length}
-use Rattle.gix_ref_base.specs.PackedRecords.{Record}
-use Rattle.gix_ref_records.specs.OpenedText.{Fronts}
+use Rattle.gix_ref_target.specs.PackedRecords.{Record}
+use Rattle.gix_ref_packed_text.specs.OpenedText.{Fronts}
 use Rattle.gix_ref_packed.proofs.packed.prefixed.is_records.Given as goal
 
 abbrev pub invariant-loop-rest : goal.invariant-loop-rest

@@ -1,6 +1,6 @@
 use Rattle.std.proofs.Common.{◌≡◌, ◌==◌, ◌+◌, List, ℕ, [], ◌∷◌, true, length, refl, sym, ap, arith, eqb-true}
-use Rattle.gix_ref_records.specs.Views.{record_of}
-use Rattle.gix_ref_records.proofs.RecordBytes.{lines_fit}
+use Rattle.gix_ref_packed_text.specs.Views.{record_of}
+use Rattle.gix_ref_packed_text.proofs.RecordBytes.{lines_fit}
 use Rattle.gix_ref_packed.proofs.SortedPieces.{nothing_read, reads_more, read_all}
 use Rattle.gix_ref_packed.proofs.packed.sorting.names_rise.Goals as goal
 

@@ -1,6 +1,6 @@
 use Rattle.std.proofs.Common.{◌≡◌, ◌≤◌, ◌+◌, ◌++◌, length, map}
 use Rattle.std.specs.List.{All, flat_map}
-use Rattle.gix_ref_records.specs.OpenedText.{Fronts, IsPiece, line_count}
+use Rattle.gix_ref_packed_text.specs.OpenedText.{Fronts, IsPiece, line_count}
 use Rattle.gix_ref_packed.specs.internal.Entries.{entry_record, entry_piece, entry_bytes}
 use Rattle.gix_ref_packed.proofs.packed.sorting.read_entries.Given as goal
 

@@ -1,6 +1,6 @@
 use Rattle.std.proofs.Common.{Bool, subst}
 use Rattle.std.specs.Bool.{MatchBool}
-use Rattle.gix_ref_records.specs.RecordGrammar.{Rising}
+use Rattle.gix_ref_packed_text.specs.RecordGrammar.{Rising}
 use Rattle.gix_ref_packed.proofs.SortedPieces.{keeps_text, keeps_sorted}
 use Rattle.gix_ref_packed.proofs.packed.sorting.sorted_text.Goals as goal
 

@@ -1,8 +1,8 @@
 use Rattle.std.proofs.Common.{sym, subst, List}
 use Rattle.gix_ref_files.proofs.Moments.{joins, losses, passes_joins, passes_weaken, weaken}
 use Rattle.gix_ref_files.specs.Files.{disk_of}
-use Rattle.gix_ref_repack.specs.Changes.{change_values}
-use Rattle.gix_ref_repack.specs.declared.changes.KeyChange.{KeyChange}
+use Rattle.gix_ref_packed_transaction.specs.Changes.{change_values}
+use Rattle.gix_ref_packed_transaction.specs.declared.changes.KeyChange.{KeyChange}
 use Rattle.gix_ref_packed_transaction.specs.PackedTransactions.{transaction_kind, records_of, changes_of, transaction_place, IsMadeOf, IsUnbegun, SaysWhyPacked}
 use Rattle.gix_ref_packed_transaction.proofs.LockSteps.{begun, left_as_before, left_rewritten, off_lock, why_after}
 use Rattle.gix_ref_packed_transaction.proofs.Losses.{keeps_unlock, lost_before, lost_of, lost_unlocking}

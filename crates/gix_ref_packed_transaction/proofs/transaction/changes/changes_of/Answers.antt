@@ -1,7 +1,7 @@
 use Rattle.std.proofs.Common.{◌<◌, [], ◌∷◌, length, sym, ap, ◌∙◌, arith, List, None, Some, subst}
 use Rattle.std.specs.Option.{option_map}
 use Rattle.std.proofs.lemmas.List.{append-nil, map-append, take_all}
-use Rattle.gix_ref_repack.specs.Changes.{change_value, change_values}
+use Rattle.gix_ref_packed_transaction.specs.Changes.{change_value, change_values}
 use Rattle.gix_ref_edits.specs.declared.transaction.RefEdit.{RefEdit}
 use Rattle.gix_ref_transaction.proofs.Firsts.{fault_later}
 use Rattle.gix_ref_packed_transaction.specs.RecordChanges.{AreChangesOf, CanBeTaken, IsChangeOf, IsNotTaken}

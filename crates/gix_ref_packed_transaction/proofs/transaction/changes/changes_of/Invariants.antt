@@ -1,5 +1,5 @@
 use Rattle.std.proofs.Common.{[], take, drop}
-use Rattle.gix_ref_repack.specs.Changes.{change_values}
+use Rattle.gix_ref_packed_transaction.specs.Changes.{change_values}
 use Rattle.gix_ref_transaction.specs.declared.prepare.packed.Error.{Error}
 use Rattle.gix_ref_packed_transaction.specs.RecordChanges.{AreChangesOf, IsFirstNotTaken}
 use Rattle.gix_ref_packed_transaction.proofs.transaction.changes.changes_of.Given as goal

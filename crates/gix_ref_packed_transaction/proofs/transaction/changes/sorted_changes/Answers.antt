@@ -5,10 +5,10 @@ use Rattle.std.proofs.lemmas.Cmp.{nat_list_cmp_total}
 use Rattle.std.proofs.lemmas.List.Sorted.{answers_always, All-permutation, IsPermutation-map}
 use Rattle.std.proofs.lemmas.Simd.{map-map}
 use Rattle.std.proofs.slice.Orders.{ranks_by}
-use Rattle.gix_ref_rewrite.specs.Rewrites.{IsReadableIfAny}
-use Rattle.gix_ref_repack.specs.Changes.{ChangeValue, change_value, change_values, record_left}
-use Rattle.gix_ref_repack.specs.declared.changes.KeyChange.{KeyChange}
-use Rattle.gix_ref_repack.proofs.KeyLemmas.{keys_in_order}
+use Rattle.gix_ref_packed_text.specs.Rewrites.{IsReadableIfAny}
+use Rattle.gix_ref_packed_transaction.specs.Changes.{ChangeValue, change_value, change_values, record_left}
+use Rattle.gix_ref_packed_transaction.specs.declared.changes.KeyChange.{KeyChange}
+use Rattle.gix_ref_packed_transaction.proofs.KeyLemmas.{keys_in_order}
 use Rattle.gix_ref_packed_transaction.proofs.transaction.changes.sorted_changes.Goals as goal
 
 pub returns-clause-changes : goal.returns-clause-changes

@@ -6,7 +6,7 @@ use Rattle.gix_ref_packed_transaction.proofs.LockSteps.{as_before, unlocked, on_
 use Rattle.gix_ref_packed_transaction.proofs.Losses.{keeps_first, keeps_unlock, settles_unchanged}
 use Rattle.gix_ref_packed_transaction.specs.internal.Keeping.{KeepsSettled}
 use Rattle.gix_ref_packed_transaction.proofs.transaction.commit.put_rewrite.Goals as goal
-use Rattle.gix_ref_rewrite.specs.declared.outcome.Rewrite.TheVariants.{Unchanged}
+use Rattle.gix_ref_packed_text.specs.declared.outcome.Rewrite.TheVariants.{Unchanged}
 
 pub returns-in-Unchanged-clause-done : goal.returns-in-Unchanged-clause-done
 returns-in-Unchanged-clause-done g c honest empty =

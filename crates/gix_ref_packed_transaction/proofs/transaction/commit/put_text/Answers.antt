@@ -9,7 +9,7 @@ use Rattle.gix_ref_packed_transaction.specs.PackedTransactions.{IsOldOrRewritten
 use Rattle.gix_ref_packed_transaction.proofs.LockSteps.{lock_moved, when_ok, on_ok, filling, renaming, is_renamed}
 use Rattle.gix_ref_packed_transaction.proofs.Losses.{folder_there, keeps_fill, keeps_first, keeps_renaming, keeps_settling, lock_file, settles_renamed}
 use Rattle.gix_ref_packed_transaction.proofs.transaction.commit.put_text.Goals as goal
-use Rattle.gix_ref_rewrite.specs.declared.outcome.Rewrite.TheVariants.{Text}
+use Rattle.gix_ref_packed_text.specs.declared.outcome.Rewrite.TheVariants.{Text}
 
 pub returns-in-Err-clause-leaves : goal.returns-in-Err-clause-leaves
 returns-in-Err-clause-leaves g c honest empty =

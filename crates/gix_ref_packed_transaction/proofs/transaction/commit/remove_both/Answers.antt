@@ -8,7 +8,7 @@ use Rattle.gix_ref_packed_transaction.specs.PackedTransactions.{IsOldOrRewritten
 use Rattle.gix_ref_packed_transaction.proofs.LockSteps.{removing, off_lock, when_ok}
 use Rattle.gix_ref_packed_transaction.proofs.Losses.{folder_there, keeps_removal, keeps_settling, keeps_unlock, none_removed_at, settles_removed}
 use Rattle.gix_ref_packed_transaction.proofs.transaction.commit.remove_both.Goals as goal
-use Rattle.gix_ref_rewrite.specs.declared.outcome.Rewrite.TheVariants.{Removed}
+use Rattle.gix_ref_packed_text.specs.declared.outcome.Rewrite.TheVariants.{Removed}
 
 pub returns-clause-leaves : goal.returns-clause-leaves
 returns-clause-leaves g c honest =

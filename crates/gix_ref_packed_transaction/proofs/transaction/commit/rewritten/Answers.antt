@@ -1,4 +1,4 @@
-use Rattle.gix_ref_repack.specs.Changes.{change_values}
+use Rattle.gix_ref_packed_transaction.specs.Changes.{change_values}
 use Rattle.gix_ref_packed_transaction.proofs.LockSteps.{made_of}
 use Rattle.gix_ref_packed_transaction.proofs.transaction.commit.rewritten.Goals as goal
 

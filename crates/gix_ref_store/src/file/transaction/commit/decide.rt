@@ -1,6 +1,6 @@
 //! What a commit decides before its first write, and the run of its steps, from a store.
 ghost use Rattle.std.specs.Prelude.{◌≡◌, OnOk, IfOk, IfErr};
-ghost use Rattle.gix_ref_lines.specs.AskedEdits.{all_but_logs};
+ghost use Rattle.gix_ref_reflog.specs.AskedEdits.{all_but_logs};
 ghost use Rattle.gix_ref_commit.specs.Cleared.{commit_entries};
 ghost use Rattle.gix_ref_commit.specs.Decided.{OnlyFillsPacked};
 ghost use Rattle.gix_ref_commit.specs.Unfinished.{RunsAll, RunsOnly, StopsEarly};
@@ -17,9 +17,9 @@ use gix_ref_commit::run::{Unfinished, run_plan};
 use gix_ref_commit::tidy::removed_paths;
 use gix_ref_files::files::Files;
 use gix_ref_files::lock::LockFile;
-use gix_ref_lines::decide::decide_logs;
 use gix_ref_log::actor::SignatureRef;
-use gix_ref_rewrite::outcome::Rewrite;
+use gix_ref_packed_text::outcome::Rewrite;
+use gix_ref_reflog::decide::decide_logs;
 use gix_ref_transaction::edit::Edit;
 use std::alloc::Global;
 

@@ -4,7 +4,7 @@ use Rattle.std.proofs.Math.Nat.{eq-or-lt_of_le}
 use Rattle.std.proofs.Math.Seq.{map-set_same}
 use Rattle.std.proofs.lemmas.List.{get_or_default, get_or-map, get_or-set_same, get_or-set_other, length-map}
 use Rattle.gix_ref_edits.specs.declared.transaction.RefEdit.{RefEdit}
-use Rattle.gix_ref_base.specs.Targets.{TargetValue}
+use Rattle.gix_ref_target.specs.Targets.{TargetValue}
 use Rattle.gix_ref_edits.specs.RefEdits.{new_of}
 use Rattle.gix_ref_edits.specs.declared.transaction.Change.{Change}
 use Rattle.gix_ref_edits.specs.declared.transaction.Change.TheVariants.{Update, Delete}

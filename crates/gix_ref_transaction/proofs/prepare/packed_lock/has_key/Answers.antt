@@ -1,6 +1,6 @@
 use Rattle.std.proofs.Common.{ℕ, List, sym, ◌∙◌, ap}
 use Rattle.std.specs.Prelude.{◌&&◌, is_some}
-use Rattle.gix_ref_base.specs.Locations.{paths_at}
+use Rattle.gix_ref_target.specs.Locations.{paths_at}
 use Rattle.gix_ref_lookup.specs.StoreLayout.{folders_of}
 use Rattle.gix_ref_edits.specs.RefEdits.{name_of}
 use Rattle.gix_ref_name.specs.Names.{full_ref_bytes}

@@ -1,7 +1,7 @@
 use Rattle.std.proofs.Common.{◌≡◌, List, None, take}
 use Rattle.gix_ref_files.specs.ReadOnly.{OnlyReads}
 use Rattle.gix_ref_hash.specs.declared.hash.Kind.{Kind}
-use Rattle.gix_ref_base.specs.PackedRecords.{Record}
+use Rattle.gix_ref_target.specs.PackedRecords.{Record}
 use Rattle.gix_ref_lookup.specs.Lookups.{AreAsked, AreHonest, AreStillAsked, IsReady}
 use Rattle.gix_ref_theory.specs.OnRealTrees.{contents}
 use Rattle.gix_ref_transaction.specs.Causes.{AllWithIds}

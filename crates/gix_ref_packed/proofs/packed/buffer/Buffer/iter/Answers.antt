@@ -1,6 +1,6 @@
 use Rattle.std.proofs.Common.{◌≡◌, ◌∙◌, None, true, List, refl, subst}
 use Rattle.std.specs.Iterator.Runs.{EachRunFrom}
-use Rattle.gix_ref_base.specs.PackedRecords.{Record}
+use Rattle.gix_ref_target.specs.PackedRecords.{Record}
 use Rattle.gix_ref_packed.specs.Items.{ItemStep, AreRecords}
 use Rattle.gix_ref_packed.specs.Buffers.{buffer_text, buffer_kind, buffer_line}
 use Rattle.gix_ref_packed.proofs.ItemRuns.{each_run, each_records, all_asked}

@@ -1,5 +1,5 @@
 use Rattle.std.proofs.Common.{◌∙◌, ◌+◌, List, ℕ, Some, ap, subst, drop, take}
-use Rattle.gix_ref_records.specs.Prefixes.{IsListStart}
+use Rattle.gix_ref_packed_text.specs.Prefixes.{IsListStart}
 use Rattle.std.proofs.lemmas.List.{take_rest}
 use Rattle.gix_ref_packed.specs.Items.{line_feeds}
 use Rattle.gix_ref_packed.specs.Buffers.{buffer_text, buffer_kind, buffer_line}

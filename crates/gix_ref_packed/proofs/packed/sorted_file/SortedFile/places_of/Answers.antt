@@ -1,6 +1,6 @@
 use Rattle.std.proofs.Common.{◌≡◌, ◌≤◌, ◌∙◌, List, ℕ, true, false, length, drop, sym, ap, subst}
-use Rattle.gix_ref_records.specs.Prefixes.{IsListStart, NamesAscend, SplitsLines}
-use Rattle.gix_ref_records.specs.declared.packed.bound.Bound.{Bound}
+use Rattle.gix_ref_packed_text.specs.Prefixes.{IsListStart, NamesAscend, SplitsLines}
+use Rattle.gix_ref_packed_text.specs.declared.packed.bound.Bound.{Bound}
 use Rattle.gix_ref_packed.specs.FilePrefixes.{Encloses, EnclosesAsked}
 use Rattle.gix_ref_packed.proofs.AskedParts.{encloses_from, encloses_up_to, encloses_whole}
 use Rattle.gix_ref_packed.proofs.PrefixRuns.{EachSplits}

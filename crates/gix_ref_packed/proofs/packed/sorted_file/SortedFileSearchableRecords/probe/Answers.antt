@@ -1,5 +1,5 @@
 use Rattle.std.proofs.Common.{◌≡◌, List, ℕ, drop, subst}
-use Rattle.gix_ref_records.specs.Probed.{IsProbeAt}
+use Rattle.gix_ref_packed_text.specs.Probed.{IsProbeAt}
 use Rattle.gix_ref_packed.proofs.packed.sorted_file.SortedFileSearchableRecords.probe.Goals as goal
 
 pub returns-in-Some-clause-probed : goal.returns-in-Some-clause-probed

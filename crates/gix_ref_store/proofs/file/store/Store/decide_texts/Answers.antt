@@ -8,10 +8,10 @@ use Rattle.gix_ref_theory.specs.OnRealTrees.{view_of}
 use Rattle.gix_ref_transaction.specs.CommitRenames.{SeeLogs}
 use Rattle.gix_ref_transaction.specs.PrepareSteps.{AreWholeLocks}
 use Rattle.gix_ref_transaction.specs.declared.edit.Edit.{Edit}
-use Rattle.gix_ref_lines.specs.AskedEdits.{all_but_logs, asked, but_log, outcomes_of}
-use Rattle.gix_ref_lines.specs.DueLines.{log_outcomes}
-use Rattle.gix_ref_lines.specs.LineCauses.{AllHaveNoCause}
-use Rattle.gix_ref_repack.specs.Refusals.{IsReadFile, IsRefusedRewrite}
+use Rattle.gix_ref_reflog.specs.AskedEdits.{all_but_logs, asked, but_log, outcomes_of}
+use Rattle.gix_ref_reflog.specs.DueLines.{log_outcomes}
+use Rattle.gix_ref_reflog.specs.LineCauses.{AllHaveNoCause}
+use Rattle.gix_ref_packed_transaction.specs.Refusals.{IsReadFile, IsRefusedRewrite}
 use Rattle.gix_ref_commit.specs.Decided.{IsFilled, IsPackedLockEmpty}
 use Rattle.gix_ref_commit.proofs.Filling.{fills_none, reads_then_fills}
 use Rattle.gix_ref_store.specs.CommitLines.{line_rules}

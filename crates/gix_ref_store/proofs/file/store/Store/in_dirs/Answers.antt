@@ -1,5 +1,5 @@
 use Rattle.std.proofs.Common.{subst₂, sym, ◌∙◌}
-use Rattle.gix_ref_base.specs.Layout.{AreCompatible}
+use Rattle.gix_ref_target.specs.Layout.{AreCompatible}
 use Rattle.gix_ref_lookup.proofs.FolderLemmas.{laid_test}
 use Rattle.gix_ref_store.proofs.file.store.Store.in_dirs.Goals as goal
 

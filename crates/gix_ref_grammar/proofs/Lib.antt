@@ -1,6 +1,0 @@
-pub mod DeviceLemmas
-pub mod DeviceRows
-pub mod PartialNames
-pub mod PlainNames
-pub mod Rows
-pub mod Scans

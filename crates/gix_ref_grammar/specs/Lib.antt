@@ -1,2 +1,0 @@
-pub mod DeviceNames
-pub mod NameGrammar

@@ -1,6 +1,0 @@
-pub mod BlockedPaths
-pub mod Deciding
-pub mod LeafSteps
-pub mod LineSteps
-pub mod LogPaths
-pub mod OwnNames

@@ -1,5 +1,0 @@
-pub mod AskedEdits
-pub mod DueLines
-pub mod LineCauses
-pub mod MadeLogs
-pub mod internal

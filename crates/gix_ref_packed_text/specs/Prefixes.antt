@@ -1,0 +1,59 @@
+-- Where the names of a prefix begin among ascending records, and the filter of a list of records by a prefix.
+use Rattle.std.specs.Prelude.{◌≡◌, ◌≢◌, ◌<◌, ◌≤◌, ◌⊎◌, ℕ, List, [], ◌++◌, nat_eq, length, drop}
+use Rattle.std.specs.List.{All, filter, starts_with}
+use Rattle.gix_ref_hash.specs.declared.hash.Kind.{Kind}
+use Rattle.gix_ref_target.specs.PackedRecords.{Record}
+use Rattle.gix_ref_packed_text.specs.RecordGrammar.{Takes, NoRecord, Records, Below}
+use Rattle.gix_ref_packed_text.specs.OpenedText.{Fronts}
+use Rattle.gix_ref_packed_text.specs.Positions.{BeginsLine, NameAt}
+
+-- the records whose names begin with the prefix
+abbrev pub records_prefixed : List ℕ → List Record → List Record
+records_prefixed prefix rs = filter (λ r. starts_with nat_eq r.name prefix) rs
+
+-- a line begins there, or the text ends
+pub record IsListStart (text : List ℕ) (start : ℕ) : Type 0 where
+  pub within : start ≤ length text
+  pub begins : (start ≡ length text) ⊎ BeginsLine text start
+
+-- the names before the place are below the wanted one, and those from there on are not
+pub record SplitsAt (kind : Kind) (text : List ℕ) (rs : List Record) (wanted : List ℕ)
+    (start : ℕ) : Type 0 where
+  pub before : List Record
+  pub after : List Record
+  pub is : rs ≡ before ++ after
+  pub front : Fronts kind text before (drop start text)
+  pub rest : Records kind (drop start text) after
+  pub low : All (λ r. Below r.name wanted) before
+  pub high : All (λ r. Below r.name wanted → ⊥) after
+
+-- a line begins there, and a record with it, whatever the other lines are
+abbrev pub RecordAt : Kind → List ℕ → ℕ → Record → Type 0
+RecordAt kind text place r = BeginsLine text place
+    × ((rest : List ℕ) × Takes kind (drop place text) r rest)
+
+-- a line begins there, with this name in a record's place
+abbrev pub NameAtLine : Kind → List ℕ → ℕ → List ℕ → Type 0
+NameAtLine kind text place name = BeginsLine text place × NameAt kind (drop place text) name
+    × (name ≢ [])
+
+-- the names of a text ascend, whatever its other lines are
+abbrev pub NamesAscend : Kind → List ℕ → Type 0
+NamesAscend kind text = (p q : ℕ) (m n : List ℕ) → p < q → NameAtLine kind text p m →
+    NameAtLine kind text q n → Below m n
+
+-- a name is in a record's place there, or the text ends
+abbrev pub IsNameStart : Kind → List ℕ → ℕ → Type 0
+IsNameStart kind text place = (place ≡ length text)
+    ⊎ ((name : List ℕ) × NameAtLine kind text place name)
+
+-- the records before the place are below the wanted name, and those from there on are not
+pub record SplitsLines (kind : Kind) (text wanted : List ℕ) (place : ℕ) : Type 0 where
+  pub there : IsNameStart kind text place
+  pub low : (p : ℕ) (r : Record) → p < place → RecordAt kind text p r → Below r.name wanted
+  pub high : (p : ℕ) (r : Record) → place ≤ p → RecordAt kind text p r → Below r.name wanted → ⊥
+
+-- a line begins there that is no record
+pub record IsBadStart (kind : Kind) (text : List ℕ) (place : ℕ) : Type 0 where
+  pub some : place < length text
+  pub bad : NoRecord kind (drop place text)

@@ -1,9 +1,0 @@
-use Rattle.gix_ref_records.proofs.OneReading.{no_end, no_id}
-use Rattle.gix_ref_records.proofs.packed.decode.record_line.take_peeled.Goals as goal
-
-pub returns-in_default-after_newline : goal.returns-in_default-after_newline
-returns-in_default-after_newline c =
-    no_end c.args.kind c.args.text.now c.in-Some.line.now c.in-Some-take_id.object.now c.in-Some-take_id.after.now c.in-Some.ensures c.in-Some-take_id.ensures.0 c.in-Some-take_id.ensures.1 c.in_default-after_newline.ensures
-
-pub returns-in_default-take_id : goal.returns-in_default-take_id
-returns-in_default-take_id c = no_id c.args.kind c.args.text.now c.in-Some.line.now c.in-Some.ensures c.in_default-take_id.ensures

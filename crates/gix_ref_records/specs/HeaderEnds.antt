@@ -1,9 +1,0 @@
--- Where the header of a text ends.
-use Rattle.std.specs.Prelude.{◌≤◌, ℕ, List, length, drop}
-use Rattle.gix_ref_records.specs.declared.packed.header_end.HeaderEnd.{HeaderEnd}
-use Rattle.gix_ref_records.specs.OpenedText.{Heads}
-
--- the header of the text, and the offset of the first record in it
-abbrev pub HeadsAt : List ℕ → HeaderEnd → Type 0
-HeadsAt text heading = Heads text heading.header (drop heading.start text)
-    × (heading.start ≤ length text)

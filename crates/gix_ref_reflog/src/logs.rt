@@ -1,0 +1,62 @@
+//! The logs that have a line due, by their paths, and what lies in the path of a log.
+ghost use Rattle.std.specs.Prelude.{◌≡◌, ◌||◌, OnOk, bytes_eq, false};
+ghost use Rattle.std.specs.List.{list_any};
+ghost use Rattle.gix_ref_files.specs.Tree.{fronts, Path};
+ghost use Rattle.gix_ref_reflog.specs.internal.SeenLogs.{due_paths, IsBounded};
+ghost use Rattle.gix_ref_transaction.specs.OwnLocks.{is_in};
+
+use std::alloc::{AllocFailed, Global};
+use std::collections::HashSet;
+
+/// The logs that have a line due, by their paths.
+#[derive(Drop)]
+pub struct DueLogs {
+    paths: HashSet<Vec<u8>>,
+    /// None of the paths has fewer bytes.
+    shortest: usize,
+}
+
+impl DueLogs {
+    /// No log.
+    pub fn new(alloc: Global) -> DueLogs
+        ensures none { (q : Path) → is_in (due_paths result) q ≡ false }
+        ensures bounded { IsBounded result }
+    {
+        DueLogs {
+            paths: HashSet::new(alloc),
+            shortest: usize::MAX,
+        }
+    }
+
+    /// Whether the log at this path has a line due.
+    pub fn contains(&self, path: &[u8]) -> bool
+        ensures { result ≡ is_in (due_paths self.now) path.now }
+    {
+        self.paths.contains(path)
+    }
+
+    /// Adds the log at this path.
+    pub fn insert(&mut self, path: Vec<u8>) -> Result<(), AllocFailed<Vec<u8>>>
+        ensures added { OnOk result ((q : Path) → is_in (due_paths self.new) q
+            ≡ (bytes_eq path.items q || is_in (due_paths self.old) q)) }
+        ensures bounded { IsBounded self.old → OnOk result (IsBounded self.new) }
+    {
+        let len = path.len();
+        self.paths.insert(path)?;
+        self.shortest = self.shortest.min(len);
+        Ok(())
+    }
+
+    /// Whether such a log is in a path, as a file where a folder would be.
+    pub fn is_above(&self, path: &[u8]) -> bool
+        requires { IsBounded self.now }
+        ensures { result ≡ list_any (is_in (due_paths self.now)) (fronts path.now) }
+    {
+        for i in 1..path.len() {
+            if path[i] == b'/' && i >= self.shortest && self.contains(&path[..i]) {
+                return true;
+            }
+        }
+        false
+    }
+}

@@ -1,4 +1,0 @@
-pub mod Changes
-pub mod Refusals
-pub mod Repacks
-pub mod internal

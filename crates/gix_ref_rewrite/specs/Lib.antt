@@ -1,5 +1,0 @@
-pub mod Laws
-pub mod MergedRecords
-pub mod RecordEdits
-pub mod Rewrites
-pub mod internal
