@@ -1,7 +1,7 @@
 -- Steps with their syncs that carry out some writes, on trees and on disks alike.
 use Rattle.std.proofs.Common.{◌≡◌, ◌≢◌, inr, ℕ, List, [], ◌∷◌, Option, Some, None, Bool, true, false, map, sym, ap, ◌∙◌, if◌then◌else◌, bytes_eq}
 use Rattle.gix_ref_files.specs.Tree.{Path}
-use Rattle.gix_ref_files.specs.Settled.{IsIn, SettlesPath, SettlesFile}
+use Rattle.gix_ref_files.specs.Settled.{IsIn, SettlesPath, SettlesRemoval, SettlesFile}
 use Rattle.gix_ref_files.specs.Steps.Step.{Create, Append as AppendStep, Line, Rename, RemoveFile, MakeFolders, RemoveFolder, End}
 use Rattle.gix_ref_files.specs.DiskSteps.{Synced}
 use Rattle.gix_ref_files.specs.DiskSteps.Synced.{With}
@@ -33,7 +33,7 @@ module _ (locked staying : List Path) where
   Carries texts (With (Rename from to) syncs ∷ plan) writes =
       (bytes : List ℕ) × (rest : List Write) × IsOwnLock locked from × (from ≢ to) × (texts from ≡ Some bytes) × (writes ≡ Put to bytes ∷ rest) × SettlesPath staying to syncs × Carries (changed_at to None (changed_at from None texts)) plan rest
   Carries texts (With (RemoveFile p) syncs ∷ plan) writes =
-      (rest : List Write) × (writes ≡ Remove p ∷ rest) × SettlesPath staying p syncs × Carries (changed_at p None texts) plan rest
+      (rest : List Write) × (writes ≡ Remove p ∷ rest) × SettlesRemoval p syncs × Carries (changed_at p None texts) plan rest
   Carries texts (With (MakeFolders p) syncs ∷ plan) writes = Carries texts plan writes
   Carries texts (With (RemoveFolder p) syncs ∷ plan) writes = (IsIn p staying → ⊥) × Carries texts plan writes
   Carries texts (With (Create p) syncs ∷ plan) writes = ⊥

@@ -3,8 +3,10 @@ use Rattle.std.proofs.Common.{◌≡◌, ◌≢◌, ℕ, ◌+◌, List, [], ◌�
 use Rattle.std.proofs.lemmas.List.{map-append, append_cancel_right}
 use Rattle.gix_ref_files.specs.Tree.{Path}
 use Rattle.gix_ref_files.specs.Lock.{lock_of}
-use Rattle.gix_ref_files.specs.Settled.{SettlesPath}
+use Rattle.gix_ref_files.specs.Disk.{folder_of}
+use Rattle.gix_ref_files.specs.Settled.{SettlesPath, SettlesRemoval, sync_of_folder}
 use Rattle.gix_ref_files.specs.DiskSteps.{Synced}
+use Rattle.gix_ref_files.proofs.Settling.{own_sync_settles}
 use Rattle.gix_ref_lookup.specs.declared.folders.Dirs.{Dirs}
 use Rattle.gix_ref_theory.specs.Views.{View, Write, changed_at, file_bytes, IsOwnLock}
 use Rattle.gix_ref_theory.proofs.LoneUpdates.{elsewhere_same}
@@ -123,6 +125,10 @@ module _ (locked staying : List Path) (dirs : Dirs) where
     no_own : (p : Path) → ((q : Path) → p ≢ lock_of q) → IsOwnLock locked p → ⊥
     no_own p plain own = let l = own_is_lock locked p own in plain l.0 l.1
 
+    -- the sync of its own folder settles a removal
+    settles_removal : (p : Path) → IsPlain staying dirs p → SettlesRemoval p (sync_of_folder (folder_of p))
+    settles_removal p plain = own_sync_settles staying p (syncs_at dirs p) plain.1
+
     -- A line, or none.
     line_carried : (at : ℕ) (l : LogEffect) (texts : View) (rest : List Synced) (ws : List Write) → IsLogPlain staying dirs l → Carried texts rest ws →
         ((p : Path) → ((q : Path) → p ≢ lock_of q) → Carried (changed_at p None texts) rest ws) → Carried texts (steps_in (line_for dirs at l) ++ rest) (line_written l ++ ws)
@@ -185,19 +191,19 @@ module _ (locked staying : List Path) (dirs : Dirs) where
 
     -- The removal of a log, or none; and of the logs of all edits.
     log_removal_carried : (at : ℕ) (l : LogEffect) (texts : View) (rest : List Synced) (ws : List Write) → IsLogPlain staying dirs l → Carried texts rest ws →
-        ((p : Path) → ((q : Path) → p ≢ lock_of q) → Carried (changed_at p None texts) rest ws) → Carried texts (steps_in (log_removal_for dirs at l) ++ rest) (log_removed l ++ ws)
+        ((p : Path) → ((q : Path) → p ≢ lock_of q) → Carried (changed_at p None texts) rest ws) → Carried texts (steps_in (log_removal_for at l) ++ rest) (log_removed l ++ ws)
     log_removal_carried at logs.Keep texts rest ws plain next later = next
     log_removal_carried at (logs.Append log line) texts rest ws plain next later = next
-    log_removal_carried at (logs.Remove log) texts rest ws plain next later = (ws, refl, plain.1, later log.items plain.0)
+    log_removal_carried at (logs.Remove log) texts rest ws plain next later = (ws, refl, settles_removal log.items plain, later log.items plain.0)
 
     log_removals_carried : (at : ℕ) (edits : List Edit) (packed : Option Path) (rewrite : Rewrite) (texts : View) (rest : List Synced) (ws : List Write) → ArePlaced edits → HasPackedText texts packed rewrite →
         ((left : View) → HasPackedText left packed rewrite → Carried left rest ws) →
-        Carried texts (steps_in (each (log_removal_entry dirs) at edits) ++ rest) (logs_removed edits ++ ws)
+        Carried texts (steps_in (each log_removal_entry at edits) ++ rest) (logs_removed edits ++ ws)
     log_removals_carried at [] packed rewrite texts rest ws placed text then = then texts text
     log_removals_carried at (e ∷ edits) packed rewrite texts rest ws (one, placed) text then =
-        subst (λ (l : List Write). Carried texts (steps_in (each (log_removal_entry dirs) at (e ∷ edits)) ++ rest) l) (sym (append_assoc (log_removed e.log) (logs_removed edits) ws))
-        (subst (λ (l : List Synced). Carried texts l (log_removed e.log ++ (logs_removed edits ++ ws))) (sym (steps_apart (log_removal_entry dirs at e) (each (log_removal_entry dirs) (at + 1) edits) rest))
-        (log_removal_carried at e.log texts (steps_in (each (log_removal_entry dirs) (at + 1) edits) ++ rest) (logs_removed edits ++ ws) one.log
+        subst (λ (l : List Write). Carried texts (steps_in (each log_removal_entry at (e ∷ edits)) ++ rest) l) (sym (append_assoc (log_removed e.log) (logs_removed edits) ws))
+        (subst (λ (l : List Synced). Carried texts l (log_removed e.log ++ (logs_removed edits ++ ws))) (sym (steps_apart (log_removal_entry at e) (each log_removal_entry (at + 1) edits) rest))
+        (log_removal_carried at e.log texts (steps_in (each log_removal_entry (at + 1) edits) ++ rest) (logs_removed edits ++ ws) one.log
         (log_removals_carried (at + 1) edits packed rewrite texts rest ws placed text then)
         (λ p plain. log_removals_carried (at + 1) edits packed rewrite (changed_at p None texts) rest ws placed (packed_stays texts p packed rewrite (λ path is. plain path) text) then)))
 
@@ -206,22 +212,22 @@ module _ (locked staying : List Path) (dirs : Dirs) where
         ((left : View) → Carried left rest ws) → Carried texts (steps_in (packed_entries dirs packed rewrite) ++ rest) (packed_written first packed rewrite ++ ws)
     packed_carried None rewrite texts edits rest ws placed text then = then texts
     packed_carried (Some path) Unchanged texts edits rest ws placed text then = then texts
-    packed_carried (Some path) Removed texts edits rest ws placed text then = (ws, refl, placed.1.1, then (changed_at path None texts))
+    packed_carried (Some path) Removed texts edits rest ws placed text then = (ws, refl, settles_removal path placed.1, then (changed_at path None texts))
     packed_carried (Some path) (Text new) texts edits rest ws placed text then =
         (file_bytes (first (lock_of path)), ws, placed.0, (λ same. placed.1.0 path (sym same)), text, refl, placed.1.1, then (changed_at path None (changed_at (lock_of path) None texts)))
 
     -- The removal of a loose file, or none; and of all.
     removal_carried : (at : ℕ) (e : Edit) (f : Effect) (texts : View) (rest : List Synced) (ws : List Write) → IsPlaced e → ((left : View) → Carried left rest ws) →
-        Carried texts (steps_in (removal_for dirs at e.lock f) ++ rest) (file_removed e.lock f ++ ws)
+        Carried texts (steps_in (removal_for at e.lock f) ++ rest) (file_removed e.lock f ++ ws)
     removal_carried at e effects.Write texts rest ws placed then = then texts
     removal_carried at e effects.Keep texts rest ws placed then = then texts
-    removal_carried at e effects.Remove texts rest ws placed then = (ws, refl, placed.place.1, then (changed_at e.lock None texts))
+    removal_carried at e effects.Remove texts rest ws placed then = (ws, refl, settles_removal e.lock placed.place, then (changed_at e.lock None texts))
 
-    removals_carried : (at : ℕ) (edits : List Edit) (texts : View) → ArePlaced edits → Carried texts (steps_in (each (removal_entry dirs) at edits)) (files_removed edits)
+    removals_carried : (at : ℕ) (edits : List Edit) (texts : View) → ArePlaced edits → Carried texts (steps_in (each removal_entry at edits)) (files_removed edits)
     removals_carried at [] texts placed = refl
     removals_carried at (e ∷ edits) texts (one, placed) =
-        subst (λ (l : List Synced). Carried texts l (file_removed e.lock e.effect ++ files_removed edits)) (sym (map-append (λ (x : Entry). x.0) (removal_entry dirs at e) (each (removal_entry dirs) (at + 1) edits)))
-        (removal_carried at e e.effect texts (steps_in (each (removal_entry dirs) (at + 1) edits)) (files_removed edits) one (λ left. removals_carried (at + 1) edits left placed))
+        subst (λ (l : List Synced). Carried texts l (file_removed e.lock e.effect ++ files_removed edits)) (sym (map-append (λ (x : Entry). x.0) (removal_entry at e) (each removal_entry (at + 1) edits)))
+        (removal_carried at e e.effect texts (steps_in (each removal_entry (at + 1) edits)) (files_removed edits) one (λ left. removals_carried (at + 1) edits left placed))
 
     -- All of them.
     pub plan_carried : (edits : List Edit) (packed : Option Path) (rewrite : Rewrite) (texts : View) → ArePlaced edits → AreApart edits → IsPackedPlaced packed edits → HaveTexts texts edits →
@@ -229,10 +235,10 @@ module _ (locked staying : List Path) (dirs : Dirs) where
     plan_carried edits packed rewrite texts placed apart packed_placed texts_are packed_is =
         subst (λ (l : List Synced). Carried texts l (own_plan first edits packed rewrite)) (sym steps_are)
         (updates_carried 0 edits packed rewrite texts
-        (steps_in (each (log_removal_entry dirs) 0 edits) ++ (steps_in (packed_entries dirs packed rewrite) ++ steps_in (each (removal_entry dirs) 0 edits)))
+        (steps_in (each log_removal_entry 0 edits) ++ (steps_in (packed_entries dirs packed rewrite) ++ steps_in (each removal_entry 0 edits)))
         (logs_removed edits ++ (packed_written first packed rewrite ++ files_removed edits)) placed apart (elsewhere packed packed_placed) (texts_are, packed_is)
-        (λ left text. log_removals_carried 0 edits packed rewrite left (steps_in (packed_entries dirs packed rewrite) ++ steps_in (each (removal_entry dirs) 0 edits)) (packed_written first packed rewrite ++ files_removed edits) placed text
-        (λ now held. packed_carried packed rewrite now edits (steps_in (each (removal_entry dirs) 0 edits)) (files_removed edits) packed_placed held (λ last. removals_carried 0 edits last placed))))
+        (λ left text. log_removals_carried 0 edits packed rewrite left (steps_in (packed_entries dirs packed rewrite) ++ steps_in (each removal_entry 0 edits)) (packed_written first packed rewrite ++ files_removed edits) placed text
+        (λ now held. packed_carried packed rewrite now edits (steps_in (each removal_entry 0 edits)) (files_removed edits) packed_placed held (λ last. removals_carried 0 edits last placed))))
       where
         elsewhere : (held : Option Path) → IsPackedPlaced held edits → (path : Path) → held ≡ Some path → IsElsewhere path edits
         elsewhere (Some path) is other same = subst (λ (p : Path). IsElsewhere p edits) (inner same) is.2
@@ -242,11 +248,11 @@ module _ (locked staying : List Path) (dirs : Dirs) where
         elsewhere None is other same = cc
 
         tail : List Entry
-        tail = packed_entries dirs packed rewrite ++ each (removal_entry dirs) 0 edits
+        tail = packed_entries dirs packed rewrite ++ each removal_entry 0 edits
 
-        steps_are : steps_in (planned_entries dirs edits packed rewrite) ≡ steps_in (each (update_entries dirs) 0 edits) ++ (steps_in (each (log_removal_entry dirs) 0 edits) ++ (steps_in (packed_entries dirs packed rewrite) ++ steps_in (each (removal_entry dirs) 0 edits)))
+        steps_are : steps_in (planned_entries dirs edits packed rewrite) ≡ steps_in (each (update_entries dirs) 0 edits) ++ (steps_in (each log_removal_entry 0 edits) ++ (steps_in (packed_entries dirs packed rewrite) ++ steps_in (each removal_entry 0 edits)))
         steps_are =
-            map-append (λ (x : Entry). x.0) (each (update_entries dirs) 0 edits) (each (log_removal_entry dirs) 0 edits ++ tail)
+            map-append (λ (x : Entry). x.0) (each (update_entries dirs) 0 edits) (each log_removal_entry 0 edits ++ tail)
             ∙ ap (λ l. steps_in (each (update_entries dirs) 0 edits) ++ l)
-            (map-append (λ (x : Entry). x.0) (each (log_removal_entry dirs) 0 edits) tail
-            ∙ ap (λ l. steps_in (each (log_removal_entry dirs) 0 edits) ++ l) (map-append (λ (x : Entry). x.0) (packed_entries dirs packed rewrite) (each (removal_entry dirs) 0 edits)))
+            (map-append (λ (x : Entry). x.0) (each log_removal_entry 0 edits) tail
+            ∙ ap (λ l. steps_in (each log_removal_entry 0 edits) ++ l) (map-append (λ (x : Entry). x.0) (packed_entries dirs packed rewrite) (each removal_entry 0 edits)))

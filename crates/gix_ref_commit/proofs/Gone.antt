@@ -123,12 +123,12 @@ module _ (locked staying : List Path) (dirs : Dirs) (q : Path) where
   rename_misses at place effects.Remove plain = tt
   rename_misses at place effects.Keep plain = tt
 
-  log_removal_misses : (at : ℕ) (l : LogEffect) → AllMiss lock (log_removal_for dirs at l)
+  log_removal_misses : (at : ℕ) (l : LogEffect) → AllMiss lock (log_removal_for at l)
   log_removal_misses at logs.Keep = tt
   log_removal_misses at (logs.Append log line) = tt
   log_removal_misses at (logs.Remove log) = (tt, tt)
 
-  removal_misses : (at : ℕ) (place : Path) (f : Effect) → AllMiss lock (removal_for dirs at place f)
+  removal_misses : (at : ℕ) (place : Path) (f : Effect) → AllMiss lock (removal_for at place f)
   removal_misses at place effects.Write = tt
   removal_misses at place effects.Remove = (tt, tt)
   removal_misses at place effects.Keep = tt
@@ -141,13 +141,13 @@ module _ (locked staying : List Path) (dirs : Dirs) (q : Path) where
       (miss_both lock (line_entry dirs at e) (rename_entry dirs at e) (line_misses at e.log one.log) (rename_misses at e.lock e.effect one.place.0)))
       (updates_miss (at + 1) edits placed)
 
-  log_removals_miss : (at : ℕ) (edits : List Edit) → AllMiss lock (each (log_removal_entry dirs) at edits)
+  log_removals_miss : (at : ℕ) (edits : List Edit) → AllMiss lock (each log_removal_entry at edits)
   log_removals_miss at [] = tt
-  log_removals_miss at (e ∷ edits) = miss_both lock (log_removal_entry dirs at e) (each (log_removal_entry dirs) (at + 1) edits) (log_removal_misses at e.log) (log_removals_miss (at + 1) edits)
+  log_removals_miss at (e ∷ edits) = miss_both lock (log_removal_entry at e) (each log_removal_entry (at + 1) edits) (log_removal_misses at e.log) (log_removals_miss (at + 1) edits)
 
-  removals_miss : (at : ℕ) (edits : List Edit) → AllMiss lock (each (removal_entry dirs) at edits)
+  removals_miss : (at : ℕ) (edits : List Edit) → AllMiss lock (each removal_entry at edits)
   removals_miss at [] = tt
-  removals_miss at (e ∷ edits) = miss_both lock (removal_entry dirs at e) (each (removal_entry dirs) (at + 1) edits) (removal_misses at e.lock e.effect) (removals_miss (at + 1) edits)
+  removals_miss at (e ∷ edits) = miss_both lock (removal_entry at e) (each removal_entry (at + 1) edits) (removal_misses at e.lock e.effect) (removals_miss (at + 1) edits)
 
   packed_misses : (packed : Option Path) (rewrite : Rewrite) (edits : List Edit) → IsPackedPlaced locked staying dirs packed edits → AllMiss lock (packed_entries dirs packed rewrite)
   packed_misses None rewrite edits placed = tt
@@ -158,6 +158,6 @@ module _ (locked staying : List Path) (dirs : Dirs) (q : Path) where
   pub plan_misses : (edits : List Edit) (packed : Option Path) (rewrite : Rewrite) → ArePlaced locked staying dirs edits → IsPackedPlaced locked staying dirs packed edits →
       AllMiss lock (planned_entries dirs edits packed rewrite)
   plan_misses edits packed rewrite placed packed_placed =
-      miss_both lock (each (update_entries dirs) 0 edits) (each (log_removal_entry dirs) 0 edits ++ (packed_entries dirs packed rewrite ++ each (removal_entry dirs) 0 edits)) (updates_miss 0 edits placed)
-      (miss_both lock (each (log_removal_entry dirs) 0 edits) (packed_entries dirs packed rewrite ++ each (removal_entry dirs) 0 edits) (log_removals_miss 0 edits)
-      (miss_both lock (packed_entries dirs packed rewrite) (each (removal_entry dirs) 0 edits) (packed_misses packed rewrite edits packed_placed) (removals_miss 0 edits)))
+      miss_both lock (each (update_entries dirs) 0 edits) (each log_removal_entry 0 edits ++ (packed_entries dirs packed rewrite ++ each removal_entry 0 edits)) (updates_miss 0 edits placed)
+      (miss_both lock (each log_removal_entry 0 edits) (packed_entries dirs packed rewrite ++ each removal_entry 0 edits) (log_removals_miss 0 edits)
+      (miss_both lock (packed_entries dirs packed rewrite) (each removal_entry 0 edits) (packed_misses packed rewrite edits packed_placed) (removals_miss 0 edits)))

@@ -73,20 +73,20 @@ module _ (dirs : Dirs) (path : Path) where
       rename effects.Remove = tt
       rename effects.Keep = tt
 
-  log_removals : (at : ℕ) (edits : List Edit) → RenamesPacked (each (log_removal_entry dirs) at edits)
+  log_removals : (at : ℕ) (edits : List Edit) → RenamesPacked (each log_removal_entry at edits)
   log_removals at [] = tt
-  log_removals at (e ∷ edits) = both (log_removal_entry dirs at e) (each (log_removal_entry dirs) (at + 1) edits) (one e.log) (log_removals (at + 1) edits)
+  log_removals at (e ∷ edits) = both (log_removal_entry at e) (each log_removal_entry (at + 1) edits) (one e.log) (log_removals (at + 1) edits)
     where
-      one : (l : LogEffect) → RenamesPacked (log_removal_for dirs at l)
+      one : (l : LogEffect) → RenamesPacked (log_removal_for at l)
       one logs.Keep = tt
       one (logs.Append log line) = tt
       one (logs.Remove log) = (λ is. absurd (no_log_removal at is), tt)
 
-  removals : (at : ℕ) (edits : List Edit) → RenamesPacked (each (removal_entry dirs) at edits)
+  removals : (at : ℕ) (edits : List Edit) → RenamesPacked (each removal_entry at edits)
   removals at [] = tt
-  removals at (e ∷ edits) = both (removal_entry dirs at e) (each (removal_entry dirs) (at + 1) edits) (one e.effect) (removals (at + 1) edits)
+  removals at (e ∷ edits) = both (removal_entry at e) (each removal_entry (at + 1) edits) (one e.effect) (removals (at + 1) edits)
     where
-      one : (f : Effect) → RenamesPacked (removal_for dirs at e.lock f)
+      one : (f : Effect) → RenamesPacked (removal_for at e.lock f)
       one effects.Write = tt
       one effects.Remove = (λ is. absurd (no_removal at is), tt)
       one effects.Keep = tt
@@ -99,6 +99,6 @@ module _ (dirs : Dirs) (path : Path) where
 
   pub renames_packed_lock : (edits : List Edit) (packed : Option Path) (rewrite : Rewrite) → packed ≡ Some path → renames_packed rewrite ≡ true → RenamesPacked (planned_entries dirs edits packed rewrite)
   renames_packed_lock edits packed rewrite held text =
-      both (each (update_entries dirs) 0 edits) (each (log_removal_entry dirs) 0 edits ++ (packed_entries dirs packed rewrite ++ each (removal_entry dirs) 0 edits)) (updates 0 edits)
-      (both (each (log_removal_entry dirs) 0 edits) (packed_entries dirs packed rewrite ++ each (removal_entry dirs) 0 edits) (log_removals 0 edits)
-      (both (packed_entries dirs packed rewrite) (each (removal_entry dirs) 0 edits) (itself packed rewrite held text) (removals 0 edits)))
+      both (each (update_entries dirs) 0 edits) (each log_removal_entry 0 edits ++ (packed_entries dirs packed rewrite ++ each removal_entry 0 edits)) (updates 0 edits)
+      (both (each log_removal_entry 0 edits) (packed_entries dirs packed rewrite ++ each removal_entry 0 edits) (log_removals 0 edits)
+      (both (packed_entries dirs packed rewrite) (each removal_entry 0 edits) (itself packed rewrite held text) (removals 0 edits)))

@@ -435,20 +435,20 @@ IsNoWrite a = IsWrite a → ⊥
 
 -- What comes before such a step of a plan.
 module _ (dirs : Dirs) (edits : List Edit) (packed : Option Path) (rewrite : Rewrite) where
-  log_removals_late : (at : ℕ) (es : List Edit) → AllAbout IsNoWrite (each (log_removal_entry dirs) at es)
+  log_removals_late : (at : ℕ) (es : List Edit) → AllAbout IsNoWrite (each log_removal_entry at es)
   log_removals_late at [] = tt
-  log_removals_late at (e ∷ es) = about_both IsNoWrite (log_removal_entry dirs at e) (each (log_removal_entry dirs) (at + 1) es) (one e.log) (log_removals_late (at + 1) es)
+  log_removals_late at (e ∷ es) = about_both IsNoWrite (log_removal_entry at e) (each log_removal_entry (at + 1) es) (one e.log) (log_removals_late (at + 1) es)
     where
-      one : (l : LogEffect) → AllAbout IsNoWrite (log_removal_for dirs at l)
+      one : (l : LogEffect) → AllAbout IsNoWrite (log_removal_for at l)
       one logs.Keep = tt
       one (logs.Append log line) = tt
       one (logs.Remove log) = ((λ none. none), tt)
 
-  removals_late : (at : ℕ) (es : List Edit) → AllAbout IsNoWrite (each (removal_entry dirs) at es)
+  removals_late : (at : ℕ) (es : List Edit) → AllAbout IsNoWrite (each removal_entry at es)
   removals_late at [] = tt
-  removals_late at (e ∷ es) = about_both IsNoWrite (removal_entry dirs at e) (each (removal_entry dirs) (at + 1) es) (one e.effect) (removals_late (at + 1) es)
+  removals_late at (e ∷ es) = about_both IsNoWrite (removal_entry at e) (each removal_entry (at + 1) es) (one e.effect) (removals_late (at + 1) es)
     where
-      one : (effect : Effect) → AllAbout IsNoWrite (removal_for dirs at e.lock effect)
+      one : (effect : Effect) → AllAbout IsNoWrite (removal_for at e.lock effect)
       one effects.Keep = tt
       one effects.Write = tt
       one effects.Remove = ((λ none. none), tt)
@@ -462,9 +462,9 @@ module _ (dirs : Dirs) (edits : List Edit) (packed : Option Path) (rewrite : Rew
   pub plan_grows : (seen : List Entry) (x : Entry) (later : List Entry) → planned_entries dirs edits packed rewrite ≡ seen ++ x ∷ later → IsWrite x.1 → (end : Option Path) × GrowsTo None seen end × ((next : Option Path) × IsGrowth end (bare x.0) next)
   plan_grows seen x later cut write =
       let U = each (update_entries dirs) 0 edits in
-      let L = each (log_removal_entry dirs) 0 edits in
+      let L = each log_removal_entry 0 edits in
       let P = packed_entries dirs packed rewrite in
-      let R = each (removal_entry dirs) 0 edits in
+      let R = each removal_entry 0 edits in
       let late = about_both IsNoWrite L (P ++ R) (log_removals_late 0 edits) (about_both IsNoWrite P R (packed_late packed rewrite) (removals_late 0 edits)) in
       ⊎_elim
       (λ (early : IsInFirst U (L ++ (P ++ R)) seen x later). grow_cut seen x early.0 None None (subst (λ (l : List Entry). GrowsTo None l None) early.1 (updates_grow dirs 0 edits)))

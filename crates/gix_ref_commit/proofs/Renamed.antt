@@ -163,12 +163,12 @@ module _ (dirs : Dirs) (n : ℕ) where
       rename effects.Remove = tt
       rename effects.Keep = tt
 
-  no_packed_logs : (at : ℕ) (edits : List Edit) → AllAbout (λ a. packed_before a ≡ false) (each (log_removal_entry dirs) at edits)
+  no_packed_logs : (at : ℕ) (edits : List Edit) → AllAbout (λ a. packed_before a ≡ false) (each log_removal_entry at edits)
   no_packed_logs at [] = tt
   no_packed_logs at (e ∷ edits) =
-      about_both (λ a. packed_before a ≡ false) (log_removal_entry dirs at e) (each (log_removal_entry dirs) (at + 1) edits) (one e.log) (no_packed_logs (at + 1) edits)
+      about_both (λ a. packed_before a ≡ false) (log_removal_entry at e) (each log_removal_entry (at + 1) edits) (one e.log) (no_packed_logs (at + 1) edits)
     where
-      one : (l : LogEffect) → AllAbout (λ a. packed_before a ≡ false) (log_removal_for dirs at l)
+      one : (l : LogEffect) → AllAbout (λ a. packed_before a ≡ false) (log_removal_for at l)
       one logs.Keep = tt
       one (logs.Append log line) = tt
       one (logs.Remove log) = (refl, tt)
@@ -190,13 +190,13 @@ module _ (dirs : Dirs) (n : ℕ) where
     U = each (update_entries dirs) 0 edits
 
     abbrev L : List Entry
-    L = each (log_removal_entry dirs) 0 edits
+    L = each log_removal_entry 0 edits
 
     abbrev P : List Entry
     P = packed_entries dirs packed rewrite
 
     abbrev R : List Entry
-    R = each (removal_entry dirs) 0 edits
+    R = each removal_entry 0 edits
 
     pub renamed_before : (before : List Entry) (x : Entry) (rest : List Entry) → planned_entries dirs edits packed rewrite ≡ before ++ x ∷ rest →
         (k : ℕ) → k < done_before n x.1 → is_written_at edits k ≡ true → HasRename (lock_at edits k) before

@@ -95,12 +95,12 @@ module _ (edits : List Edit) (packed : Option Path) where
     rename_shaped at e effects.Remove is = tt
     rename_shaped at e effects.Keep is = tt
 
-    log_removal_shaped : (at : ℕ) (e : Edit) (l : LogEffect) → IsHere at e → AllShaped (log_removal_for dirs at l)
+    log_removal_shaped : (at : ℕ) (e : Edit) (l : LogEffect) → IsHere at e → AllShaped (log_removal_for at l)
     log_removal_shaped at e logs.Keep is = tt
     log_removal_shaped at e (logs.Append log text) is = tt
     log_removal_shaped at e (logs.Remove log) is = ((is.0, (log.items, refl)), tt)
 
-    removal_shaped : (at : ℕ) (e : Edit) (f : Effect) → IsHere at e → AllShaped (removal_for dirs at e.lock f)
+    removal_shaped : (at : ℕ) (e : Edit) (f : Effect) → IsHere at e → AllShaped (removal_for at e.lock f)
     removal_shaped at e effects.Write is = tt
     removal_shaped at e effects.Remove is = ((is.0, (e.lock, refl)), tt)
     removal_shaped at e effects.Keep is = tt
@@ -116,10 +116,10 @@ module _ (edits : List Edit) (packed : Option Path) where
 
     pub all_shaped : (rewrite : Rewrite) → AllShaped (planned_entries dirs edits packed rewrite)
     all_shaped rewrite =
-        both (each (update_entries dirs) 0 edits) (each (log_removal_entry dirs) 0 edits ++ (packed_entries dirs packed rewrite ++ each (removal_entry dirs) 0 edits))
+        both (each (update_entries dirs) 0 edits) (each log_removal_entry 0 edits ++ (packed_entries dirs packed rewrite ++ each removal_entry 0 edits))
         (each_shaped (update_entries dirs) (λ at e is. both (folders_entry at e) (line_entry dirs at e ++ rename_entry dirs at e) (folders_entry_shaped at e is.0 is.3)
         (both (line_entry dirs at e) (rename_entry dirs at e) (line_shaped at e.log is.0 is.3) (rename_shaped at e e.effect is))) [] edits 0 refl refl)
-        (both (each (log_removal_entry dirs) 0 edits) (packed_entries dirs packed rewrite ++ each (removal_entry dirs) 0 edits)
-        (each_shaped (log_removal_entry dirs) (λ at e is. log_removal_shaped at e e.log is) [] edits 0 refl refl)
-        (both (packed_entries dirs packed rewrite) (each (removal_entry dirs) 0 edits) (packed_shaped rewrite)
-        (each_shaped (removal_entry dirs) (λ at e is. removal_shaped at e e.effect is) [] edits 0 refl refl)))
+        (both (each log_removal_entry 0 edits) (packed_entries dirs packed rewrite ++ each removal_entry 0 edits)
+        (each_shaped log_removal_entry (λ at e is. log_removal_shaped at e e.log is) [] edits 0 refl refl)
+        (both (packed_entries dirs packed rewrite) (each removal_entry 0 edits) (packed_shaped rewrite)
+        (each_shaped removal_entry (λ at e is. removal_shaped at e e.effect is) [] edits 0 refl refl)))

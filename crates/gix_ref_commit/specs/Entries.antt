@@ -3,7 +3,7 @@ use Rattle.std.specs.Prelude.{ℕ, ◌+◌, List, [], ◌∷◌, ◌++◌, map, 
 use Rattle.gix_ref_files.specs.Tree.{Path}
 use Rattle.gix_ref_files.specs.Disk.{folder_of}
 use Rattle.gix_ref_files.specs.Lock.{lock_of}
-use Rattle.gix_ref_files.specs.Settled.{Sync, climb}
+use Rattle.gix_ref_files.specs.Settled.{Sync, sync_of_folder, climb}
 use Rattle.gix_ref_files.specs.Settled.Sync.{OfFile}
 use Rattle.gix_ref_files.specs.Steps.{Step}
 use Rattle.gix_ref_files.specs.Steps.Step.{Line, MakeFolders, Rename, RemoveFile}
@@ -79,30 +79,34 @@ rename_for dirs at place effects.Keep = []
 abbrev pub rename_entry : Dirs → ℕ → Edit → List Entry
 rename_entry dirs at e = rename_for dirs at e.lock e.effect
 
--- the removal of a log
-abbrev pub log_removal_for : Dirs → ℕ → LogEffect → List Entry
-log_removal_for dirs at (logs.Remove log) =
-    (With (RemoveFile log.items) (syncs_at dirs log.items), about.LogRemoval at) ∷ []
-log_removal_for dirs at logs.Keep = []
-log_removal_for dirs at (logs.Append log line) = []
+-- the removal of a file, settled by the sync of its folder
+abbrev pub removal_of : Path → Synced
+removal_of path = With (RemoveFile path) (sync_of_folder (folder_of path))
 
-abbrev pub log_removal_entry : Dirs → ℕ → Edit → List Entry
-log_removal_entry dirs at e = log_removal_for dirs at e.log
+-- the removal of a log
+abbrev pub log_removal_for : ℕ → LogEffect → List Entry
+log_removal_for at (logs.Remove log) =
+    (removal_of log.items, about.LogRemoval at) ∷ []
+log_removal_for at logs.Keep = []
+log_removal_for at (logs.Append log line) = []
+
+abbrev pub log_removal_entry : ℕ → Edit → List Entry
+log_removal_entry at e = log_removal_for at e.log
 
 -- the removal of the loose file at a place
-abbrev pub removal_for : Dirs → ℕ → Path → Effect → List Entry
-removal_for dirs at place effects.Remove =
-    (With (RemoveFile place) (syncs_at dirs place), about.Removal at) ∷ []
-removal_for dirs at place effects.Write = []
-removal_for dirs at place effects.Keep = []
+abbrev pub removal_for : ℕ → Path → Effect → List Entry
+removal_for at place effects.Remove =
+    (removal_of place, about.Removal at) ∷ []
+removal_for at place effects.Write = []
+removal_for at place effects.Keep = []
 
-abbrev pub removal_entry : Dirs → ℕ → Edit → List Entry
-removal_entry dirs at e = removal_for dirs at e.lock e.effect
+abbrev pub removal_entry : ℕ → Edit → List Entry
+removal_entry at e = removal_for at e.lock e.effect
 
 -- what is done with `packed-refs`
 abbrev pub packed_entry : Dirs → Path → Rewrite → List Entry
 packed_entry dirs path Unchanged = []
-packed_entry dirs path Removed = (With (RemoveFile path) (syncs_at dirs path), about.Packed) ∷ []
+packed_entry dirs path Removed = (removal_of path, about.Packed) ∷ []
 packed_entry dirs path (Text text) =
     (With (Rename (lock_of path) path) (syncs_at dirs path), about.Packed) ∷ []
 
@@ -116,15 +120,15 @@ abbrev pub each : (ℕ → Edit → List Entry) → ℕ → List Edit → List E
 each f at [] = []
 each f at (e ∷ edits) = f at e ++ each f (at + 1) edits
 
--- the line of an edit, behind the folders that lead to its log, and then its rename: so no reference is changed without its line
+-- the line of an edit, after the folders that lead to its log, and then its rename: so no reference is changed without its line
 abbrev pub update_entries : Dirs → ℕ → Edit → List Entry
 update_entries dirs at e = folders_entry at e ++ (line_entry dirs at e ++ rename_entry dirs at e)
 
 -- all of them, in their order
 abbrev pub planned_entries : Dirs → List Edit → Option Path → Rewrite → List Entry
 planned_entries dirs edits packed rewrite =
-    each (update_entries dirs) 0 edits ++ (each (log_removal_entry dirs) 0 edits
-    ++ (packed_entries dirs packed rewrite ++ each (removal_entry dirs) 0 edits))
+    each (update_entries dirs) 0 edits ++ (each log_removal_entry 0 edits
+    ++ (packed_entries dirs packed rewrite ++ each removal_entry 0 edits))
 
 -- the steps of entries, with their syncs
 abbrev pub steps_in : List Entry → List Synced

@@ -86,15 +86,13 @@ fn rename_step<'p>(dirs: &Dirs, at: usize, edit: &'p Edit) -> Option<Planned<'p,
 }
 
 /// The removal of the log of an edit, if it is removed.
-fn log_removal_step<'p>(dirs: &Dirs, at: usize, edit: &'p Edit) -> Option<Planned<'p, About>>
-    ensures { entry_of result ≡ log_removal_entry dirs.now at edit.now }
+fn log_removal_step<'p>(at: usize, edit: &'p Edit) -> Option<Planned<'p, About>>
+    ensures { entry_of result ≡ log_removal_entry at edit.now }
 {
     match &edit.log {
         LogEffect::Remove { log } => Some(Planned {
             action: Action::RemoveFile { path: log },
-            settle: Settle::UpTo {
-                root: dirs.root(log),
-            },
+            settle: Settle::Folder,
             about: About::LogRemoval { edit: at },
         }),
         LogEffect::Keep | LogEffect::Append { .. } => None,
@@ -102,17 +100,15 @@ fn log_removal_step<'p>(dirs: &Dirs, at: usize, edit: &'p Edit) -> Option<Planne
 }
 
 /// The removal of the loose file of an edit, if it is removed.
-fn removal_step<'p>(dirs: &Dirs, at: usize, edit: &'p Edit) -> Option<Planned<'p, About>>
-    ensures { entry_of result ≡ removal_entry dirs.now at edit.now }
+fn removal_step<'p>(at: usize, edit: &'p Edit) -> Option<Planned<'p, About>>
+    ensures { entry_of result ≡ removal_entry at edit.now }
 {
     match edit.effect {
         Effect::Remove => Some(Planned {
             action: Action::RemoveFile {
                 path: edit.lock.place(),
             },
-            settle: Settle::UpTo {
-                root: dirs.root(edit.lock.place()),
-            },
+            settle: Settle::Folder,
             about: About::Removal { edit: at },
         }),
         Effect::Write | Effect::Keep => None,
@@ -123,21 +119,24 @@ fn removal_step<'p>(dirs: &Dirs, at: usize, edit: &'p Edit) -> Option<Planned<'p
 fn packed_step<'p>(dirs: &Dirs, lock: &'p LockFile, rewrite: &Rewrite) -> Option<Planned<'p, About>>
     ensures { entry_of result ≡ packed_entry dirs.now lock.now rewrite.now }
 {
-    let action = match rewrite {
-        Rewrite::Unchanged => return None,
-        Rewrite::Removed => Action::RemoveFile { path: lock.place() },
-        Rewrite::Text(_) => Action::Rename {
-            from: lock.path(),
-            to: lock.place(),
-        },
-    };
-    Some(Planned {
-        action,
-        settle: Settle::UpTo {
-            root: dirs.root(lock.place()),
-        },
-        about: About::Packed,
-    })
+    match rewrite {
+        Rewrite::Unchanged => None,
+        Rewrite::Removed => Some(Planned {
+            action: Action::RemoveFile { path: lock.place() },
+            settle: Settle::Folder,
+            about: About::Packed,
+        }),
+        Rewrite::Text(_) => Some(Planned {
+            action: Action::Rename {
+                from: lock.path(),
+                to: lock.place(),
+            },
+            settle: Settle::UpTo {
+                root: dirs.root(lock.place()),
+            },
+            about: About::Packed,
+        }),
+    }
 }
 
 /// Adds a step, if there is one.
@@ -173,34 +172,29 @@ fn add_updates<'p>(
 /// The removals of logs.
 fn add_log_removals<'p>(
     plan: &mut Vec<Planned<'p, About>>,
-    dirs: &Dirs,
     edits: &'p [Edit],
 ) -> Result<(), AllocError>
     ensures { OnOk result (entries plan.new.items
-        ≡ entries plan.old.items ++ each (log_removal_entry dirs.now) 0 edits.now) }
+        ≡ entries plan.old.items ++ each log_removal_entry 0 edits.now) }
 {
     for (at, edit) in edits.iter().enumerate() {
-        add(plan, log_removal_step(dirs, at, edit))?;
+        add(plan, log_removal_step(at, edit))?;
     }
     Ok(())
 }
 
 /// The removals of loose files.
-fn add_removals<'p>(
-    plan: &mut Vec<Planned<'p, About>>,
-    dirs: &Dirs,
-    edits: &'p [Edit],
-) -> Result<(), AllocError>
+fn add_removals<'p>(plan: &mut Vec<Planned<'p, About>>, edits: &'p [Edit]) -> Result<(), AllocError>
     ensures { OnOk result (entries plan.new.items
-        ≡ entries plan.old.items ++ each (removal_entry dirs.now) 0 edits.now) }
+        ≡ entries plan.old.items ++ each removal_entry 0 edits.now) }
 {
     for (at, edit) in edits.iter().enumerate() {
-        add(plan, removal_step(dirs, at, edit))?;
+        add(plan, removal_step(at, edit))?;
     }
     Ok(())
 }
 
-/// The plan of these edits, where `packed-refs` becomes this: for each edit its log line, behind the folders of the log,
+/// The plan of these edits, where `packed-refs` becomes this: for each edit its log line, after the folders of the log,
 /// and then its rename; the removals of logs; `packed-refs`, if its lock is held; and the removals of loose files. (`git update-ref --stdin`, `commit`)
 pub fn plan_commit<'p>(
     alloc: Global,
@@ -215,10 +209,10 @@ pub fn plan_commit<'p>(
     // An update has three steps, a deletion two.
     let mut plan = Vec::with_capacity(alloc, edits.len().saturating_mul(3))?;
     add_updates(&mut plan, dirs, edits)?;
-    add_log_removals(&mut plan, dirs, edits)?;
+    add_log_removals(&mut plan, edits)?;
     if let Some(lock) = packed {
         add(&mut plan, packed_step(dirs, lock, rewrite))?;
     }
-    add_removals(&mut plan, dirs, edits)?;
+    add_removals(&mut plan, edits)?;
     Ok(plan)
 }

@@ -16,3 +16,4 @@ pub mod Ready
 pub mod Runs
 pub mod Settling
 pub mod Shaped
+pub mod Stops

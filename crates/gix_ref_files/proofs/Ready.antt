@@ -1,10 +1,11 @@
 -- After a step folders lead to its path, and a file is there where its bytes grew: so its syncs find what they name.
-use Rattle.std.proofs.Common.{◌≡◌, inl, inr, ℕ, zero, suc, ◌<◌, ◌≤◌, List, [], ◌∷◌, ◌++◌, length, take, get_or, Bool, true, false, Option, Some, None, refl, sym, ◌∙◌, ap, subst, arith, append_assoc, append-nil}
+use Rattle.std.proofs.Common.{◌≡◌, ◌≢◌, inl, inr, ℕ, zero, suc, ◌<◌, ◌≤◌, List, [], ◌∷◌, ◌++◌, length, take, get_or, Bool, true, false, Option, Some, None, refl, sym, ◌∙◌, ap, subst, arith, append_assoc, append-nil}
 use Rattle.std.specs.Prelude.{if◌then◌else◌, ◌==◌, is_some}
 use Rattle.std.specs.List.{list_all}
 use Rattle.std.proofs.lemmas.Bool.{false≢true, true≢false}
-use Rattle.gix_ref_files.specs.Tree.{Tree, Path, Content, appended, more, is_file, is_folder, has_folders, fronts_after, IsShaped}
+use Rattle.gix_ref_files.specs.Tree.{Tree, Path, Content, appended, more, is_file, is_folder, has_folders, fronts, fronts_after, IsShaped}
 use Rattle.gix_ref_files.specs.Tree.Content.{File, Folder}
+use Rattle.gix_ref_files.specs.Disk.{folder_of}
 use Rattle.gix_ref_files.specs.Calls.{created, Creates, Appends, RemovesFile}
 use Rattle.gix_ref_files.specs.Steps.{Does}
 use Rattle.gix_ref_files.specs.Steps.Step.{Line}
@@ -12,7 +13,8 @@ use Rattle.gix_ref_files.specs.DiskSteps.{CanSync}
 use Rattle.gix_ref_files.specs.declared.files.Create.TheVariants.{Made}
 use Rattle.gix_ref_files.proofs.Changes.{file_no_folder}
 use Rattle.gix_ref_files.proofs.Puts.{put_at, folders_kept}
-use Rattle.gix_ref_files.proofs.Settling.{both_true}
+use Rattle.gix_ref_files.proofs.FolderOf.{fronts_of_folder}
+use Rattle.gix_ref_files.proofs.Settling.{both_true, all_snoc}
 
 -- what holds of all fronts holds of the front at a slash
 at_slash : (P : Path → Bool) (seen xs : List ℕ) (k : ℕ) → k < length xs → get_or xs k 0 ≡ 47 → list_all P (fronts_after seen xs) ≡ true → P (seen ++ take k xs) ≡ true
@@ -40,6 +42,16 @@ folder_missing T p k some lt slash none = by (has_folders T p) refl
   where
     by : (b : Bool) → has_folders T p ≡ b → has_folders T p ≡ false
     by true e = absurd (true≢false (sym (front_is_folder T p k some lt slash e) ∙ none))
+    by false e = e
+
+-- and where the path's own folder is none
+pub own_folder_missing : (T : Tree) (p : Path) → folder_of p ≢ [] → is_folder (T (folder_of p)) ≡ false → has_folders T p ≡ false
+own_folder_missing T p some none = by (has_folders T p) refl
+  where
+    by : (b : Bool) → has_folders T p ≡ b → has_folders T p ≡ false
+    by true e =
+        let all = all_snoc (λ g. is_folder (T g)) (fronts (folder_of p)) (folder_of p) (ap (list_all (λ g. is_folder (T g))) (sym (fronts_of_folder p some)) ∙ e) in
+        absurd (true≢false (sym all.1 ∙ none))
     by false e = e
 
 no_file : false ≡ true → (T : Tree) (p : Path) → is_file (T p) ≡ true

@@ -8,7 +8,7 @@ use Rattle.gix_ref_files.specs.Tree.{Tree, Path, Content, bytes_of, is_file, is_
 use Rattle.gix_ref_files.specs.Tree.Content.{File, Folder}
 use Rattle.gix_ref_files.specs.Disk.{DiskItem, Disk, Remains, item_at, MayBe, with_item, file_synced, folder_synced, folder_of, a_folder, with_folder_on, Lost}
 use Rattle.gix_ref_files.specs.Settled.Sync.{OfFile, OfFolder}
-use Rattle.gix_ref_files.specs.Settled.{StaysFolder, AllStay, MayHold, IsSettledAt, IsWholeAt, IsIn, AreIn, Settles, SettlesPath, Sync, synced_by}
+use Rattle.gix_ref_files.specs.Settled.{StaysFolder, AllStay, MayHold, IsSettledAt, IsWholeAt, IsIn, AreIn, Settles, SettlesPath, SettlesRemoval, Sync, synced_by, sync_of_folder}
 use Rattle.gix_ref_files.proofs.FolderOf.{fronts_of_folder}
 use Rattle.gix_ref_files.proofs.Entries.{now_may_be, entered_may, synced_may, synced_by_may, entry_synced, folder_remains}
 
@@ -183,7 +183,7 @@ all_in : (D : Disk) (ps fs : List Path) → AllStay D fs → AreIn ps fs → All
 all_in D [] fs stay are = tt
 all_in D (p ∷ ps) fs stay are = (stay_in D fs p stay are.0, all_in D ps fs stay are.1)
 
-all_snoc : (test : Path → Bool) (a : List Path) (f : Path) → list_all test (a ++ f ∷ []) ≡ true → (list_all test a ≡ true) × (test f ≡ true)
+pub all_snoc : (test : Path → Bool) (a : List Path) (f : Path) → list_all test (a ++ f ∷ []) ≡ true → (list_all test a ≡ true) × (test f ≡ true)
 all_snoc test [] f h = (refl, (both_true (test f) true h).0)
 all_snoc test (x ∷ a) f h =
     let parts = both_true (test x) (list_all test (a ++ f ∷ [])) h in
@@ -196,10 +196,31 @@ folder_content (Some Folder) h = refl
 folder_content None h = absurd (false≢true h)
 
 -- the entry of a path whose folder is synced first is as it is item_at
+pub removal_settled : (p : Path) (ss : List Sync) (D : Disk) (c : Option Content) → SettlesRemoval p ss → MayBe (synced_by ss D) p c → Remains (item_at D p) c
+removal_settled p [] D c settles may = absurd settles
+removal_settled p (OfFile f ∷ ss) D c settles may = absurd settles
+removal_settled p (OfFolder f ∷ ss) D c settles may = entry_synced D f p c settles (synced_by_may ss (folder_synced D f) p c may)
+
+-- so it is where all that settles the path is synced
+own_folder_first : (staying : List Path) (p : Path) (ss : List Sync) → SettlesPath staying p ss → SettlesRemoval p ss
+own_folder_first staying p [] settles = absurd settles
+own_folder_first staying p (OfFile f ∷ ss) settles = absurd settles
+own_folder_first staying p (OfFolder f ∷ ss) settles = settles.0
+
 pub settled_entry : (staying : List Path) (p : Path) (ss : List Sync) (D : Disk) (c : Option Content) → SettlesPath staying p ss → MayBe (synced_by ss D) p c → Remains (item_at D p) c
-settled_entry staying p [] D c settles may = absurd settles
-settled_entry staying p (OfFile f ∷ ss) D c settles may = absurd settles
-settled_entry staying p (OfFolder f ∷ ss) D c settles may = entry_synced D f p c settles.0 (synced_by_may ss (folder_synced D f) p c may)
+settled_entry staying p ss D c settles may = removal_settled p ss D c (own_folder_first staying p ss settles) may
+
+-- the folder of a path that has one
+pub own_sync : (f : Path) → f ≢ [] → sync_of_folder f ≡ OfFolder f ∷ []
+own_sync [] some = absurd (some refl)
+own_sync (c ∷ f) some = refl
+
+-- A path that can be settled has a folder, and so the sync of that folder alone settles its removal.
+pub own_sync_settles : (staying : List Path) (p : Path) (ss : List Sync) → SettlesPath staying p ss → SettlesRemoval p (sync_of_folder (folder_of p))
+own_sync_settles staying p [] settles = absurd settles
+own_sync_settles staying p (OfFile f ∷ ss) settles = absurd settles
+own_sync_settles staying p (OfFolder f ∷ ss) settles =
+    subst (SettlesRemoval p) (sym (own_sync (folder_of p) (λ none. settles.1 (sym settles.0 ∙ none)))) refl
 
 -- a folder that is there stays, once its path is settled
 settled_folder : (staying : List Path) (f : Path) (ss : List Sync) (D : Disk) → Settles staying f ss → AllStay D staying → is_folder (D.tree f) ≡ true → StaysFolder (synced_by ss D) f

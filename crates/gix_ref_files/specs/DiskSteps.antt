@@ -2,10 +2,10 @@
 -- among them finds.
 use Rattle.std.specs.Prelude.{◌≡◌, ◌⊎◌, ℕ, List, [], ◌∷◌, take, drop, map, Bool, true, false, if◌then◌else◌}
 use Rattle.gix_ref_files.specs.Tree.{Tree, Path, is_file, has_folders, folders_to, IsEmptyFolder}
-use Rattle.gix_ref_files.specs.Disk.{Disk, created_on, appended_on, moved_on, removed_on, with_folders_on}
+use Rattle.gix_ref_files.specs.Disk.{Disk, created_on, appended_on, moved_on, removed_on, with_folders_on, folder_of}
 use Rattle.gix_ref_files.specs.Calls.{IsFree, IsMovable, is_in_the_way}
 use Rattle.gix_ref_files.specs.DiskCalls.{CreatingOn, AppendingOn, RenamingOn, RemovingFileOn, MakingFoldersOn, RemovingFolderOn}
-use Rattle.gix_ref_files.specs.Settled.{Sync, synced, synced_by, climb}
+use Rattle.gix_ref_files.specs.Settled.{Sync, synced, synced_by, sync_of_folder, climb}
 use Rattle.gix_ref_files.specs.Settled.Sync.{OfFile}
 use Rattle.gix_ref_files.specs.Steps.{Step, step_of}
 use Rattle.gix_ref_files.specs.Steps.Step.{Create, Append, Line, Rename, RemoveFile, MakeFolders, RemoveFolder, End}
@@ -86,13 +86,20 @@ IsSomeSynced syncs D E = (n : ℕ) × (E ≡ synced_by (take n syncs) D)
 abbrev pub Settling : Sync → Disk → Disk → Type 0
 Settling sync D E = (E ≡ D) ⊎ (E ≡ synced sync D)
 
--- the folders of a path are synced, after the bytes of its file where these grew
+-- the folders of a path that are synced
+abbrev pub folder_syncs : Path → Settle → List Sync
+folder_syncs p settles.Nothing = []
+folder_syncs p settles.File = []
+folder_syncs p settles.Folder = sync_of_folder (folder_of p)
+folder_syncs p (settles.UpTo root) = climb p root
+
+-- and before these the bytes of its file, where they grew
 abbrev pub path_syncs : Bool → Path → Settle → List Sync
 path_syncs grows p settles.Nothing = []
-path_syncs true p settles.File = OfFile p ∷ []
-path_syncs false p settles.File = []
-path_syncs true p (settles.UpTo root) = OfFile p ∷ climb p root
-path_syncs false p (settles.UpTo root) = climb p root
+path_syncs true p settles.File = OfFile p ∷ folder_syncs p settles.File
+path_syncs true p settles.Folder = OfFile p ∷ folder_syncs p settles.Folder
+path_syncs true p (settles.UpTo root) = OfFile p ∷ folder_syncs p (settles.UpTo root)
+path_syncs false p settle = folder_syncs p settle
 
 -- the syncs of an action: none where folders are made or removed
 abbrev pub syncs_of : Action → Settle → List Sync

@@ -86,7 +86,7 @@ impl Disk {
     pub fn new(rt: HostRuntime) -> Self {
         Disk {
             rt,
-            faults: Faults::none(),
+            faults: Faults::new(),
             syncs: true,
             made: None,
             folder: None,
@@ -104,7 +104,7 @@ impl Disk {
     pub fn without_syncs(rt: HostRuntime) -> Self {
         Disk {
             rt,
-            faults: Faults::none(),
+            faults: Faults::new(),
             syncs: false,
             made: None,
             folder: None,
@@ -378,6 +378,9 @@ impl Files for Disk {
         if !self.syncs {
             return Ok(true);
         }
+        if path.is_empty() {
+            return Ok(false);
+        }
         match with_slash(self.rt.alloc(), path) {
             Ok(folder) => {
                 let folder = text_of(&mut self.faults, &folder)?;
@@ -447,7 +450,7 @@ fn open_file(rt: &HostRuntime, path: &str) -> io::Result<Option<DiskReader>> {
     Ok(Some(DiskReader {
         file,
         len,
-        faults: Faults::none(),
+        faults: Faults::new(),
     }))
 }
 

@@ -68,8 +68,8 @@ fn number(kind: ErrorKind) -> usize
 }
 
 impl Faults {
-    /// No fault.
-    pub fn none() -> Self
+    /// No fault yet.
+    pub fn new() -> Self
         ensures { counts_of result ≡ no_faults }
     {
         Faults {

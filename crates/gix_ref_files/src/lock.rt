@@ -78,7 +78,6 @@ pub struct Unspent {
 fn ready<F: Files>(files: &mut F, path: &[u8]) -> Result<bool, FileError>
     ensures answer { F.honest →
         IfOk result (Readies (F.means files.old).tree path.now (F.means files.new).tree) }
-    ensures leaves { F.honest → AtEveryStop F.means files.old files.new (λ T. Readying T path.now) }
     ensures disk { F.honest → IfOk result
         (λ made. DiskBecomes F.means files.old files.new (λ D. after_readying D path.now made)) }
     ensures passes { F.honest → OnEveryDisk F.means files.old files.new
@@ -192,8 +191,6 @@ fn make_lock<F: Files>(files: &mut F, path: &[u8], lock: &[u8]) -> Result<Create
         IfOk result (MakesLock (F.means files.old).tree path.now (F.means files.new).tree) }
     ensures failed { F.honest →
         OnErr result (Readying (F.means files.old).tree path.now (F.means files.new).tree) }
-    ensures leaves { F.honest → AtEveryStop F.means files.old files.new
-        (λ T. Acquiring T path.now) }
     ensures disk { F.honest → IfOk result
         (λ create. DiskBecomes F.means files.old files.new (λ D. after_locking D path.now create)) }
     ensures passes { F.honest → OnEveryDisk F.means files.old files.new

@@ -2,16 +2,17 @@
 //! result.
 ghost use Rattle.std.specs.Prelude.{◌≡◌, ◌<◌, ◌≤◌, ◌-◌, IsTrue, OnOk, OnErr, IfOk, IfErr, IsErrOf, MatchResult, [], ◌∷◌, length, true, false};
 ghost use Rattle.gix_ref_files.specs.Tree.{is_folder, is_file, has_folders};
+ghost use Rattle.gix_ref_files.specs.Disk.{folder_of};
 ghost use Rattle.gix_ref_files.specs.Files.{AtEveryStop, OnEveryDisk, disk_of, count_after, DiskBecomes};
-ghost use Rattle.gix_ref_files.specs.Calls.{Unchanged};
-ghost use Rattle.gix_ref_files.specs.Settled.{synced, synced_by, folders_up, climb, from_one};
+ghost use Rattle.gix_ref_files.specs.Settled.{synced, synced_by, sync_of_folder, folders_up, climb, from_one};
 ghost use Rattle.gix_ref_files.specs.Settled.Sync.{OfFile, OfFolder};
-ghost use Rattle.gix_ref_files.specs.Steps.{Does, Begins, EndsBy, IsAfter, IsLeftBy, EndsAt, step_of, steps_of, cause_once_done, count_ended, HasMemory, MayBeSynced};
+ghost use Rattle.gix_ref_files.specs.Steps.{Does, EndsBy, IsAfter, IsLeftBy, EndsAt, step_of, steps_of, cause_once_done, count_ended, HasMemory, MayBeSynced};
 ghost use Rattle.gix_ref_files.specs.Steps.Step.{Line};
-ghost use Rattle.gix_ref_files.specs.DiskSteps.{DoesOn, BeginsOn, With, IsReachedBy, IsSyncedAfter, IsEndedAt, IsSomeSynced, Settling, path_syncs, syncs_of, synced_steps, needs, CanSync, CanSettle};
+ghost use Rattle.gix_ref_files.specs.DiskSteps.{DoesOn, BeginsOn, With, IsReachedBy, IsSyncedAfter, IsEndedAt, IsSomeSynced, Settling, folder_syncs, path_syncs, syncs_of, synced_steps, needs, CanSync, CanSettle};
 ghost use Rattle.gix_ref_files.specs.declared.steps.Cause.TheVariants.{File};
 
 use crate::files::{Create, FileError, Files, Rename};
+use crate::paths::folder;
 
 /// What a step does. It borrows its paths and its bytes.
 #[derive(Clone, Copy, Debug)]
@@ -60,6 +61,9 @@ pub enum Settle {
     Nothing,
     /// The bytes of the file, where they grew.
     File,
+    /// The path's own folder; and before it the bytes of the file, where they grew. It settles a removal: a file that is gone is so
+    /// whether or not the folders above are there.
+    Folder,
     /// The folders of the path, from its own up to the one whose path is the front of this length (that of the git folder
     /// or of the common folder); and before these the bytes of the file, where they grew.
     UpTo { root: usize },
@@ -115,8 +119,6 @@ fn append_line<F: Files>(files: &mut F, path: &[u8], bytes: &[u8]) -> Result<boo
         (disk_of (F.means files.old)) (disk_of (F.means files.new))) }
     ensures refused { F.honest → IfOk result (λ done. done ≡ false → EndsBy (Line path.now
         bytes.now) Cause.Unexpected (F.means files.old).tree (F.means files.new).tree) }
-    ensures leaves { F.honest → AtEveryStop F.means files.old files.new
-        (Begins (Line path.now bytes.now)) }
     ensures passes { F.honest → OnEveryDisk F.means files.old files.new
         (BeginsOn (Line path.now bytes.now)) }
     ensures count { F.faults files.new ≡ count_after result (F.faults files.old) }
@@ -139,8 +141,6 @@ fn make_line<F: Files>(files: &mut F, path: &[u8], bytes: &[u8]) -> Result<bool,
         (disk_of (F.means files.old)) (disk_of (F.means files.new))) }
     ensures refused { F.honest → IfOk result (λ done. done ≡ false → EndsBy (Line path.now
         bytes.now) Cause.Unexpected (F.means files.old).tree (F.means files.new).tree) }
-    ensures leaves { F.honest → AtEveryStop F.means files.old files.new
-        (Begins (Line path.now bytes.now)) }
     ensures passes { F.honest → OnEveryDisk F.means files.old files.new
         (BeginsOn (Line path.now bytes.now)) }
     ensures count { F.faults files.new ≡ count_after result (F.faults files.old) }
@@ -165,8 +165,6 @@ fn add_line<F: Files>(
         (disk_of (F.means files.old)) (disk_of (F.means files.new))) }
     ensures refused { F.honest → IfOk result (λ done. done ≡ false → EndsBy (Line path.now
         bytes.now) Cause.Unexpected (F.means files.old).tree (F.means files.new).tree) }
-    ensures leaves { F.honest → AtEveryStop F.means files.old files.new
-        (Begins (Line path.now bytes.now)) }
     ensures passes { F.honest → OnEveryDisk F.means files.old files.new
         (BeginsOn (Line path.now bytes.now)) }
     ensures count { F.faults files.new ≡ count_after result (F.faults files.old) }
@@ -205,8 +203,6 @@ fn change<F: Files>(files: &mut F, action: &Action<'_>) -> Result<bool, Cause>
         IfOk result (λ more. IsTrue more → CanSettle action.now (F.means files.new).tree) }
     ensures ended { F.honest → IfErr result (λ cause. EndsBy (step_of action.now) cause
         (F.means files.old).tree (F.means files.new).tree) }
-    ensures leaves { F.honest → AtEveryStop F.means files.old files.new
-        (Begins (step_of action.now)) }
     ensures passes { F.honest → OnEveryDisk F.means files.old files.new
         (BeginsOn (step_of action.now)) }
     ensures count { MatchResult result (λ _. F.faults files.new ≡ F.faults files.old)
@@ -235,7 +231,6 @@ fn sync_bytes<F: Files>(files: &mut F, path: &[u8]) -> Result<(), Cause>
         OnOk result (DiskBecomes F.means files.old files.new (synced (OfFile path.now))) }
     ensures missing { F.honest → IsErrOf result Cause.Unexpected →
         is_file ((F.means files.old).tree path.now) ≡ false }
-    ensures leaves { F.honest → AtEveryStop F.means files.old files.new Unchanged }
     ensures passes { F.honest → OnEveryDisk F.means files.old files.new
         (Settling (OfFile path.now)) }
     ensures count { MatchResult result (λ _. F.faults files.new ≡ F.faults files.old)
@@ -256,7 +251,6 @@ fn sync_entries<F: Files>(files: &mut F, path: &[u8]) -> Result<(), Cause>
         OnOk result (DiskBecomes F.means files.old files.new (synced (OfFolder path.now))) }
     ensures missing { F.honest → IsErrOf result Cause.Unexpected →
         is_folder ((F.means files.old).tree path.now) ≡ false }
-    ensures leaves { F.honest → AtEveryStop F.means files.old files.new Unchanged }
     ensures passes { F.honest → OnEveryDisk F.means files.old files.new
         (Settling (OfFolder path.now)) }
     ensures count { MatchResult result (λ _. F.faults files.new ≡ F.faults files.old)
@@ -286,7 +280,6 @@ fn sync_up<F: Files>(files: &mut F, path: &[u8], top: usize) -> Result<(), Cause
         (synced_by (folders_up path.now top (length path.now - top)))) }
     ensures missing { F.honest → IsErrOf result Cause.Unexpected →
         has_folders (F.means files.old).tree path.now ≡ false }
-    ensures leaves { F.honest → AtEveryStop F.means files.old files.new Unchanged }
     ensures passes { F.honest → OnEveryDisk F.means files.old files.new
         (IsSomeSynced (folders_up path.now top (length path.now - top))) }
     ensures count { MatchResult result (λ _. F.faults files.new ≡ F.faults files.old)
@@ -310,7 +303,6 @@ fn sync_folders<F: Files>(files: &mut F, path: &[u8], root: usize) -> Result<(),
         OnOk result (DiskBecomes F.means files.old files.new (synced_by (climb path.now root))) }
     ensures missing { F.honest → IsErrOf result Cause.Unexpected →
         has_folders (F.means files.old).tree path.now ≡ false }
-    ensures leaves { F.honest → AtEveryStop F.means files.old files.new Unchanged }
     ensures passes { F.honest → OnEveryDisk F.means files.old files.new
         (IsSomeSynced (climb path.now root)) }
     ensures count { MatchResult result (λ _. F.faults files.new ≡ F.faults files.old)
@@ -322,22 +314,61 @@ fn sync_folders<F: Files>(files: &mut F, path: &[u8], root: usize) -> Result<(),
     sync_up(files, path, top)
 }
 
-/// Syncs the bytes of a file, and then the folders of its path.
-fn sync_line<F: Files>(files: &mut F, path: &[u8], root: usize) -> Result<(), Cause>
+/// Syncs the folder of a path, if it has one.
+fn sync_own_folder<F: Files>(files: &mut F, path: &[u8]) -> Result<(), Cause>
     ensures done { F.honest → OnOk result (DiskBecomes F.means files.old files.new
-        (synced_by (OfFile path.now ∷ climb path.now root))) }
+        (synced_by (sync_of_folder (folder_of path.now)))) }
+    ensures missing { F.honest → IsErrOf result Cause.Unexpected →
+        has_folders (F.means files.old).tree path.now ≡ false }
+    ensures passes { F.honest → OnEveryDisk F.means files.old files.new
+        (IsSomeSynced (sync_of_folder (folder_of path.now))) }
+    ensures count { MatchResult result (λ _. F.faults files.new ≡ F.faults files.old)
+        (λ cause. F.faults files.new ≡ count_ended cause (F.faults files.old)) }
+    ensures asked { IsErrOf result Cause.Asked → ⊥ }
+    ensures memory { IfErr result HasMemory }
+{
+    let folder = folder(path);
+    if folder.is_empty() {
+        return Ok(());
+    }
+    sync_entries(files, folder)
+}
+
+/// Syncs the folders that settle a path.
+fn sync_above<F: Files>(files: &mut F, path: &[u8], settle: Settle) -> Result<(), Cause>
+    ensures done { F.honest → OnOk result
+        (DiskBecomes F.means files.old files.new (synced_by (folder_syncs path.now settle))) }
+    ensures missing { F.honest → IsErrOf result Cause.Unexpected →
+        has_folders (F.means files.old).tree path.now ≡ false }
+    ensures passes { F.honest → OnEveryDisk F.means files.old files.new
+        (IsSomeSynced (folder_syncs path.now settle)) }
+    ensures count { MatchResult result (λ _. F.faults files.new ≡ F.faults files.old)
+        (λ cause. F.faults files.new ≡ count_ended cause (F.faults files.old)) }
+    ensures asked { IsErrOf result Cause.Asked → ⊥ }
+    ensures memory { IfErr result HasMemory }
+{
+    match settle {
+        Settle::Nothing | Settle::File => Ok(()),
+        Settle::Folder => sync_own_folder(files, path),
+        Settle::UpTo { root } => sync_folders(files, path, root),
+    }
+}
+
+/// Syncs the bytes of a file, and then the folders that settle its path.
+fn sync_line<F: Files>(files: &mut F, path: &[u8], settle: Settle) -> Result<(), Cause>
+    ensures done { F.honest → OnOk result (DiskBecomes F.means files.old files.new
+        (synced_by (OfFile path.now ∷ folder_syncs path.now settle))) }
     ensures ready { F.honest → IsErrOf result Cause.Unexpected →
         CanSync true (F.means files.old).tree path.now → ⊥ }
-    ensures leaves { F.honest → AtEveryStop F.means files.old files.new Unchanged }
     ensures passes { F.honest → OnEveryDisk F.means files.old files.new
-        (IsSomeSynced (OfFile path.now ∷ climb path.now root)) }
+        (IsSomeSynced (OfFile path.now ∷ folder_syncs path.now settle)) }
     ensures count { MatchResult result (λ _. F.faults files.new ≡ F.faults files.old)
         (λ cause. F.faults files.new ≡ count_ended cause (F.faults files.old)) }
     ensures asked { IsErrOf result Cause.Asked → ⊥ }
     ensures memory { IfErr result HasMemory }
 {
     sync_bytes(files, path)?;
-    sync_folders(files, path, root)
+    sync_above(files, path, settle)
 }
 
 /// Syncs what settles a path, and first the bytes of its file, where these grew.
@@ -346,7 +377,6 @@ fn sync_path<F: Files>(files: &mut F, grows: bool, path: &[u8], settle: Settle) 
         (DiskBecomes F.means files.old files.new (synced_by (path_syncs grows path.now settle))) }
     ensures ready { F.honest → IsErrOf result Cause.Unexpected →
         CanSync grows (F.means files.old).tree path.now → ⊥ }
-    ensures leaves { F.honest → AtEveryStop F.means files.old files.new Unchanged }
     ensures passes { F.honest → OnEveryDisk F.means files.old files.new
         (IsSomeSynced (path_syncs grows path.now settle)) }
     ensures count { MatchResult result (λ _. F.faults files.new ≡ F.faults files.old)
@@ -356,18 +386,11 @@ fn sync_path<F: Files>(files: &mut F, grows: bool, path: &[u8], settle: Settle) 
 {
     match settle {
         Settle::Nothing => Ok(()),
-        Settle::File => {
+        Settle::File | Settle::Folder | Settle::UpTo { .. } => {
             if grows {
-                sync_bytes(files, path)
+                sync_line(files, path, settle)
             } else {
-                Ok(())
-            }
-        }
-        Settle::UpTo { root } => {
-            if grows {
-                sync_line(files, path, root)
-            } else {
-                sync_folders(files, path, root)
+                sync_above(files, path, settle)
             }
         }
     }
@@ -379,7 +402,6 @@ fn sync_after<F: Files>(files: &mut F, action: &Action<'_>, settle: Settle) -> R
         (DiskBecomes F.means files.old files.new (synced_by (syncs_of action.now settle))) }
     ensures ready { F.honest → IsErrOf result Cause.Unexpected →
         CanSettle action.now (F.means files.old).tree → ⊥ }
-    ensures leaves { F.honest → AtEveryStop F.means files.old files.new Unchanged }
     ensures passes { F.honest → OnEveryDisk F.means files.old files.new
         (IsSomeSynced (syncs_of action.now settle)) }
     ensures count { MatchResult result (λ _. F.faults files.new ≡ F.faults files.old)
@@ -419,8 +441,6 @@ fn run_step<F: Files>(files: &mut F, action: &Action<'_>, settle: Settle) -> Res
         (disk_of (F.means files.old)) (disk_of (F.means files.new))) }
     ensures ended { F.honest → IfErr result (λ cause. EndsBy (step_of action.now) cause
         (F.means files.old).tree (F.means files.new).tree) }
-    ensures leaves { F.honest → AtEveryStop F.means files.old files.new
-        (Begins (step_of action.now)) }
     ensures passes { F.honest → OnEveryDisk F.means files.old files.new
         (IsReachedBy (With (step_of action.now) (syncs_of action.now settle) ∷ [])) }
     ensures count { MatchResult result (λ _. F.faults files.new ≡ F.faults files.old)

@@ -53,7 +53,7 @@ pub fn read(rt: &impl Abort, alloc: Global, log: &[u8], room: usize, tally: &Tal
     let reader = Counted {
         text: log,
         tally,
-        faults: Faults::none(),
+        faults: Faults::new(),
     };
     let mut lines = reverse(alloc, reader, buf.as_mut_slice()).expect(rt, "room");
     for _ in 0..1000000 {
@@ -118,7 +118,7 @@ fn an_empty_buffer(rt: HostRuntime) {
     let reader = Counted {
         text: b"a",
         tally: &tally,
-        faults: Faults::none(),
+        faults: Faults::new(),
     };
     assert!(rt;
         matches!(reverse(rt.alloc(), reader, &mut []), Err(EmptyBuffer)),
@@ -133,7 +133,7 @@ fn faults_take_no_memory(rt: HostRuntime) {
     let reader = Counted {
         text: b"a\nbb\n",
         tally: &tally,
-        faults: Faults::none(),
+        faults: Faults::new(),
     };
     let mut buf = [0u8; 3];
     let mut lines = reverse(rt.alloc(), reader, &mut buf).expect(&rt, "room");
@@ -217,7 +217,7 @@ fn ten_lines_of_a_long_log(rt: HostRuntime) {
     let reader = Counted {
         text: &log,
         tally: &tally,
-        faults: Faults::none(),
+        faults: Faults::new(),
     };
     let mut lines = reverse(alloc, reader, &mut buf).expect(&rt, "room");
     for _ in 0..10 {

@@ -69,7 +69,7 @@ impl Memory {
         let turns = Turns {
             plan: Plan::Runs,
             calls: 0,
-            faults: Faults::none(),
+            faults: Faults::new(),
         };
         Memory {
             alloc,
@@ -309,7 +309,7 @@ impl Files for Memory {
             return Ok(None);
         };
         let turns = Turns {
-            faults: Faults::none(),
+            faults: Faults::new(),
             ..self.turns
         };
         match bytes.to_vec(alloc) {

@@ -166,12 +166,12 @@ module _ (W : Path → Type 0) where
   rename_plain dirs at place effects.Remove w = tt
   rename_plain dirs at place effects.Keep w = tt
 
-  log_removal_plain : (dirs : Dirs) (at : ℕ) (l : LogEffect) → ArePlainSteps (log_removal_for dirs at l)
+  log_removal_plain : (dirs : Dirs) (at : ℕ) (l : LogEffect) → ArePlainSteps (log_removal_for at l)
   log_removal_plain dirs at (logs.Remove log) = (record { writes = λ path e. none_writes e; keeps = λ q e. cc }, tt)
   log_removal_plain dirs at logs.Keep = tt
   log_removal_plain dirs at (logs.Append log line) = tt
 
-  removal_plain : (dirs : Dirs) (at : ℕ) (place : Path) (effect : Effect) → ArePlainSteps (removal_for dirs at place effect)
+  removal_plain : (dirs : Dirs) (at : ℕ) (place : Path) (effect : Effect) → ArePlainSteps (removal_for at place effect)
   removal_plain dirs at place effects.Remove = (record { writes = λ path e. none_writes e; keeps = λ q e. cc }, tt)
   removal_plain dirs at place effects.Write = tt
   removal_plain dirs at place effects.Keep = tt
@@ -196,8 +196,8 @@ module _ (W : Path → Type 0) where
       ArePlainSteps (planned_entries dirs edits packed rewrite)
   plan_plain dirs edits packed rewrite w at_packed = both _ _
       (each_plain (update_entries dirs) (λ at e w. both _ _ (folders_entry_plain at e) (both _ _ (line_plain dirs at e.log w.1) (rename_plain dirs at e.lock e.effect w.0))) 0 edits w)
-      (both _ _ (each_plain (log_removal_entry dirs) (λ at e w. log_removal_plain dirs at e.log) 0 edits w)
-      (both _ _ (packed_plain dirs packed rewrite at_packed) (each_plain (removal_entry dirs) (λ at e w. removal_plain dirs at e.lock e.effect) 0 edits w)))
+      (both _ _ (each_plain log_removal_entry (λ at e w. log_removal_plain dirs at e.log) 0 edits w)
+      (both _ _ (packed_plain dirs packed rewrite at_packed) (each_plain removal_entry (λ at e w. removal_plain dirs at e.lock e.effect) 0 edits w)))
 
 -- what is at or below this path is at or below one of these
 abbrev pub IsOneOf : (written : List Path) → Path → Type 0

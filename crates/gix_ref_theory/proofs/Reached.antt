@@ -12,7 +12,7 @@ use Rattle.gix_ref_files.specs.Calls.{IsMovable}
 use Rattle.gix_ref_files.specs.DiskSteps.{Synced, DoesOn, BeginsOn, needed, IsReachedBy, IsSyncedAfter}
 use Rattle.gix_ref_files.specs.DiskSteps.Synced.{With}
 use Rattle.gix_ref_files.specs.Steps.Step.{Create, Append as AppendStep, Line, Rename, RemoveFile, MakeFolders, RemoveFolder, End}
-use Rattle.gix_ref_files.specs.Settled.{Sync, synced_by, AllStay, MayHold, IsSettledAt, IsWholeAt, IsIn, SettlesPath}
+use Rattle.gix_ref_files.specs.Settled.{Sync, synced_by, AllStay, MayHold, IsSettledAt, IsWholeAt, IsIn, SettlesPath, SettlesRemoval}
 use Rattle.gix_ref_files.specs.Settled.Sync.{OfFile, OfFolder}
 use Rattle.gix_ref_theory.specs.OnRealTrees.{view_of}
 use Rattle.gix_ref_theory.specs.Views.{View, Write, after, after_write, changed_at, file_bytes, LostIn, IsLostBy}
@@ -20,7 +20,7 @@ use Rattle.gix_ref_theory.specs.Views.Write.{Append, Put, Remove}
 use Rattle.gix_ref_theory.specs.OnDisks.{IsSettled, CarryOutSynced, Rests, IsWithin}
 use Rattle.gix_ref_files.proofs.Puts.{put_at, put_other, folders_kept}
 use Rattle.gix_ref_files.proofs.Entries.{synced_may, synced_by_may, synced_remains, nothing_remains}
-use Rattle.gix_ref_files.proofs.Settling.{lost_holds, holds_fewer, stays_fewer, stands_settled, stay_apart, settled_entry, settled_way, settled_without_folder, whole_synced, holds_weaker, as_settles}
+use Rattle.gix_ref_files.proofs.Settling.{lost_holds, holds_fewer, stays_fewer, stands_settled, stay_apart, settled_entry, removal_settled, settled_way, settled_without_folder, whole_synced, holds_weaker, as_settles}
 use Rattle.gix_ref_files.proofs.Changes.{Changes, stay_changed, holds_changed, Created, creates, Gone, removes, Moved, moves, Grown, appends, grown_remains, file_no_folder, then_changes}
 use Rattle.gix_ref_files.proofs.Folders.{no_file_after, any_take, no_file_to, settled_with_folders, stay_with_folders}
 
@@ -342,7 +342,7 @@ module _ (Counts : Path → Type 0) (staying : List Path) where
   no_file (Some Folder) h = refl
   no_file None h = refl
 
-  after_remove : (texts view : View) (D mid : Disk) (p : Path) (ss : List Sync) → SettlesPath staying p ss →
+  after_remove : (texts view : View) (D mid : Disk) (p : Path) (ss : List Sync) → SettlesRemoval p ss →
       Rests Counts staying texts view D → DoesOn (RemoveFile p) D mid →
       Rests Counts staying (changed_at p None texts) (after_write (Remove p) view) (synced_by (needed (RemoveFile p) D ss) mid)
   after_remove texts view D mid p ss settles rests (inl (file, e)) =
@@ -351,7 +351,7 @@ module _ (Counts : Path → Type 0) (staying : List Path) where
       (at_rest p None view (changed_at p None texts) D (removed_on D p) (Gone p) ss (removes D p file)
       (λ q c counts apart new. apart new.0)
       (λ counts. record {
-        entry = λ c may. ap file_of (nothing_remains 0 c (now_entered D p nothing c (settled_entry staying p ss (removed_on D p) c settles may)));
+        entry = λ c may. ap file_of (nothing_remains 0 c (now_entered D p nothing c (removal_settled p ss (removed_on D p) c settles may)));
         way = λ b is. absurd (none_is_some b is);
       })
       (λ q b is. let w = without texts p q b is in whole_entered D p q nothing b w.0 (rests.whole q b w.1))

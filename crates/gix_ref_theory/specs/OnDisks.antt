@@ -5,7 +5,7 @@ use Rattle.gix_ref_files.specs.Tree.{Tree, Path}
 use Rattle.gix_ref_files.specs.Disk.{Disk, Lost}
 use Rattle.gix_ref_files.specs.Files.{Meaning, disk_of, Loses}
 use Rattle.gix_ref_files.specs.Lock.{lock_of}
-use Rattle.gix_ref_files.specs.Settled.{Sync, AllStay, MayHold, IsSettledAt, IsAllSettled, IsWholeAt, IsIn, SettlesPath, SettlesFile}
+use Rattle.gix_ref_files.specs.Settled.{Sync, AllStay, MayHold, IsSettledAt, IsAllSettled, IsWholeAt, IsIn, SettlesPath, SettlesRemoval, SettlesFile}
 use Rattle.gix_ref_files.specs.Settled.Sync.{OfFile}
 use Rattle.gix_ref_files.specs.Steps.{Step}
 use Rattle.gix_ref_files.specs.Steps.Step.{Create, Append as AppendStep, Line, Rename, RemoveFile, MakeFolders, RemoveFolder, End}
@@ -39,7 +39,7 @@ module _ (Counts : Path → Type 0) (staying : List Path) where
       × CarryOutSynced (changed_at to None (changed_at from None texts)) plan rest
   CarryOutSynced texts (With (RemoveFile p) syncs ∷ plan) writes =
       ((Counts p → ⊥) × CarryOutSynced (changed_at p None texts) plan writes)
-      ⊎ ((rest : List Write) × (writes ≡ Remove p ∷ rest) × SettlesPath staying p syncs
+      ⊎ ((rest : List Write) × (writes ≡ Remove p ∷ rest) × SettlesRemoval p syncs
       × CarryOutSynced (changed_at p None texts) plan rest)
   CarryOutSynced texts (With (MakeFolders p) syncs ∷ plan) writes = CarryOutSynced texts plan writes
   CarryOutSynced texts (With (RemoveFolder p) syncs ∷ plan) writes = (IsIn p staying → ⊥)

@@ -17,8 +17,9 @@ pub mod PackedLocks
 pub mod PackedRelease
 pub mod PackedRuns
 pub mod RecordIds
-pub mod Removing
 pub mod Puts
+pub mod Removals
+pub mod Removing
 pub mod Renames
 pub mod Rounds
 pub mod SplitLemmas

@@ -4,9 +4,9 @@ ghost use Rattle.std.specs.Vec.{vec_capacity};
 ghost use Rattle.std.specs.Bool.{OnFalse};
 ghost use Rattle.gix_ref_files.specs.Lock.{lock_of};
 ghost use Rattle.gix_ref_files.specs.Tree.{Path, is_file};
-ghost use Rattle.gix_ref_files.specs.Files.{AtEveryStop, OnEveryDisk, HasRisen, NoFewer};
+ghost use Rattle.gix_ref_files.specs.Files.{OnEveryDisk, HasRisen, NoFewer};
 ghost use Rattle.gix_ref_files.specs.DiskCalls.{RemovingFileOn};
-ghost use Rattle.gix_ref_transaction.specs.OwnLocks.{paths_of, RemovesLocks, is_in};
+ghost use Rattle.gix_ref_transaction.specs.OwnLocks.{paths_of, is_in};
 ghost use Rattle.gix_ref_transaction.specs.CommitRenames.{lock_at, path_in, stays_at};
 ghost use Rattle.gix_ref_transaction.specs.Effects.{is_write};
 ghost use Rattle.gix_ref_transaction.specs.LeftLocks.{AddsEdit, AreNamedOnce, HandsBack, HasRoom, HasRoomForEdits, NamesMore, OnlyReleases};
@@ -97,8 +97,6 @@ impl Remains {
 /// Removes one lock; false where it could not.
 fn remove_lock<F: Files>(files: &mut F, lock: &[u8]) -> bool
     ensures gone { F.honest → IsTrue result → is_file ((F.means files.new).tree lock.now) ≡ false }
-    ensures leaves { F.honest → AtEveryStop F.means files.old files.new
-        (RemovesLocks (lock.now ∷ [])) }
     ensures passes { F.honest → OnEveryDisk F.means files.old files.new
         (λ D. RemovingFileOn D lock.now) }
     ensures no_fewer { NoFewer (F.faults files.old) (F.faults files.new) }
@@ -135,8 +133,6 @@ fn release<F: Files>(files: &mut F, done: usize, at: usize, edit: &Edit) -> bool
         files.new ≡ files.old }
     ensures gone { F.honest → not (nat_lt at done && is_write edit.now.effect) ≡ true →
         IsTrue result → is_file ((F.means files.new).tree (lock_of edit.now.lock)) ≡ false }
-    ensures leaves { F.honest → AtEveryStop F.means files.old files.new
-        (RemovesLocks (lock_of edit.now.lock ∷ [])) }
     ensures passes { F.honest → OnEveryDisk F.means files.old files.new
         (λ D. RemovingFileOn D (lock_of edit.now.lock)) }
     ensures no_fewer { NoFewer (F.faults files.old) (F.faults files.new) }

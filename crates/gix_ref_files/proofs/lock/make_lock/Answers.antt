@@ -1,9 +1,22 @@
-use Rattle.std.proofs.Common.{◌≡◌, Bool, false, subst}
+use Rattle.std.proofs.Common.{◌≡◌, Bool, false, sym, subst}
 use Rattle.gix_ref_files.specs.Tree.{is_blocked}
 use Rattle.gix_ref_files.specs.Files.{disk_of}
-use Rattle.gix_ref_files.specs.Lock.{readied, readied_on, Readies, after_readying}
+use Rattle.gix_ref_files.specs.Lock.{readied, readied_on, Readies, Readying, after_readying}
 use Rattle.gix_ref_files.proofs.LockLemmas.{makes_lock, locked_on, locking_on, if_ok, if_ok_both}
+use Rattle.gix_ref_files.specs.Tree.{Tree}
+use Rattle.gix_ref_files.proofs.Stops.{on_err, on_err_more, readying_trees}
 use Rattle.gix_ref_files.proofs.lock.make_lock.Goals as goal
+
+pub returns-in_err-ready-clause-failed : goal.returns-in_err-ready-clause-failed
+returns-in_err-ready-clause-failed g c h =
+    on_err c.from_residual.result (readying_trees c.args.path.now _ _ (c.ready.ensures.passes h).disk)
+
+pub returns-clause-failed : goal.returns-clause-failed
+returns-clause-failed g c h =
+    let before = (g.F.Files.means c.args.files.now).tree in
+    on_err_more c.create_new.result
+    (λ same. subst (λ (T : Tree). Readying before c.args.path.now T) (sym same) (readying_trees c.args.path.now _ _ (c.ready.ensures.passes h).disk))
+    (c.create_new.ensures.failed h)
 
 pub returns-clause-answer : goal.returns-clause-answer
 returns-clause-answer g c h =

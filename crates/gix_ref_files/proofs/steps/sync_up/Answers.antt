@@ -5,9 +5,10 @@ use Rattle.gix_ref_files.specs.Settled.{Sync, synced_by, folders_up}
 use Rattle.gix_ref_files.specs.Settled.Sync.{OfFolder}
 use Rattle.gix_ref_files.specs.DiskSteps.{IsSomeSynced}
 use Rattle.gix_ref_files.specs.Tree.{Tree, is_folder}
-use Rattle.gix_ref_files.proofs.Moments.{weaken, joins, passes_weaken, passes_joins}
+use Rattle.gix_ref_files.proofs.Moments.{passes_weaken, passes_joins}
 use Rattle.gix_ref_files.proofs.Ready.{folder_missing}
 use Rattle.gix_ref_files.proofs.Runs.{first_synced, then_synced, slash_next, no_slash_next}
+use Rattle.gix_ref_files.proofs.Stops.{some_synced_trees}
 use Rattle.gix_ref_files.proofs.steps.sync_up.Goals as goal
 
 pub loop-end-preserved-in-Continue-1 : goal.loop-end-preserved-in-Continue-1
@@ -23,7 +24,6 @@ loop-end-preserved-in-Continue-1 g c =
     record {
       in_path = omega arith;
       count = c.in_ok-sync_entries.ensures.count ∙ x.count;
-      leaves = λ h. joins (x.leaves h) (weaken (c.sync_entries.ensures.leaves h) (λ T same. same ∙ (x.leaves h).tree));
       passes = λ h. passes_joins (x.passes h) (passes_weaken (c.sync_entries.ensures.passes h)
           (λ E settling. x.some h E (subst (λ (ss : List Sync). IsSomeSynced ss mid E) are (first_synced s rest mid E settling))));
       done = λ h. ap (synced_by rest) (c.in_ok-sync_entries.ensures.done h) ∙ (ap (λ (ss : List Sync). synced_by ss mid) are ∙ x.done h);
@@ -44,11 +44,6 @@ returns-in_err-sync_entries-clause-passes g c h =
     passes_joins (x.passes h) (passes_weaken (c.sync_entries.ensures.passes h)
     (λ E settling. x.some h E (subst (λ (ss : List Sync). IsSomeSynced ss mid E) are (first_synced s rest mid E settling))))
 
-pub returns-in_err-sync_entries-clause-leaves : goal.returns-in_err-sync_entries-clause-leaves
-returns-in_err-sync_entries-clause-leaves g c h =
-    let x = c.loop-end.invariant in
-    joins (x.leaves h) (weaken (c.sync_entries.ensures.leaves h) (λ T same. same ∙ (x.leaves h).tree))
-
 pub returns-in_err-sync_entries-clause-missing : goal.returns-in_err-sync_entries-clause-missing
 returns-in_err-sync_entries-clause-missing g c h is =
     let p = c.args.path.now in
@@ -57,7 +52,7 @@ returns-in_err-sync_entries-clause-missing g c h is =
     let none : is_folder (mid (take k p)) ≡ false = search rules in
     let in_path : c.loop-end.end ≤ length p = c.loop-end.invariant.in_path in
     folder_missing (g.F.Files.means c.args.files.now).tree p k (omega (arith, c.loop-end-test.true, c.requires)) (omega (arith, c.loop-end-test.true, in_path)) c.if-path-end-eq47.true
-    (ap (λ (T : Tree). is_folder (T (take k p))) (sym ((c.loop-end.invariant.leaves h).tree)) ∙ none)
+    (ap (λ (T : Tree). is_folder (T (take k p))) (sym (some_synced_trees _ _ _ (c.loop-end.invariant.passes h).disk)) ∙ none)
 
 pub loop-end-preserved : goal.loop-end-preserved
 loop-end-preserved g c =
@@ -67,7 +62,6 @@ loop-end-preserved g c =
     record {
       in_path = omega arith;
       count = x.count;
-      leaves = x.leaves;
       passes = x.passes;
       done = λ h. ap (λ (ss : List Sync). synced_by ss mid) (sym are) ∙ x.done h;
       some = λ h E some. x.some h E (subst (λ (ss : List Sync). IsSomeSynced ss mid E) (sym are) some);

@@ -1,7 +1,6 @@
 use Rattle.std.proofs.Common.{◌≡◌, ◌-◌, ◌≤◌, length}
 use Rattle.gix_ref_files.specs.Disk.{Disk}
-use Rattle.gix_ref_files.specs.Files.{Leaves, Passes, disk_of}
-use Rattle.gix_ref_files.specs.Calls.{Unchanged}
+use Rattle.gix_ref_files.specs.Files.{Passes, disk_of}
 use Rattle.gix_ref_files.specs.Settled.{synced_by, folders_up}
 use Rattle.gix_ref_files.specs.DiskSteps.{IsSomeSynced}
 use Rattle.gix_ref_files.proofs.steps.sync_up.Given as goal
@@ -16,7 +15,6 @@ invariant-loop-end g l =
     record {
       in_path : l.end ≤ length l.path;
       count : g.F.Files.faults l.files ≡ g.F.Files.faults l.fn.files;
-      leaves : g.F.Files.honest → Leaves first now (Unchanged first.tree);
       passes : g.F.Files.honest → Passes first now (IsSomeSynced all (disk_of first));
       done : g.F.Files.honest → synced_by rest (disk_of now) ≡ synced_by all (disk_of first);
       some : g.F.Files.honest → (E : Disk) → IsSomeSynced rest (disk_of now) E → IsSomeSynced all (disk_of first) E;

@@ -12,9 +12,10 @@ use Rattle.gix_ref_transaction.specs.Effects.{is_write}
 use Rattle.gix_ref_transaction.specs.CommitRenames.{lock_at, log_at, path_in, place_at, is_written_at}
 use Rattle.gix_ref_transaction.specs.PrepareSteps.{lock_paths, updates}
 use Rattle.gix_ref_transaction.specs.declared.edit.Edit.{Edit}
-use Rattle.gix_ref_transaction.proofs.Adds.{clash}
+use Rattle.gix_ref_transaction.proofs.Adds.{clash, in_here}
 use Rattle.gix_ref_transaction.proofs.Faults.{risen_by_lock}
-use Rattle.gix_ref_transaction.proofs.Removing.{leaves_then, removes_more, named_cases, named_here, named_kept, named_once}
+use Rattle.gix_ref_transaction.proofs.Removals.{one_trees, removals_leave, removals_more, removals_only}
+use Rattle.gix_ref_transaction.proofs.Removing.{named_cases, named_here, named_kept, named_once}
 use Rattle.gix_ref_transaction.proofs.Renames.{flag_there, log_there, lock_there, lock_within, place_there, released}
 use Rattle.gix_ref_transaction.proofs.release.release_locks.Goals as goal
 
@@ -79,15 +80,13 @@ loop-edit-preserved g c =
           (named_once q names (paths_of c.args.remains.left.items) (times q (lock_paths all)) (lock_paths rest) lock removed
           (subst (λ (l : List Path). times q names + times q l ≤ times q (paths_of c.args.remains.left.items) + times q (lock_paths all)) (ap lock_paths split ∙ map-append (λ (e : Edit). lock_of e.lock) rest (own ∷ [])) (x.once q)));
       gone = λ h.
-          let next = c.release-removed.ensures.leaves h in
-          λ j first_le. released all (vec_len c.args.edits) c.args.done c.len-at.result lock at mid.tree now.tree next.tree names (paths_of c.add.new.self.left.items)
+          λ j first_le. released all (vec_len c.args.edits) c.args.done c.len-at.result lock at mid.tree now.tree (one_trees (lock ∷ []) lock (in_here lock lock [] refl) _ _ (c.release-removed.ensures.passes h).disk) names (paths_of c.add.new.self.left.items)
           (λ q k. subst (λ (l : List Path). is_in l q ≡ true) (sym named) (named_kept names _ q k))
           (λ stays out. gone_here removed (λ removed_is. c.release-removed.ensures.gone h (subst (λ b. not (nat_lt c.len-at.result c.args.done && b) ≡ true) flag stays) removed_is)
           (λ kept. clash (subst (λ (l : List Path). is_in l lock ≡ true) (sym named) (named_here names lock removed kept)) out))
           (λ k le. x.gone h k (omega (arith, le, len, c.in-Some.ensures.len)))
           j (omega (arith, first_le, c.len-at.ensures));
-      passes = λ h. removes_more (lock_paths all) lock first mid now within (x.passes h) (c.release-removed.ensures.passes h);
-      leaves = λ h. leaves_then (lock_paths all) lock first mid now within (x.leaves h) (c.release-removed.ensures.leaves h);
+      removes = λ h. removals_more (lock_paths all) lock first mid now within (x.removes h) (c.release-removed.ensures.passes h);
     }
 
 pub returns-clause-back : goal.returns-clause-back
@@ -99,6 +98,15 @@ returns-clause-back g c =
       edits = c.reverse.ensures.items ∙ (ap reverse x.front.2 ∙ (reverse-reverse (updates tail) ∙ ap updates (sym (x.front.1 ∙ ap (λ (l : List Edit). l ++ tail) none))));
       place = λ some. x.place some (omega (arith, c.in_default.ensures.cases.0));
       log = λ some. x.log some (omega (arith, c.in_default.ensures.cases.0));
+    }
+
+pub returns-clause-releases : goal.returns-clause-releases
+returns-clause-releases g c =
+    let x = c.loop-edit.invariant in
+    record {
+      leaves = λ h. removals_leave (lock_paths c.args.edits.items) _ _ (x.removes h);
+      passes = λ h. removals_only (lock_paths c.args.edits.items) _ _ (x.removes h);
+      no_fewer = x.no_fewer;
     }
 
 pub returns-clause-named : goal.returns-clause-named

@@ -1,11 +1,12 @@
 use Rattle.std.proofs.Common.{◌≡◌, ◌≤◌, ◌<◌, ◌+◌, ◌⊎◌, ℕ, List, ◌++◌, true, false, reverse, vec_len}
 use Rattle.std.specs.Vec.{vec_capacity}
-use Rattle.gix_ref_files.specs.Files.{Leaves, HasRisenBy, FaultCounts, NoFewer}
+use Rattle.gix_ref_files.specs.Files.{disk_of, Passes, HasRisenBy, FaultCounts, NoFewer}
 use Rattle.gix_ref_files.specs.Tree.{Path, is_file}
 use Rattle.gix_ref_transaction.specs.CommitRenames.{lock_at, log_at, path_in, place_at, stays_at}
 use Rattle.gix_ref_transaction.specs.PrepareSteps.{lock_paths, updates}
-use Rattle.gix_ref_transaction.specs.OwnLocks.{paths_of, RemovesLocks, OnlyRemoves, is_in, times}
+use Rattle.gix_ref_transaction.specs.OwnLocks.{paths_of, is_in, times}
 use Rattle.gix_ref_transaction.specs.declared.edit.Edit.{Edit}
+use Rattle.gix_ref_transaction.proofs.Removals.{RemovesOn}
 use Rattle.gix_ref_transaction.proofs.release.release_locks.Given as goal
 
 -- a lock that is not among the rest is gone, renamed or left
@@ -34,8 +35,7 @@ invariant-loop-edit g l =
       kept : (q : Path) → is_in before q ≡ true → is_in left q ≡ true;
       once : (q : Path) → times q left + times q (lock_paths l.edits.items) ≤ times q before + times q (lock_paths all);
       gone : g.F.Files.honest → (k : ℕ) → vec_len l.edits ≤ k → k < vec_len l.fn.edits → stays_at all l.done k ≡ true → is_in left (lock_at all k) ≡ false → is_file (now.tree (lock_at all k)) ≡ false;
-      passes : g.F.Files.honest → OnlyRemoves (lock_paths all) first now;
-      leaves : g.F.Files.honest → Leaves first now (RemovesLocks (lock_paths all) first.tree);
+      removes : g.F.Files.honest → Passes first now (RemovesOn (lock_paths all) (disk_of first));
     }
 
 abbrev pub decreases-loop-edit : goal.decreases-loop-edit

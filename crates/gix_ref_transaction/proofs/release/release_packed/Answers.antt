@@ -5,12 +5,14 @@ use Rattle.gix_ref_files.specs.Lock.{lock_of}
 use Rattle.gix_ref_transaction.specs.PrepareSteps.{packed_places}
 use Rattle.gix_ref_transaction.proofs.Adds.{in_here}
 use Rattle.gix_ref_transaction.proofs.PackedRelease.{one_removes}
+use Rattle.gix_ref_transaction.proofs.Removals.{one_leaves}
 use Rattle.gix_ref_transaction.proofs.Removing.{one_more_once, path_cases, path_left}
 use Rattle.gix_ref_transaction.proofs.release.release_packed.Goals as goal
 
 pub returns-then-not-remove_lock-clause-releases : goal.returns-then-not-remove_lock-clause-releases
 returns-then-not-remove_lock-clause-releases g c = record {
-  leaves = search rules;
+  leaves = λ h. one_leaves (map lock_of (packed_places c.args.packed)) _ (g.F.Files.means c.args.files.now) (g.F.Files.means c.remove_lock.new.files)
+      (subst (λ (p : Option Path). is_in (map lock_of (packed_places p)) c.path.result.now ≡ true) (sym c.in-Some.is) (in_here (lock_of c.in-Some.lock) c.path.result.now [] (sym c.path.ensures))) (c.remove_lock.ensures.passes h);
   passes = λ h. one_removes (map lock_of (packed_places c.args.packed)) _ (g.F.Files.means c.args.files.now) (g.F.Files.means c.remove_lock.new.files)
       (subst (λ (p : Option Path). is_in (map lock_of (packed_places p)) c.path.result.now ≡ true) (sym c.in-Some.is) (in_here (lock_of c.in-Some.lock) c.path.result.now [] (sym c.path.ensures))) (c.remove_lock.ensures.passes h);
   no_fewer = c.remove_lock.ensures.no_fewer;
@@ -18,7 +20,8 @@ returns-then-not-remove_lock-clause-releases g c = record {
 
 pub returns-else-not-remove_lock-clause-releases : goal.returns-else-not-remove_lock-clause-releases
 returns-else-not-remove_lock-clause-releases g c = record {
-  leaves = search rules;
+  leaves = λ h. one_leaves (map lock_of (packed_places c.args.packed)) _ (g.F.Files.means c.args.files.now) (g.F.Files.means c.remove_lock.new.files)
+      (subst (λ (p : Option Path). is_in (map lock_of (packed_places p)) c.path.result.now ≡ true) (sym c.in-Some.is) (in_here (lock_of c.in-Some.lock) c.path.result.now [] (sym c.path.ensures))) (c.remove_lock.ensures.passes h);
   passes = λ h. one_removes (map lock_of (packed_places c.args.packed)) _ (g.F.Files.means c.args.files.now) (g.F.Files.means c.remove_lock.new.files)
       (subst (λ (p : Option Path). is_in (map lock_of (packed_places p)) c.path.result.now ≡ true) (sym c.in-Some.is) (in_here (lock_of c.in-Some.lock) c.path.result.now [] (sym c.path.ensures))) (c.remove_lock.ensures.passes h);
   no_fewer = c.remove_lock.ensures.no_fewer;
