@@ -5,14 +5,14 @@ use gix_ref_name::name::PartialName;
 use gix_ref_store::file::Store;
 use std::alloc::Global;
 
-/// The name of a line, with this behind it.
+/// The name of a line, with this after it.
 fn name_of(alloc: Global, line: &[u8], behind: &[u8]) -> Option<PartialName> {
     let mut text = line.to_vec(alloc).ok()?;
     text.extend_from_slice(behind).ok()?;
     PartialName::try_from(text).ok()
 }
 
-/// The names of the file, each with this behind it; a line that is no name is passed over.
+/// The names of the file, each with this after it; a line that is no name is passed over.
 fn names_in<F: Files>(
     alloc: Global,
     files: &mut F,

@@ -16,7 +16,7 @@
 //! - `logs-of PATH ..`: the log of each step, or several joined by `+`, or `-`: it is whole where the step is done
 //! - `may OUTCOME`: the beginning of what is printed after a fault. Each comes, and no others, unless all is done
 //!
-//! In each of these each file is as before or as after the verb, but for its own locks, and for a beginning of a log line.
+//! In each of these each file is as before or as after the verb, except for its own locks, and for a beginning of a log line.
 use crate::judge::{Family, LineKind, change, kind_of, play};
 use crate::later::hold_later;
 use crate::reads::reading;
@@ -415,7 +415,7 @@ impl<'l> Sweep<'l> {
         bail!("{}", outcome.as_slice().as_bstr())
     }
 
-    /// Holds all files to those of a tree, but for locks that were not there before.
+    /// Holds all files to those of a tree, except for locks that were not there before.
     fn hold_all(&self, expected: &Tree, tree: &Tree) -> Result<()> {
         for file in expected.files().iter().chain(tree.files()) {
             let path = file.path.as_slice();

@@ -5,26 +5,10 @@ use anyhow::{Context, Result, bail};
 use gix_ref::file::Store;
 use gix_ref::files::Disk;
 use gix_ref::hash::{Kind, ObjectId};
-use gix_ref::name::{FullName, FullNameRef};
+use gix_ref::name::FullNameRef;
 use gix_ref::store::{Options, WriteReflog};
 use gix_ref::target::Target;
-use gix_ref::transaction::{Change, LogChange, PreviousValue, RefEdit};
-use std::alloc::Global;
-
-/// One update: this name gets this id, if there is no other value before.
-fn update(alloc: Global, name: FullName, id: ObjectId) -> Result<Vec<RefEdit>> {
-    let change = Change::Update {
-        log: LogChange::new_in(alloc),
-        expected: PreviousValue::MustNotExist,
-        new: Target::Object(id),
-    };
-    let edit = RefEdit {
-        change,
-        name,
-        deref: false,
-    };
-    Ok(vec![in alloc; edit]?)
-}
+use gix_ref::transaction::{PreviousValue, RefEdit};
 
 fn main(rt: HostRuntime) -> Result<()> {
     let alloc = rt.alloc();
@@ -41,7 +25,10 @@ fn main(rt: HostRuntime) -> Result<()> {
         bail!("`git` is not a clean path")
     };
 
-    let edits = update(alloc, name.to_owned(alloc)?, id)?;
+    // This name gets this id, if there is no other value before.
+    let (new, expected) = (Target::Object(id), PreviousValue::MustNotExist);
+    let edit = RefEdit::update(name.to_owned(alloc)?, new, expected, Vec::new(alloc));
+    let edits = vec![in alloc; edit]?;
     match store.transaction().prepare(alloc, edits) {
         Ok(prepared) => match prepared.commit(alloc, None) {
             Ok(done) => println!(rt; "{} edit", done.edits.len())?,

@@ -50,7 +50,7 @@ use Rattle.gix_ref_commit.specs.CommittedTrees.{AreCommitted}
 use Rattle.gix_ref_commit.specs.LogEffects.{but_lines, extras_in, with_extras}
 use Rattle.gix_ref_packed_transaction.specs.Repacks.{IsRepack}
 use Rattle.gix_ref_commit.specs.Cleared.{commit_entries, folder_lists}
-use Rattle.gix_ref_commit.specs.declared.folders.InWay.{InWay}
+use Rattle.gix_ref_commit.specs.declared.folders.EmptyDirs.{EmptyDirs}
 use Rattle.gix_ref_commit.proofs.Carries as carries
 use Rattle.gix_ref_commit.proofs.Cleared as cleared
 use Rattle.gix_ref_commit.proofs.Cleared.{EachOutside}
@@ -64,7 +64,7 @@ use Rattle.gix_ref_commit.proofs.Runs as run
 use Rattle.gix_ref_commit.proofs.Runs.{IsText}
 
 module _ (dirs : Dirs) (namespace : Option Namespace) (kind : Kind) (prohibits : Bool) (mode : Mode) (before : Tree) (D : Disk) (given : List RefEdit) (ran : List Own) (packed : Option Path) (rewrite : Rewrite)
-    (ways : List InWay) (out : EachOutside (placing.staying dirs namespace kind prohibits) (folder_lists ways)) (laid : IsLaid (placing.s dirs namespace kind prohibits) mode kind before D given ran packed) where
+    (ways : List EmptyDirs) (out : EachOutside (placing.staying dirs namespace kind prohibits) (folder_lists ways)) (laid : IsLaid (placing.s dirs namespace kind prohibits) mode kind before D given ran packed) where
   abbrev s : Store
   s = placing.s dirs namespace kind prohibits
 

@@ -35,7 +35,7 @@ use Rattle.gix_ref_edits.specs.RefEdits.{name_of, new_of, mode_of, is_of_referen
 use Rattle.gix_ref_edits.specs.declared.transaction.RefEdit.{RefEdit}
 use Rattle.gix_ref_edits.specs.declared.transaction.Change.{Change as GivenChange}
 use Rattle.gix_ref_edits.specs.declared.transaction.Change.TheVariants as given_changes
-use Rattle.gix_ref_transaction.specs.Causes.{ask_packed, has_key, may_change, packed_taken, packs_edit, packs_some, updates_object, IsFullTarget, IsOfKind, IsPackedWell, IsWholeTarget}
+use Rattle.gix_ref_transaction.specs.Causes.{ask_packed, is_packable, may_change, packed_taken, packs_edit, packs_some, updates_object, IsFullTarget, IsOfKind, IsPackedWell, IsWholeTarget}
 use Rattle.gix_ref_transaction.specs.CarriedEdits.{change_of, edit_of}
 use Rattle.gix_ref_transaction.specs.CommittedEdits.{planned}
 use Rattle.gix_ref_transaction.specs.OwnLocks.{is_in}
@@ -55,7 +55,7 @@ use Rattle.gix_ref_commit.specs.Entries.{Entry, planned_entries, bare_steps, ste
 use Rattle.gix_ref_commit.specs.LogEffects.{IsLogOf, but_lines, edit_with, extra_in, extras_in, line_in, with_extras}
 use Rattle.gix_ref_packed_transaction.specs.Repacks.{IsRepack}
 use Rattle.gix_ref_commit.specs.Cleared.{commit_entries, folder_lists}
-use Rattle.gix_ref_commit.specs.declared.folders.InWay.{InWay}
+use Rattle.gix_ref_commit.specs.declared.folders.EmptyDirs.{EmptyDirs}
 use Rattle.gix_ref_commit.proofs.Carries as carries
 use Rattle.gix_ref_commit.proofs.Carries.{Carries}
 use Rattle.gix_ref_commit.proofs.Cleared as cleared
@@ -108,15 +108,15 @@ module _ (s : Store) (mode : Mode) (T : Tree) where
   alters_asks records [] h = clash h refl
   alters_asks records (e ∷ given) h = by (is_of_reference (mode_of e.change)) refl (alters_change mode (s.key (name_of e)) (change_of e.change) records) refl h (alters_asks records given)
     where
-      asked : has_key s e ≡ true → (has_key s e || list_any (has_key s) given) ≡ true
-      asked is = ap (λ x. x || list_any (has_key s) given) is
+      asked : is_packable s e ≡ true → (is_packable s e || list_any (is_packable s) given) ≡ true
+      asked is = ap (λ x. x || list_any (is_packable s) given) is
 
-      later : ask_packed s given ≡ true → (has_key s e || list_any (has_key s) given) ≡ true
-      later is = any_right (has_key s) (e ∷ []) given is
+      later : ask_packed s given ≡ true → (is_packable s e || list_any (is_packable s) given) ≡ true
+      later is = any_right (is_packable s) (e ∷ []) given is
 
-      packed : has_key s e ≡ true → May records (packs_updates mode && updates_object e.change) → May records (packs_some s mode (e ∷ given))
+      packed : is_packable s e ≡ true → May records (packs_updates mode && updates_object e.change) → May records (packs_some s mode (e ∷ given))
       packed key (inl some) = inl some
-      packed key (inr packs) = inr (ap (λ x. x || packs_some s mode given) (ap (λ x. x && has_key s e) packs ∙ key))
+      packed key (inr packs) = inr (ap (λ x. x || packs_some s mode given) (ap (λ x. x && is_packable s e) packs ∙ key))
 
       packed_later : May records (packs_some s mode given) → May records (packs_some s mode (e ∷ given))
       packed_later (inl some) = inl some
@@ -127,7 +127,7 @@ module _ (s : Store) (mode : Mode) (T : Tree) where
           (alters_packed s mode records (planned given) ≡ true → (ask_packed s given ≡ true) × May records (packs_some s mode given)) → (ask_packed s (e ∷ given) ≡ true) × May records (packs_some s mode (e ∷ given))
       by true r true a is rest =
           let here = alters_by (s.key (name_of e)) e.change records a in
-          let key : has_key s e ≡ true = ap (λ x. x && is_some (s.key (name_of e))) r ∙ here.0 in
+          let key : is_packable s e ≡ true = ap (λ x. x && is_some (s.key (name_of e))) r ∙ here.0 in
           (asked key, packed key here.1)
       by true r false a is rest = let others = rest is in (later others.0, packed_later others.1)
       by false r a' a is rest = let others = rest is in (later others.0, packed_later others.1)
@@ -154,7 +154,7 @@ module _ (s : Store) (mode : Mode) (T : Tree) where
       may (inr packs) = ap (λ b. is_file (T s.packed_path) || b) packs ∙ or_true (is_file (T s.packed_path))
 
 module _ (dirs : Dirs) (namespace : Option Namespace) (kind : Kind) (prohibits : Bool) (mode : Mode) (before : Tree) (D : Disk) (given : List RefEdit) (ran : List Own) (packed : Option Path) (rewrite : Rewrite)
-    (ways : List InWay) (out : EachOutside (placing.staying dirs namespace kind prohibits) (folder_lists ways)) (laid : IsLaid (placing.s dirs namespace kind prohibits) mode kind before D given ran packed) (ready : IsReady (placing.s dirs namespace kind prohibits) mode kind before D.tree given ran) where
+    (ways : List EmptyDirs) (out : EachOutside (placing.staying dirs namespace kind prohibits) (folder_lists ways)) (laid : IsLaid (placing.s dirs namespace kind prohibits) mode kind before D given ran packed) (ready : IsReady (placing.s dirs namespace kind prohibits) mode kind before D.tree given ran) where
   abbrev pub s : Store
   s = placing.s dirs namespace kind prohibits
 

@@ -25,7 +25,7 @@ use Rattle.gix_ref_files.specs.declared.files.FileError.{FileError}
 use Rattle.gix_ref_files.specs.declared.files.FileError.TheVariants.{Device, NotUtf8, Memory as no_memory}
 use Rattle.gix_ref_files.specs.declared.steps.Cause.TheVariants.{Asked, File as Fault, Sync, Unexpected}
 use Rattle.gix_ref_files.specs.declared.steps.Planned.{Planned}
-use Rattle.gix_ref_commit.specs.declared.folders.InWay.{InWay}
+use Rattle.gix_ref_commit.specs.declared.folders.EmptyDirs.{EmptyDirs}
 use Rattle.gix_ref_commit.specs.declared.plan.About.{About}
 use Rattle.gix_ref_commit.specs.declared.run.Unfinished.{Unfinished}
 use Rattle.gix_ref_commit.specs.declared.run.Unfinished.TheVariants.{Memory as Unwanted, Step}
@@ -203,10 +203,10 @@ fails_at plan i before mid now d (Step about (Fault fault)) lt le (same, writes,
     by (x ∷ p) (suc k) lt = ap (λ (l : List Entry). entry x ∷ l) (by p k (omega (arith, lt)))
 
 -- one step more is looked at
-pub way_next : (edits : List Edit) (dirs : Dirs) (T mid : Tree) (ways all : List InWay) (plan : List (Planned About)) (i : ℕ) (d : Planned About) (way : InWay) → i < length plan → all ≡ ways ++ way ∷ [] → mid ≡ T →
+pub way_next : (edits : List Edit) (dirs : Dirs) (T mid : Tree) (ways all : List EmptyDirs) (plan : List (Planned About)) (i : ℕ) (d : Planned About) (way : EmptyDirs) → i < length plan → all ≡ ways ++ way ∷ [] → mid ≡ T →
     AllInWay edits dirs T (folder_lists ways) (entries (take i plan)) → AreInWayOf dirs mid (is_seen edits (get_or plan i d).about) (written_at (step_of (get_or plan i d).action)) (paths_of way.folders.items) → AllInWay edits dirs T (folder_lists all) (entries (take (i + 1) plan))
 way_next edits dirs T mid ways all plan i d way lt is same before this =
-    subst (λ (l : List (List Path)). AllInWay edits dirs T l (entries (take (i + 1) plan))) (sym (ap folder_lists is ∙ map-append (λ (w : InWay). paths_of w.folders.items) ways (way ∷ [])))
+    subst (λ (l : List (List Path)). AllInWay edits dirs T l (entries (take (i + 1) plan))) (sym (ap folder_lists is ∙ map-append (λ (w : EmptyDirs). paths_of w.folders.items) ways (way ∷ [])))
     (subst (λ (l : List Entry). AllInWay edits dirs T (folder_lists ways ++ paths_of way.folders.items ∷ []) l)
     (sym (ap entries (take_more plan i d lt) ∙ map-append entry (take i plan) (get_or plan i d ∷ [])))
     (way_added edits dirs T (folder_lists ways) (entries (take i plan)) (paths_of way.folders.items) (entry (get_or plan i d)) before

@@ -26,7 +26,7 @@ use Rattle.gix_ref_transaction.specs.declared.edit.Effect.TheVariants as effects
 use Rattle.gix_ref_transaction.specs.declared.edit.LogEffect.{LogEffect}
 use Rattle.gix_ref_transaction.specs.declared.edit.LogEffect.TheVariants as logs
 use Rattle.gix_ref_commit.specs.Entries.{Entry, bare, planned_entries}
-use Rattle.gix_ref_commit.specs.declared.folders.InWay.{InWay}
+use Rattle.gix_ref_commit.specs.declared.folders.EmptyDirs.{EmptyDirs}
 use Rattle.gix_ref_commit.specs.declared.plan.About.{About}
 use Rattle.gix_ref_commit.specs.declared.plan.About.TheVariants as about
 
@@ -123,11 +123,11 @@ abbrev pub ClearsNothing : List (List Path) → Type 0
 ClearsNothing folders = (plan : List Entry) → cleared folders plan ≡ plan
 
 -- the paths of the folders before each step
-abbrev pub folder_lists : List InWay → List (List Path)
-folder_lists ways = map (λ (way : InWay). paths_of way.folders.items) ways
+abbrev pub folder_lists : List EmptyDirs → List (List Path)
+folder_lists ways = map (λ (way : EmptyDirs). paths_of way.folders.items) ways
 
--- the steps of a commit, each behind the removals of the folders that are in its way
-abbrev pub commit_entries : Dirs → List Edit → Option Path → Rewrite → List InWay → List Entry
+-- the steps of a commit, each after the removals of the folders that are in its way
+abbrev pub commit_entries : Dirs → List Edit → Option Path → Rewrite → List EmptyDirs → List Entry
 commit_entries dirs edits packed rewrite ways =
     cleared (folder_lists ways) (planned_entries dirs edits packed rewrite)
 
@@ -177,7 +177,7 @@ FoldersGo dirs paths before T =
     (q : Path) → (T q ≡ before q) ⊎ ((before q ≡ Some Folder) × (T q ≡ None) × IsAbove dirs paths q
     × (IsIn q (roots_of dirs) → ⊥))
 
--- All that was done is that such folders were removed: a disk that was as the one at the beginning, but for own locks, stays so.
+-- All that was done is that such folders were removed: a disk that was as the one at the beginning, except for own locks, stays so.
 abbrev pub OnlyFolders : Dirs → (old new : Meaning) → Type 0
 OnlyFolders dirs old new =
     (locked staying : List Path) (first : Disk) →

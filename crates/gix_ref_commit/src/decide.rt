@@ -9,7 +9,7 @@ ghost use Rattle.gix_ref_commit.specs.Failures.{IsOfListing};
 
 use crate::error as commit;
 use crate::failure::unlisted;
-use crate::folders::{InWay, all_in_way};
+use crate::folders::{EmptyDirs, find_empty_dirs_in_the_way};
 use crate::plan::plan_commit;
 use gix_ref_files::files::Files;
 use gix_ref_files::lock::LockFile;
@@ -93,7 +93,7 @@ pub fn decide_folders<F: Files>(
     edits: &[Edit],
     packed: &Option<LockFile>,
     rewrite: &Rewrite,
-) -> Result<Vec<InWay>, commit::Error>
+) -> Result<Vec<EmptyDirs>, commit::Error>
     ensures in_way { F.honest →
         IfOk result (λ ways. AllInWay edits.now dirs.now (F.means files.old).tree
         (folder_lists ways.items) (planned_entries dirs.now edits.now packed.now rewrite.now)) }
@@ -104,7 +104,7 @@ pub fn decide_folders<F: Files>(
     let Ok(plan) = plan_commit(alloc, dirs, edits, packed, rewrite) else {
         return Err(commit::Error::Memory);
     };
-    match all_in_way(alloc, files, dirs, edits, &plan) {
+    match find_empty_dirs_in_the_way(alloc, files, dirs, edits, &plan) {
         Ok(ways) => Ok(ways),
         Err(unfinished) => Err(unlisted(alloc, edits, unfinished)),
     }

@@ -93,7 +93,7 @@ pub fn is_renamed(rewrite: &Rewrite) -> bool
 }
 
 /// The lock of `packed-refs`, unless it was renamed: another may hold it by then.
-pub fn unless_renamed(packed: Option<LockFile>, renamed: bool) -> Option<LockFile>
+pub fn still_held(packed: Option<LockFile>, renamed: bool) -> Option<LockFile>
     ensures { result ≡ (if renamed then None else packed) }
 {
     if renamed { None } else { packed }

@@ -20,9 +20,9 @@ use gix_ref_lookup::folders::{Dirs, rest_below};
 use gix_ref_transaction::edit::Edit;
 use std::alloc::{AllocError, Global};
 
-/// The folders that are removed before a step, each behind those in it.
+/// The folders that are removed before a step, each after those in it.
 #[derive(Drop)]
-pub struct InWay {
+pub struct EmptyDirs {
     pub folders: Vec<Vec<u8>>,
 }
 
@@ -178,7 +178,7 @@ fn walk<F: Files>(
     Err(FileError::Memory)
 }
 
-/// The folder at a path and those in it, each behind those in it, if nothing else is there; else none.
+/// The folder at a path and those in it, each after those in it, if nothing else is there; else none.
 fn folders_at<F: Files>(
     alloc: Global,
     files: &mut F,
@@ -209,19 +209,19 @@ fn in_way<F: Files>(
     files: &mut F,
     dirs: &Dirs,
     path: &[u8],
-) -> Result<InWay, FileError>
+) -> Result<EmptyDirs, FileError>
     ensures in_way { F.honest → IfOk result (λ way. AreInWay dirs.now
         (F.means files.old).tree false path.now (paths_of way.folders.items)) }
     ensures reads { OnlyReads F.honest F.means F.faults files.old files.new }
     ensures counted { IfErr result (IsCountedFault (F.faults files.old) (F.faults files.new)) }
 {
     if files.kind(path)? != Node::Folder {
-        return Ok(InWay {
+        return Ok(EmptyDirs {
             folders: Vec::new(alloc),
         });
     }
     let folders = folders_at(alloc, files, dirs, path)?;
-    Ok(InWay { folders })
+    Ok(EmptyDirs { folders })
 }
 
 /// The folders that are in the way of a step: of one that writes a file.
@@ -230,7 +230,7 @@ fn in_way_of<F: Files>(
     files: &mut F,
     dirs: &Dirs,
     action: &Action<'_>,
-) -> Result<InWay, FileError>
+) -> Result<EmptyDirs, FileError>
     ensures in_way { F.honest → IfOk result (λ way. AreInWayOf dirs.now (F.means files.old).tree
         false (written_at (step_of action.now)) (paths_of way.folders.items)) }
     ensures writes { IfErr result (λ error. written_at (step_of action.now) ≢ None) }
@@ -245,7 +245,7 @@ fn in_way_of<F: Files>(
         | Action::RemoveFile { .. }
         | Action::MakeFolders { .. }
         | Action::RemoveFolder { .. }
-        | Action::End => Ok(InWay {
+        | Action::End => Ok(EmptyDirs {
             folders: Vec::new(alloc),
         }),
     }
@@ -281,13 +281,13 @@ fn is_seen(edits: &[Edit], about: About) -> bool
 }
 
 /// The folders that are in the way of a step of a plan. None is sought where it was seen that none is there.
-fn way_before<F: Files>(
+fn empty_dirs_before<F: Files>(
     alloc: Global,
     files: &mut F,
     dirs: &Dirs,
     edits: &[Edit],
     planned: &Planned<'_, About>,
-) -> Result<InWay, Unfinished>
+) -> Result<EmptyDirs, Unfinished>
     ensures in_way { F.honest → IfOk result
         (λ way. AreInWayOf dirs.now (F.means files.old).tree (is_seen edits.now planned.now.about)
         (written_at (step_of planned.now.action)) (paths_of way.folders.items)) }
@@ -296,7 +296,7 @@ fn way_before<F: Files>(
     ensures reads { OnlyReads F.honest F.means F.faults files.old files.new }
 {
     if is_seen(edits, planned.about) {
-        return Ok(InWay {
+        return Ok(EmptyDirs {
             folders: Vec::new(alloc),
         });
     }
@@ -308,13 +308,13 @@ fn way_before<F: Files>(
 
 /// The folders that are in the way of each step of a plan. The error names the step before which a folder could not be listed. One call of
 /// files for each step that writes a file where it was not seen that no folder is there, and one for each folder in its way.
-pub fn all_in_way<F: Files>(
+pub fn find_empty_dirs_in_the_way<F: Files>(
     alloc: Global,
     files: &mut F,
     dirs: &Dirs,
     edits: &[Edit],
     plan: &[Planned<'_, About>],
-) -> Result<Vec<InWay>, Unfinished>
+) -> Result<Vec<EmptyDirs>, Unfinished>
     ensures in_way { F.honest → IfOk result (λ ways. AllInWay edits.now dirs.now
         (F.means files.old).tree (folder_lists ways.items) (entries plan.now)) }
     ensures failed { IfErr result
@@ -325,7 +325,7 @@ pub fn all_in_way<F: Files>(
         return Err(Unfinished::Memory);
     };
     for planned in plan {
-        let way = match way_before(alloc, files, dirs, edits, planned) {
+        let way = match empty_dirs_before(alloc, files, dirs, edits, planned) {
             Ok(way) => way,
             Err(unfinished) => return Err(unfinished),
         };
@@ -336,7 +336,7 @@ pub fn all_in_way<F: Files>(
     Ok(ways)
 }
 
-/// Adds the removals of these folders, about what the step behind them is about.
+/// Adds the removals of these folders, about what the step after them is about.
 fn add_removals<'p>(
     steps: &mut Vec<Planned<'p, About>>,
     folders: &'p [Vec<u8>],
@@ -356,7 +356,7 @@ fn add_removals<'p>(
 }
 
 /// Whether no folder is in the way of any step.
-fn none_in_way(ways: &[InWay]) -> bool
+fn none_in_way(ways: &[EmptyDirs]) -> bool
     ensures { result ≡ true → ClearsNothing (folder_lists ways.now) }
 {
     for way in ways {
@@ -367,11 +367,11 @@ fn none_in_way(ways: &[InWay]) -> bool
     true
 }
 
-/// A new list of the steps of a plan, each behind the removals of the folders that are in its way.
+/// A new list of the steps of a plan, each after the removals of the folders that are in its way.
 fn with_removals<'p>(
     alloc: Global,
     plan: &[Planned<'p, About>],
-    ways: &'p [InWay],
+    ways: &'p [EmptyDirs],
 ) -> Result<Vec<Planned<'p, About>>, AllocError>
     ensures { IfOk result (λ steps. entries steps.items
         ≡ cleared (folder_lists ways.now) (entries plan.now)) }
@@ -386,12 +386,12 @@ fn with_removals<'p>(
     Ok(steps)
 }
 
-/// The steps of a plan, each behind the removals of the folders that are in its way. Where there is no such folder it is the plan itself,
+/// The steps of a plan, each after the removals of the folders that are in its way. Where there is no such folder it is the plan itself,
 /// and takes no memory.
 pub fn clear<'p>(
     alloc: Global,
     plan: Vec<Planned<'p, About>>,
-    ways: &'p [InWay],
+    ways: &'p [EmptyDirs],
 ) -> Result<Vec<Planned<'p, About>>, AllocError>
     ensures { IfOk result (λ steps. entries steps.items
         ≡ cleared (folder_lists ways.now) (entries plan.entry.items)) }

@@ -119,24 +119,24 @@ fn removal_step<'p>(at: usize, edit: &'p Edit) -> Option<Planned<'p, About>>
 fn packed_step<'p>(dirs: &Dirs, lock: &'p LockFile, rewrite: &Rewrite) -> Option<Planned<'p, About>>
     ensures { entry_of result ≡ packed_entry dirs.now lock.now rewrite.now }
 {
-    match rewrite {
-        Rewrite::Unchanged => None,
-        Rewrite::Removed => Some(Planned {
-            action: Action::RemoveFile { path: lock.place() },
-            settle: Settle::Folder,
-            about: About::Packed,
-        }),
-        Rewrite::Text(_) => Some(Planned {
-            action: Action::Rename {
+    let (action, settle) = match rewrite {
+        Rewrite::Unchanged => return None,
+        Rewrite::Removed => (Action::RemoveFile { path: lock.place() }, Settle::Folder),
+        Rewrite::Text(_) => (
+            Action::Rename {
                 from: lock.path(),
                 to: lock.place(),
             },
-            settle: Settle::UpTo {
+            Settle::UpTo {
                 root: dirs.root(lock.place()),
             },
-            about: About::Packed,
-        }),
-    }
+        ),
+    };
+    Some(Planned {
+        action,
+        settle,
+        about: About::Packed,
+    })
 }
 
 /// Adds a step, if there is one.

@@ -3,7 +3,7 @@ ghost use Rattle.std.specs.Prelude.{◌<◌, OnOk, IfErr, length};
 ghost use Rattle.gix_ref_commit.specs.Cleared.{commit_entries};
 ghost use Rattle.gix_ref_commit.specs.Unfinished.{IsStepAt, RunsAll, RunsOnly, StopsEarly};
 
-use crate::folders::{InWay, clear};
+use crate::folders::{EmptyDirs, clear};
 use crate::plan::{About, plan_commit};
 use gix_ref_files::files::{FileError, Files};
 use gix_ref_files::lock::LockFile;
@@ -38,7 +38,7 @@ fn step_of_end(plan: &[Planned<'_, About>], ended: Ended) -> Unfinished
     }
 }
 
-/// Plans the steps of a commit, each behind the removals of the folders that are in its way, and runs them, up to the first that fails or
+/// Plans the steps of a commit, each after the removals of the folders that are in its way, and runs them, up to the first that fails or
 /// finds something in its way. Takes memory for the plan alone, before the first step. (`commit` of `git update-ref --stdin`)
 pub fn run_plan<F: Files>(
     alloc: Global,
@@ -47,7 +47,7 @@ pub fn run_plan<F: Files>(
     edits: &[Edit],
     packed: &Option<LockFile>,
     rewrite: &Rewrite,
-    ways: &[InWay],
+    ways: &[EmptyDirs],
 ) -> Result<(), Unfinished>
     ensures finished { OnOk result (RunsAll F.honest (commit_entries dirs.now edits.now packed.now
         rewrite.now ways.now) (F.means files.old) (F.means files.new)) }

@@ -154,6 +154,58 @@ pub struct RefEdit {
     pub deref: bool,
 }
 
+impl RefEdit {
+    /// An update of the reference and its log, to this target, with this message in the log line. A symbolic reference is not
+    /// followed, and a log is made by the options of the store alone; `deref` and `change` say otherwise where they are set
+    /// afterwards. Takes no memory. As `git update-ref --no-deref -m MESSAGE NAME NEW OLD`.
+    ///
+    /// ```text
+    /// let message = b"branch: Created from HEAD".to_vec(alloc)?;
+    /// let edit = RefEdit::update(name, Target::Object(id), PreviousValue::MustNotExist, message);
+    /// ```
+    pub fn update(name: FullName, new: Target, expected: PreviousValue, message: Vec<u8>) -> RefEdit
+        ensures name { result.name ≡ name }
+        ensures change { result.change ≡ Change.Update (record {
+          mode = RefLog.AndReference;
+          force_create_reflog = false;
+          message = message;
+        }) expected new }
+        ensures not_followed { result.deref ≡ false }
+    {
+        let log = LogChange {
+            mode: RefLog::AndReference,
+            force_create_reflog: false,
+            message,
+        };
+        RefEdit {
+            change: Change::Update { log, expected, new },
+            name,
+            deref: false,
+        }
+    }
+
+    /// A deletion of the reference and its log. A symbolic reference is not followed. Takes no memory. As
+    /// `git update-ref --no-deref -d NAME OLD`.
+    ///
+    /// ```text
+    /// let edit = RefEdit::delete(name, PreviousValue::MustExist);
+    /// ```
+    pub fn delete(name: FullName, expected: PreviousValue) -> RefEdit
+        ensures name { result.name ≡ name }
+        ensures change { result.change ≡ Change.Delete expected RefLog.AndReference }
+        ensures not_followed { result.deref ≡ false }
+    {
+        RefEdit {
+            change: Change::Delete {
+                expected,
+                log: RefLog::AndReference,
+            },
+            name,
+            deref: false,
+        }
+    }
+}
+
 /// A copy; the error says that there was no memory for it.
 impl Clone for LogChange {
     ghost use Rattle.gix_ref_edits.specs.RefEdits.{SameLog};

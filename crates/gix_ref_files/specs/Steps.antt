@@ -122,11 +122,11 @@ count_ended Unexpected n = n
 count_ended Asked n = n
 
 -- the cause that ends a run once the step is done: a fault is that of a sync
-abbrev pub cause_once_done : Cause → Cause
-cause_once_done (File error) = Sync error
-cause_once_done (Sync error) = Sync error
-cause_once_done Unexpected = Unexpected
-cause_once_done Asked = Asked
+abbrev pub cause_of_sync : Cause → Cause
+cause_of_sync (File error) = Sync error
+cause_of_sync (Sync error) = Sync error
+cause_of_sync Unexpected = Unexpected
+cause_of_sync Asked = Asked
 
 -- a run that ended for this cause did not want memory
 abbrev pub HasMemory : Cause → Type 0

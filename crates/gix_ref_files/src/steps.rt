@@ -6,7 +6,7 @@ ghost use Rattle.gix_ref_files.specs.Disk.{folder_of};
 ghost use Rattle.gix_ref_files.specs.Files.{AtEveryStop, OnEveryDisk, disk_of, count_after, DiskBecomes};
 ghost use Rattle.gix_ref_files.specs.Settled.{synced, synced_by, sync_of_folder, folders_up, climb, from_one};
 ghost use Rattle.gix_ref_files.specs.Settled.Sync.{OfFile, OfFolder};
-ghost use Rattle.gix_ref_files.specs.Steps.{Does, EndsBy, IsAfter, IsLeftBy, EndsAt, step_of, steps_of, cause_once_done, count_ended, HasMemory, MayBeSynced};
+ghost use Rattle.gix_ref_files.specs.Steps.{Does, EndsBy, IsAfter, IsLeftBy, EndsAt, step_of, steps_of, cause_of_sync, count_ended, HasMemory, MayBeSynced};
 ghost use Rattle.gix_ref_files.specs.Steps.Step.{Line};
 ghost use Rattle.gix_ref_files.specs.DiskSteps.{DoesOn, BeginsOn, With, IsReachedBy, IsSyncedAfter, IsEndedAt, IsSomeSynced, Settling, folder_syncs, path_syncs, syncs_of, synced_steps, needs, CanSync, CanSettle};
 ghost use Rattle.gix_ref_files.specs.declared.steps.Cause.TheVariants.{File};
@@ -423,8 +423,8 @@ fn sync_after<F: Files>(files: &mut F, action: &Action<'_>, settle: Settle) -> R
 }
 
 /// The cause that ends a run after a step that is done.
-fn once_done(cause: Cause) -> Cause
-    ensures { result ≡ cause_once_done cause }
+fn as_sync_error(cause: Cause) -> Cause
+    ensures { result ≡ cause_of_sync cause }
 {
     match cause {
         Cause::File(error) => Cause::Sync(error),
@@ -453,7 +453,7 @@ fn run_step<F: Files>(files: &mut F, action: &Action<'_>, settle: Settle) -> Res
     }
     match sync_after(files, action, settle) {
         Ok(()) => Ok(()),
-        Err(cause) => Err(once_done(cause)),
+        Err(cause) => Err(as_sync_error(cause)),
     }
 }
 

@@ -60,7 +60,7 @@ abbrev pub step_from : HitsByName → (reached : List (List ℕ)) → (more : At
 step_from find reached more at (object_id id) = Reached at id
 step_from find reached more at (symbolic_name name) = step_by reached more at name (find name)
 
--- With so many steps left, behind the references of these names, which earlier steps reached. The last step is taken and then
+-- With so many steps left, after the references of these names, which earlier steps reached. The last step is taken and then
 -- refused, whatever it reached.
 unfoldable pub follow : HitsByName → (steps : ℕ) → (reached : List (List ℕ)) → At → EndOfChain
 follow find zero reached at = TooDeep at

@@ -5,8 +5,8 @@ ghost use Rattle.gix_ref_target.specs.Targets.TargetValue.{object_id, symbolic_n
 ghost use Rattle.gix_ref_follow.specs.Following.{At, HitsByName, ChainOfSteps, IsStep, following, is_one_of};
 ghost use Rattle.gix_ref_follow.specs.Following.EndOfChain.{Reached, Dangling, Circular, TooDeep};
 
-/// How a chain of symbolic references ends: at an object behind at most four steps; at a target that no reference has as its
-/// name; where the next step leads to a name that an earlier one reached, also the fifth; else behind the fifth step.
+/// How a chain of symbolic references ends: at an object after at most four steps; at a target that no reference has as its
+/// name; where the next step leads to a name that an earlier one reached, also the fifth; else after the fifth step.
 pub fn ends_of_followings()
     ensures object { (find : HitsByName) (steps : ℕ) (start end : At) (reached : List (List ℕ))
         (id : ObjectId) → steps ≤ 4 → ChainOfSteps find steps start reached end →

@@ -6,7 +6,7 @@ use bstr::ByteSlice;
 
 mod search;
 
-pub use search::{first_place, last_place, some_first_break};
+pub use search::{find_tab_or_lf, first_place, last_place};
 
 /// What follows `front` in the text, or `None` where the text does not begin with it (`slice::strip_prefix`).
 pub fn strip_front<'a>(text: &'a [u8], front: &[u8]) -> Option<&'a [u8]>
@@ -73,7 +73,7 @@ fn is_line_end(byte: u8) -> bool
 }
 
 /// The text before its first NUL, CR or LF, or the whole text where it has none.
-pub fn before_line_end(text: &[u8]) -> &[u8]
+pub fn up_to_line_end(text: &[u8]) -> &[u8]
     ensures { CutsLine text.now result.now }
 {
     for (i, byte) in text.iter().enumerate() {

@@ -78,8 +78,8 @@ IsPackedAgain honest settings view name (Err error) =
     × IsGone (s.place (full_bytes name)) error)
 
 -- A name that is asked for once more, as an item: by the file at its own place; or none is there, and by its record.
-abbrev pub IsAskedAgain : (honest : Type 0) → Settings → View → (before now : FaultCounts) → FullName →
-    Result Reference Error → Type 0
+abbrev pub IsAskedAgain : (honest : Type 0) → Settings → View → (before now : FaultCounts) →
+    FullName → Result Reference Error → Type 0
 IsAskedAgain honest settings view before now name item =
     let s = meaning_in settings in
     let place = s.place (full_bytes name) in
@@ -95,8 +95,8 @@ IsGoneItem honest settings view before now (File name path) item =
 IsGoneItem honest settings view before now (Unlisted path source) item = ⊥
 
 -- what was found as it is read: as an item; or its file is gone
-abbrev pub IsFoundOrGone : (honest : Type 0) → Settings → View → (before now : FaultCounts) → Found →
-    Result Reference Error → Type 0
+abbrev pub IsFoundOrGone : (honest : Type 0) → Settings → View → (before now : FaultCounts) →
+    Found → Result Reference Error → Type 0
 IsFoundOrGone honest settings view before now found item =
     IsFoundItem honest settings view before now found item
     ⊎ IsGoneItem honest settings view before now found item

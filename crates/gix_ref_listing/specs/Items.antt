@@ -57,8 +57,8 @@ IsUnread honest kind s view before now name at Memory = Unit {0}
 IsUnread honest kind s view before now name at other = ⊥
 
 -- The file at a path as the item of a name: its target, or why it has none.
-abbrev pub IsFileItem : (honest : Type 0) → Settings → View → (before now : FaultCounts) → FullName →
-    (path : List ℕ) → Result Reference Error → Type 0
+abbrev pub IsFileItem : (honest : Type 0) → Settings → View → (before now : FaultCounts) →
+    FullName → (path : List ℕ) → Result Reference Error → Type 0
 IsFileItem honest settings view before now name path (Ok r) =
     (r.name ≡ name)
     × (honest → IsLooseTarget (meaning_in settings) (view path) (Some r.target))

@@ -32,7 +32,8 @@ pub record Text : Type 0 where
 -- the text of this buffer, which is asked for a key, where its names ascend, whatever its other lines are
 abbrev pub IsTextFor : (key : List ℕ) → Option (Bor Buffer) → Text → Type 0
 IsTextFor key None text = ⊥
-IsTextFor key (Some buffer) text = (text ≡ record { kind = buffer_kind buffer.now; bytes = buffer_text buffer.now; key = key })
+IsTextFor key (Some buffer) text =
+    (text ≡ record { kind = buffer_kind buffer.now; bytes = buffer_text buffer.now; key = key })
     × NamesAscend (buffer_kind buffer.now) (buffer_text buffer.now)
 
 -- A record of the text that is asked for has this name: it begins a line, whatever the other lines are.

@@ -61,7 +61,7 @@ pub record IsPseudoListing (settings : Settings) (view : View) (listed : List Li
   pub each : (name : List ℕ) → IsPseudoListed settings view name → Among (IsLooseOf name) listed
   pub only : AllByRecursion (IsPseudoItem settings view) listed
 
--- What is yet to come is that listing. A folder is in it only where the count of faults rose.
+-- What is yet to come is that listing. A folder is in it only with a fault that was counted.
 pub record ListsPseudo (settings : Settings) (view : View) (before now : FaultCounts)
     (m : Merge) : Type 0 where
   pub listed : List Listed

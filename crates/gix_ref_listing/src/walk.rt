@@ -182,7 +182,8 @@ impl Root<'_> {
         ensures stays { StaysFound found.old.entries found.new.entries }
         ensures holds { OnOk result (IsListedName self.entry disk.now →
             Among (Holds disk.now) found.new.entries) }
-        ensures files { (before now : FaultCounts) → All (IsFileOrMet before now) found.old.entries →
+        ensures files { (before now : FaultCounts) → All
+            (IsFileOrMet before now) found.old.entries →
             All (IsFileOrMet before now) found.new.entries }
         ensures there { (others : List FoundEntry) (view : View) →
             All (IsThereOr others self.entry view) found.old.entries →
@@ -242,7 +243,8 @@ impl Root<'_> {
             (IsTaken self.entry folder.now found.new.entries next.new.items entry.now) }
         ensures paths { All (λ f. IsInnerPath f.items) next.old.items →
             All (λ f. IsInnerPath f.items) next.new.items }
-        ensures files { (before now : FaultCounts) → All (IsFileOrMet before now) found.old.entries →
+        ensures files { (before now : FaultCounts) → All
+            (IsFileOrMet before now) found.old.entries →
             All (IsFileOrMet before now) found.new.entries }
         ensures there { (others : List FoundEntry) (view : View) →
             All (IsThereOr others self.entry view) found.old.entries → IsFileOf self.entry view

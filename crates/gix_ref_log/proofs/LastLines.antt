@@ -109,12 +109,12 @@ record Feed (a : List ℕ) : Type 0 where
   none : NoFeed after
 
 -- the last line feed of a list, or none
-last_feed : (a : List ℕ) → NoFeed a ⊎ Feed a
-last_feed [] = inl (λ k l. absurd (omega arith))
-last_feed (x ∷ a) = ⊎_elim
+last_newline : (a : List ℕ) → NoFeed a ⊎ Feed a
+last_newline [] = inl (λ k l. absurd (omega arith))
+last_newline (x ∷ a) = ⊎_elim
     (λ (none : NoFeed a). ⊎_elim (λ (is : x ≡ 10). inr (record { before = []; after = a; split = ap (λ (y : ℕ). y ∷ a) is; none = none })) (λ (other : x ≢ 10). inl (none_more x a other none)) (cases_eq x 10))
     (λ (h : Feed a). inr (record { before = x ∷ h.before; after = h.after; split = ap (λ (z : List ℕ). x ∷ z) h.split; none = h.none }))
-    (last_feed a)
+    (last_newline a)
 
 -- the last line is longer than the buffer
 pub long : (room n : ℕ) (a v : List ℕ) (ends : Bool) → NoFeed v → 0 < length a → 0 < room → room ≤ length v
@@ -134,4 +134,4 @@ long room n a v ends none some pos wide = ⊎_elim
     ap (λ (z : List ℕ). items_from room n (z ++ tail_of ends)) split
     ∙ found room n b w ends (none_both c v h.none none) (omega arith)
     ∙ cond-false _ _ _ (lt-leb (length w + 1) room (omega arith)))
-    (last_feed a)
+    (last_newline a)

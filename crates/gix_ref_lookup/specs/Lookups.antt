@@ -195,8 +195,8 @@ IsNotReadAt honest kind s view before now name at Memory = Unit {0}
 IsNotReadAt honest kind s view before now name at other = ⊥
 
 -- why the loose file of a candidate gives none
-abbrev pub IsNotRead : (honest : Type 0) → Kind → Store → View → (before now : FaultCounts) → List ℕ →
-    Error → Type 0
+abbrev pub IsNotRead : (honest : Type 0) → Kind → Store → View → (before now : FaultCounts) →
+    List ℕ → Error → Type 0
 IsNotRead honest kind s view before now name error =
     IsNotReadAt honest kind s view before now name (s.place name) error
 

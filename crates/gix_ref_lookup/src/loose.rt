@@ -11,7 +11,7 @@ ghost use Rattle.gix_ref_lookup.specs.LooseText.{HoldsPath, HoldsId, HoldsTarget
 mod error;
 
 pub use error::Error;
-use gix_ref_hash::bytes::{after_spaces, before_line_end, strip_front};
+use gix_ref_hash::bytes::{after_spaces, strip_front, up_to_line_end};
 use gix_ref_hash::hash::{Kind, ObjectId, hex_hash, is_hex};
 use gix_ref_name::name::{FullName, FullNameRef};
 use gix_ref_packed::raw;
@@ -125,7 +125,7 @@ fn symbolic_path(text: &[u8]) -> Option<&[u8]>
     let Some(rest) = strip_front(text, b"ref: ") else {
         return None;
     };
-    Some(before_line_end(after_spaces(rest)))
+    Some(up_to_line_end(after_spaces(rest)))
 }
 
 /// The digits of an id at the front of the text, and what follows them.

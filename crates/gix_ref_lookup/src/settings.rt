@@ -75,11 +75,11 @@ impl Settings<'_> {
     }
 
     /// Whether `packed-refs` is asked for a name as it is. Where this is false, the record may still have the same name.
-    pub fn is_own_key(self, name: FullNameRef<'_>) -> bool
+    pub fn key_is_name(self, name: FullNameRef<'_>) -> bool
         ensures { OnTrue result ((meaning_in self.entry).key (full_ref_bytes name.entry)
             ≡ Some (full_ref_bytes name.entry)) }
     {
-        layout_in(self.dirs, self.namespace).is_own_key(name)
+        layout_in(self.dirs, self.namespace).key_is_name(name)
     }
 
     /// The key of a name, as a name; `None` where it has none, or one that is no full name. The error reports that there was

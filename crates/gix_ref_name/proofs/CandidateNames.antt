@@ -10,7 +10,7 @@ use Rattle.gix_ref_name.specs.declared.name.error.Error.TheVariants.{SomeLowerca
 use Rattle.gix_ref_hash.specs.Bytes.{is_slash}
 use Rattle.gix_ref_hash.proofs.ByteLemmas.{no_byte}
 use Rattle.gix_ref_name.specs.NameGrammar.{is_pseudo_byte, first_reported, reported_if, full_rule, full_error, partial_error, IsPartialName, IsFullName}
-use Rattle.gix_ref_name.specs.Candidates.{is_rooted, is_pseudo, fronts_of}
+use Rattle.gix_ref_name.specs.Candidates.{is_full_ref_path, is_pseudo, lookup_prefixes}
 use Rattle.gix_ref_name.proofs.PartialNames.{IsPath, IsComponent, rules_of, first_component, last_component, behind_component}
 use Rattle.gix_ref_name.proofs.Expanding.{refs_component}
 
@@ -114,7 +114,7 @@ begins_slash f p slash begins =
     let whole : p ≡ f ++ rest = (starts_is Decides-eqb p f (starts_with nat_eq p f) refl).0 begins in
     ap (list_any is_slash) whole ∙ slash rest
 
-rooted_slash : (p : List ℕ) → is_rooted p ≡ true → list_any is_slash p ≡ true
+rooted_slash : (p : List ℕ) → is_full_ref_path p ≡ true → list_any is_slash p ≡ true
 rooted_slash p rooted = go (starts_with nat_eq p (codes "refs/")) (starts_with nat_eq p (codes "main-worktree/")) (starts_with nat_eq p (codes "worktrees/")) refl refl refl rooted
   where
     go : (a b c : Bool) → starts_with nat_eq p (codes "refs/") ≡ a → starts_with nat_eq p (codes "main-worktree/") ≡ b → starts_with nat_eq p (codes "worktrees/") ≡ c → ((a || b) || c) ≡ true → list_any is_slash p ≡ true
@@ -123,18 +123,18 @@ rooted_slash p rooted = go (starts_with nat_eq p (codes "refs/")) (starts_with n
     go false false true e f g h = begins_slash (codes "worktrees/") p (λ r. refl) g
     go false false false e f g h = absurd (cc)
 
-all_fronts : (p : List ℕ) → IsPartialName p → All (NamedBehind p) (fronts_of p)
-all_fronts p valid = go (is_pseudo p) (is_rooted p) refl refl
+all_fronts : (p : List ℕ) → IsPartialName p → All (NamedBehind p) (lookup_prefixes p)
+all_fronts p valid = go (is_pseudo p) (is_full_ref_path p) refl refl
   where
-    go : (q r : Bool) → is_pseudo p ≡ q → is_rooted p ≡ r → All (NamedBehind p) (if q then [] ∷ codes "refs/" ∷ codes "refs/tags/" ∷ codes "refs/heads/" ∷ codes "refs/remotes/" ∷ [] else if r then [] ∷ codes "tags/" ∷ codes "heads/" ∷ codes "remotes/" ∷ [] else codes "refs/" ∷ codes "refs/tags/" ∷ codes "refs/heads/" ∷ codes "refs/remotes/" ∷ [])
+    go : (q r : Bool) → is_pseudo p ≡ q → is_full_ref_path p ≡ r → All (NamedBehind p) (if q then [] ∷ codes "refs/" ∷ codes "refs/tags/" ∷ codes "refs/heads/" ∷ codes "refs/remotes/" ∷ [] else if r then [] ∷ codes "tags/" ∷ codes "heads/" ∷ codes "remotes/" ∷ [] else codes "refs/" ∷ codes "refs/tags/" ∷ codes "refs/heads/" ∷ codes "refs/remotes/" ∷ [])
     go true r pseudo rooted =
         All-cons (NamedBehind p) [] (codes "refs/" ∷ codes "refs/tags/" ∷ codes "refs/heads/" ∷ codes "refs/remotes/" ∷ []) (record { partial = valid; full = full_without p valid pseudo }) (refs_fronts p valid)
     go false true pseudo rooted = rooted_fronts p valid (full_with_slash p valid (rooted_slash p rooted))
     go false false pseudo rooted = refs_fronts p valid
 
 -- each candidate is a full name
-pub named_behind : (p front : List ℕ) → IsPartialName p → Contains (fronts_of p) front → IsName (front ++ p)
-named_behind p front valid among = All-contains (NamedBehind p) (fronts_of p) front (all_fronts p valid) among
+pub named_behind : (p front : List ℕ) → IsPartialName p → Contains (lookup_prefixes p) front → IsName (front ++ p)
+named_behind p front valid among = All-contains (NamedBehind p) (lookup_prefixes p) front (all_fronts p valid) among
 
 -- ---- a path before a name
 -- the text up to its first slash, and what is behind that
@@ -166,8 +166,8 @@ unfolding partial_error
 head_valid = refl
 
 -- the `HEAD` of a remote is a full name
-pub remote_named : (p front : List ℕ) → IsPartialName p → front ≡ (if is_rooted (p ++ codes "/HEAD") then codes "remotes/" else codes "refs/remotes/") → IsName (front ++ (p ++ codes "/HEAD"))
-remote_named p front valid e = rw e (go (is_rooted (p ++ codes "/HEAD")))
+pub remote_named : (p front : List ℕ) → IsPartialName p → front ≡ (if is_full_ref_path (p ++ codes "/HEAD") then codes "remotes/" else codes "refs/remotes/") → IsName (front ++ (p ++ codes "/HEAD"))
+remote_named p front valid e = rw e (go (is_full_ref_path (p ++ codes "/HEAD")))
   where
     inner : IsPartialName (p ++ codes "/HEAD")
     inner = behind_path (length p) p (codes "HEAD") (omega arith) (rules_of p valid).0 head_valid
@@ -214,7 +214,7 @@ or_move false false true false false z = refl
 or_move false false false x y z = refl
 
 -- the test of a name with a path behind it
-pub rooted-behind : (p n : List ℕ) → is_rooted (p ++ 47 ∷ n) ≡ (is_rooted p || ((pointwise nat_eq p (codes "refs") || pointwise nat_eq p (codes "main-worktree")) || pointwise nat_eq p (codes "worktrees")))
+pub rooted-behind : (p n : List ℕ) → is_full_ref_path (p ++ 47 ∷ n) ≡ (is_full_ref_path p || ((pointwise nat_eq p (codes "refs") || pointwise nat_eq p (codes "main-worktree")) || pointwise nat_eq p (codes "worktrees")))
 rooted-behind p n =
     ap (λ v. (v || starts_with nat_eq (p ++ 47 ∷ n) (codes "main-worktree/")) || starts_with nat_eq (p ++ 47 ∷ n) (codes "worktrees/")) (starts-behind (codes "refs") p n refl)
     ∙ ap (λ v. ((starts_with nat_eq p (codes "refs/") || pointwise nat_eq p (codes "refs")) || v) || starts_with nat_eq (p ++ 47 ∷ n) (codes "worktrees/")) (starts-behind (codes "main-worktree") p n refl)
@@ -232,13 +232,13 @@ or_true : (a : Bool) → (a || true) ≡ true
 or_true true = refl
 or_true false = refl
 
-pub front_rooted : (p : List ℕ) → is_rooted p ≡ true → codes "remotes/" ≡ front_if (is_rooted (p ++ codes "/HEAD"))
+pub front_rooted : (p : List ℕ) → is_full_ref_path p ≡ true → codes "remotes/" ≡ front_if (is_full_ref_path (p ++ codes "/HEAD"))
 front_rooted p rooted = sym (ap front_if (rooted-behind p (codes "HEAD") ∙ ap (λ v. v || is_root p) rooted))
 
-pub front_root : (p : List ℕ) → is_root p ≡ true → codes "remotes/" ≡ front_if (is_rooted (p ++ codes "/HEAD"))
+pub front_root : (p : List ℕ) → is_root p ≡ true → codes "remotes/" ≡ front_if (is_full_ref_path (p ++ codes "/HEAD"))
 front_root p root =
-    sym (ap front_if (rooted-behind p (codes "HEAD") ∙ ap (λ v. is_rooted p || v) root ∙ or_true (is_rooted p)))
+    sym (ap front_if (rooted-behind p (codes "HEAD") ∙ ap (λ v. is_full_ref_path p || v) root ∙ or_true (is_full_ref_path p)))
 
-pub front_other : (p : List ℕ) → is_rooted p ≡ false → is_root p ≡ false → codes "refs/remotes/" ≡ front_if (is_rooted (p ++ codes "/HEAD"))
+pub front_other : (p : List ℕ) → is_full_ref_path p ≡ false → is_root p ≡ false → codes "refs/remotes/" ≡ front_if (is_full_ref_path (p ++ codes "/HEAD"))
 front_other p rooted root =
     sym (ap front_if (rooted-behind p (codes "HEAD") ∙ ap (λ v. v || is_root p) rooted ∙ root))

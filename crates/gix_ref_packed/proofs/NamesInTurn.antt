@@ -20,12 +20,12 @@ use Rattle.gix_ref_packed_text.specs.Views.{record_of}
 use Rattle.gix_ref_packed.specs.AskedNames.{key_alone, four_names, asked_keys, or_else, first_named}
 use Rattle.gix_ref_packed.specs.Searches.{Finds, FindsOne, FindsPartial}
 use Rattle.gix_ref_packed_text.proofs.RecordPlaces.{forms_of}
-use Rattle.gix_ref_name.specs.Candidates.{is_rooted}
+use Rattle.gix_ref_name.specs.Candidates.{is_full_ref_path}
 
-pub asks_four : (p : List ℕ) → is_rooted p ≡ false → asked_keys p ≡ four_names p
+pub asks_four : (p : List ℕ) → is_full_ref_path p ≡ false → asked_keys p ≡ four_names p
 asks_four p partial = ap (λ b. cond b (key_alone (key_outside p)) (four_names p)) partial
 
-pub asks_key : (p : List ℕ) (key : Option (List ℕ)) → is_rooted p ≡ true → key ≡ key_outside p → asked_keys p ≡ key_alone key
+pub asks_key : (p : List ℕ) (key : Option (List ℕ)) → is_full_ref_path p ≡ true → key ≡ key_outside p → asked_keys p ≡ key_alone key
 asks_key p key rooted is = ap (λ b. cond b (key_alone (key_outside p)) (four_names p)) rooted ∙ ap key_alone (sym is)
 
 -- an error that is this one
@@ -74,7 +74,7 @@ module _ (k : Kind) (t p : List ℕ) (pre post : List (List ℕ)) (n : List ℕ)
     forms = λ rs h up. (n, subst (λ (names : List (List ℕ)). Contains names n) (sym wanted) has, finds.forms rs h up);
   }
 
-  pub fails_for : (e : Error) → is_rooted p ≡ false → FindsOne k t n (Err e) → FindsPartial k t p (Err e)
+  pub fails_for : (e : Error) → is_full_ref_path p ≡ false → FindsOne k t n (Err e) → FindsPartial k t p (Err e)
   fails_for Parse partial finds = failed_for finds.0 finds.1
   fails_for Memory partial finds = record { hit = tt; none = tt; refused = partial; records = λ rs h up. refl; forms = λ rs h up. tt }
   fails_for (RefnameValidation x) partial finds = absurd finds
@@ -93,7 +93,7 @@ pub last_for : (k : Kind) (t p : List ℕ) (pre : List (List ℕ)) (n : List ℕ
 last_for k t p pre n wanted before has (Some r) finds = found_for k t p pre [] n wanted before has (Some r) r refl finds
 last_for k t p pre n wanted before has None finds = none_left k t p (pre ++ n ∷ []) wanted (add_last k t pre n before (missed k t n None refl finds)) (λ some. finds.none)
 
-pub last_answer : (k : Kind) (t p : List ℕ) (pre : List (List ℕ)) (n : List ℕ) → asked_keys p ≡ pre ++ n ∷ [] → MissesAll k t pre → Contains (pre ++ n ∷ []) n → is_rooted p ≡ false → (r : Result (Option Reference) Error) → FindsOne k t n r → FindsPartial k t p r
+pub last_answer : (k : Kind) (t p : List ℕ) (pre : List (List ℕ)) (n : List ℕ) → asked_keys p ≡ pre ++ n ∷ [] → MissesAll k t pre → Contains (pre ++ n ∷ []) n → is_full_ref_path p ≡ false → (r : Result (Option Reference) Error) → FindsOne k t n r → FindsPartial k t p r
 last_answer k t p pre n wanted before has partial (Ok o) finds = last_for k t p pre n wanted before has o finds
 last_answer k t p pre n wanted before has partial (Err e) finds = fails_for k t p pre [] n wanted before has e partial finds
 
@@ -104,7 +104,7 @@ or_true false y h = inr h
 begins : (p front : List ℕ) → starts_with nat_eq p front ≡ true → p ≡ front ++ drop (length front) p
 begins p front h = (starts_is Decides-eqb p front (starts_with nat_eq p front) refl).0 h
 
-has_slash : (p : List ℕ) → is_rooted p ≡ true → list_any is_slash p ≡ true
+has_slash : (p : List ℕ) → is_full_ref_path p ≡ true → list_any is_slash p ≡ true
 has_slash p rooted = ⊎_elim
     (λ (first : (starts_with nat_eq p (codes "refs/") || starts_with nat_eq p (codes "main-worktree/")) ≡ true).
     ⊎_elim (λ (h : starts_with nat_eq p (codes "refs/") ≡ true). ap (list_any is_slash) (begins p (codes "refs/") h))
@@ -113,7 +113,7 @@ has_slash p rooted = ⊎_elim
     (or_true _ _ rooted)
 
 -- a partial name with a slash is a full one
-pub rooted_is_full : (p : List ℕ) → IsPartialName p → is_rooted p ≡ true → IsFullName p
+pub rooted_is_full : (p : List ℕ) → IsPartialName p → is_full_ref_path p ≡ true → IsFullName p
 unfolding full_error
 rooted_is_full p valid rooted =
     ap (λ o. first_reported (o ∷ full_rule p ∷ [])) valid

@@ -3,7 +3,7 @@
 use Rattle.std.specs.Prelude.{ℕ, List, [], ◌∷◌, ◌++◌, Option, Some, None, if◌then◌else◌, codes}
 use Rattle.gix_ref_target.specs.Locations.{key_outside}
 use Rattle.gix_ref_target.specs.PackedRecords.{Record, record_named}
-use Rattle.gix_ref_name.specs.Candidates.{is_rooted}
+use Rattle.gix_ref_name.specs.Candidates.{is_full_ref_path}
 
 -- the key alone, if there is one
 abbrev pub key_alone : Option (List ℕ) → List (List ℕ)
@@ -18,7 +18,7 @@ four_names p =
 
 -- the full names that a partial name asks for, in this order
 abbrev pub asked_keys : List ℕ → List (List ℕ)
-asked_keys p = if is_rooted p then key_alone (key_outside p) else four_names p
+asked_keys p = if is_full_ref_path p then key_alone (key_outside p) else four_names p
 
 -- one, or else another
 abbrev pub or_else : Option Record → Option Record → Option Record

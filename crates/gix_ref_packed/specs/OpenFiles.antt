@@ -76,7 +76,8 @@ FailsFindByRead faults Parse = Unit {0}
 
 -- the count of the files' faults before and after a file was refused: one more, for `Io` alone, or a read of the opened file
 -- failed, and the files count none
-abbrev pub CountsRefusal : {R : Type 0} → (R → FaultCounts) → FaultCounts → FaultCounts → Error → Type 0
+abbrev pub CountsRefusal : {R : Type 0} → (R → FaultCounts) → FaultCounts → FaultCounts → Error →
+    Type 0
 CountsRefusal faults before now (Io error) = (now ≡ count_with error before)
     ⊎ ((now ≡ before) × HasReadFault faults error)
 CountsRefusal faults before now HeaderParsing = now ≡ before

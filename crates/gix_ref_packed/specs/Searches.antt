@@ -14,7 +14,7 @@ use Rattle.gix_ref_packed_text.specs.RecordGrammar.{Records, Forms, Ascending}
 use Rattle.gix_ref_packed_text.specs.Positions.{RecordBeginsLine, IsNotMalformed, CannotRead, IsUnreadable}
 use Rattle.gix_ref_packed_text.specs.Views.{record_of}
 use Rattle.gix_ref_packed.specs.AskedNames.{asked_keys, first_named}
-use Rattle.gix_ref_name.specs.Candidates.{is_rooted}
+use Rattle.gix_ref_name.specs.Candidates.{is_full_ref_path}
 
 -- What a search for one full name returns.
 pub record Finds {E : Type 0} (kind : Kind) (text name : List ℕ)
@@ -50,7 +50,7 @@ pub record HitsPartial (kind : Kind) (text p : List ℕ) (r : Record) : Type 0 w
 -- cannot be read, or, where names are to be made, there was no memory
 abbrev pub PartialFails : Kind → List ℕ → List ℕ → Error → Type 0
 PartialFails kind text p Parse = (n : List ℕ) × Contains (asked_keys p) n × CannotRead kind text n
-PartialFails kind text p Memory = is_rooted p ≡ false
+PartialFails kind text p Memory = is_full_ref_path p ≡ false
 PartialFails kind text p (RefnameValidation error) = ⊥
 
 -- why it fails where each line has its form

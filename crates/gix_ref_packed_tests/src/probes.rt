@@ -5,7 +5,7 @@ use crate::made::{NAMES, TEXT, buffer, full, sorted};
 use gix_ref_hash::hash::Kind;
 use gix_ref_name::name::FullNameRef;
 use gix_ref_packed::packed::search::search;
-use gix_ref_packed::packed::searchable::{InMemory, Look, Probe, SearchableRecords};
+use gix_ref_packed::packed::searchable::{InMemory, Probe, ProbeMode, SearchableRecords};
 use gix_ref_packed::packed::{Buffer, Probes};
 use std::convert::Infallible;
 use std::marker::Brand;
@@ -45,7 +45,7 @@ impl<'a> SearchableRecords for Counting<'a> {
         kind: Kind,
         offset: u64,
         wanted: &[u8],
-        look: Look,
+        look: ProbeMode,
     ) -> Result<Probe, Infallible> {
         self.looks = self.looks.saturating_add(1);
         self.whole.probe(kind, offset, wanted, look)

@@ -22,7 +22,8 @@ pub fn write_text<F: Files>(files: &mut F, lock: &LockFile, text: &[u8]) -> Resu
     ensures passes { F.honest → OnEveryDisk F.means files.old files.new
         (λ D. FillingOn D (lock_of lock.now)) }
     ensures no_fewer { NoFewer (F.faults files.old) (F.faults files.new) }
-    ensures counted { IfErr result (λ error. IsMet error (F.faults files.old) (F.faults files.new)) }
+    ensures counted { IfErr result
+        (λ error. IsMet error (F.faults files.old) (F.faults files.new)) }
     ensures memory { IfErr result (λ error. error ≡ FileError.Memory → ⊥) }
 {
     lock.write(files, text)?;

@@ -54,8 +54,9 @@ abbrev pub next_text : Option (Result Reference Error) → List ℕ
 next_text None = []
 next_text (Some item) = item_text item
 
--- The next that an iterator gives is printed behind a text, and `fault` is whether it is a fault.
-pub record PrintsNext {F : Type 0} (honest : Type 0) (means : F → Meaning) (faults : F → FaultCounts)
+-- The next that an iterator gives is printed after a text, and `fault` is whether it is a fault.
+pub record PrintsNext {F : Type 0} (honest : Type 0) (means : F → Meaning)
+    (faults : F → FaultCounts)
     (old new : LooseThenPacked F Remaining) (out now : Option (List ℕ)) (text : List ℕ)
     (fault : Option Bool) : Type 0 where
   pub item : Option (Result Reference Error)

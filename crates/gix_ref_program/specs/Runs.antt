@@ -238,7 +238,8 @@ module _ {F : Type 0} where
     ListRan G old new prefix ran = ⊥
 
     -- what is printed of commands that write
-    abbrev pub WriteRan : (read : FileError → Type 0) → (old new : Store F) → Terms → List Asked → Ran → Type 0
+    abbrev pub WriteRan : (read : FileError → Type 0) → (old new : Store F) → Terms → List Asked →
+        Ran → Type 0
     WriteRan read old new terms asked (Said outcome) =
         WriteComes honest read means faults terms asked old new outcome
     WriteRan read old new terms asked ran = ⊥

@@ -68,7 +68,7 @@ module _ {F : Type 0} (honest : Type 0) (means : F → Meaning) (faults : F → 
       × (HasGoodRecords means old → IsOldOrNew (meaning_of old) (mode_in uses) b.prepared.split
       (extras_due means b.mid committer b.held) (tree_of means old) T))
 
-  -- A loss of power in an update: before its commit each file that was settled is as before, but for the locks of the edits; in it
+  -- A loss of power in an update: before its commit each file that was settled is as before, except for the locks of the edits; in it
   -- each reference reads as before or as edited. The commit begins on a disk of which all is settled but locks.
   abbrev pub IsLossOf : Store F → Option SignatureRef → List RefEdit → Tree → Type 0
   IsLossOf old committer edits T =
@@ -105,9 +105,10 @@ module _ {F : Type 0} (honest : Type 0) (means : F → Meaning) (faults : F → 
         begun.held left
     pub named : HasRisenBy (length left) (faults (files_of old)) (faults (files_of new))
 
-  -- Why an update was not made, and the locks that stay: it was refused by the first cause against it, and all is as before but for
+  -- Why an update was not made, and the locks that stay: it was refused by the first cause against it, and all is as before except for
   -- these locks; or its commit failed.
-  abbrev pub IsUpdateError : (read : FileError → Type 0) → (old new : Store F) → Option SignatureRef →
+  abbrev pub IsUpdateError : (read : FileError → Type 0) → (old new : Store F) →
+      Option SignatureRef →
       List RefEdit → UpdateError → (left : List Path) → Type 0
   IsUpdateError read old new committer edits (Prepare error) left =
       RefusesGiven honest read means faults

@@ -40,7 +40,7 @@ pub enum Refusal {
     /// There is no such reference.
     #[error("there is no such reference")]
     NotFound,
-    /// A growth of memory was refused.
+    /// An allocation was refused.
     #[error("there was no memory")]
     Memory,
 }

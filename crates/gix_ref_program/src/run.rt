@@ -343,10 +343,12 @@ fn run_script<F: Files, W: Write>(
         result.files (line_asked line.now) path.now) (W.contents out.old) (W.contents out.new)
         result.status }
     ensures leaves { F.honest → Leaves (F.means files) (F.means result.files)
-        (IsStopInScript F.honest F.means F.faults packed_refs files (line_asked line.now) path.now) }
+        (IsStopInScript F.honest F.means F.faults packed_refs files
+        (line_asked line.now) path.now) }
     ensures loses { F.honest → IsReadyFor F.honest F.means F.faults files (line_asked line.now) →
         Loses (F.means files) (F.means result.files)
-        (IsLossInScript F.honest F.means F.faults packed_refs files (line_asked line.now) path.now) }
+        (IsLossInScript F.honest F.means F.faults packed_refs files
+        (line_asked line.now) path.now) }
 {
     let mut files = files;
     match read_script(alloc, &mut files, path) {
@@ -433,7 +435,7 @@ fn lent_words(alloc: Global, words: &[String]) -> Result<Vec<&[u8]>, AllocError>
 /// the writer failed, or where there was no memory for the text. (`git update-ref`, `git update-ref --stdin`, `git symbolic-ref`,
 /// `git show-ref`, `git for-each-ref`, `git reflog show`)
 ///
-/// The words are those behind the name of the program. With a SIGNATURE updates write log lines, with the TEXT as their
+/// The words are those after the name of the program. With a SIGNATURE updates write log lines, with the TEXT as their
 /// message; without one there are none. Costs what `update` does, one call of files for a reference that
 /// is shown. A listing of a prefix reads the folders and files that its names may be in, and of a sorted `packed-refs` the
 /// records of the prefix. A listing and a reflog are written in blocks. The file of a script is read once, before its first

@@ -88,7 +88,7 @@ pub struct Line<'w> {
 #[derive(Drop)]
 struct WrongWords;
 
-/// The words behind the first, if that is this one.
+/// The words after the first, if that is this one.
 fn strip_word<'a, 'w>(words: &'a [&'w [u8]], word: &[u8]) -> Option<&'a [&'w [u8]]>
     ensures { MatchOption result (first_is (texts words.now) word.now ≡ false)
         (λ rest. texts words.now ≡ word.now ∷ texts rest.now) }
@@ -116,7 +116,7 @@ fn old_of(words: &[&[u8]]) -> Result<Option<ObjectId>, WrongWords>
     }
 }
 
-/// `[--deref]`, and the words behind it.
+/// `[--deref]`, and the words after it.
 fn deref_of<'a, 'w>(words: &'a [&'w [u8]]) -> (bool, &'a [&'w [u8]])
     ensures words { texts words.now ≡ deref_words result.0 ++ texts result.1.now }
     ensures option { result.0 ≡ false → first_is (texts words.now) (codes "--deref") ≡ false }
@@ -127,7 +127,7 @@ fn deref_of<'a, 'w>(words: &'a [&'w [u8]]) -> (bool, &'a [&'w [u8]])
     }
 }
 
-/// `NAME ID [OLD]` behind `[--deref]`, where NAME is not that option.
+/// `NAME ID [OLD]` after `[--deref]`, where NAME is not that option.
 fn update_of<'w>(deref: bool, words: &[&'w [u8]]) -> Option<Command<'w>>
     ensures { MatchOption result ((name : List ℕ) (id : ObjectId) (old : Option ObjectId) →
         IsUpdate (texts words.now) name id old → ⊥) (λ command. IsCommand
@@ -149,7 +149,7 @@ fn update_of<'w>(deref: bool, words: &[&'w [u8]]) -> Option<Command<'w>>
     })
 }
 
-/// `NAME [OLD]` behind `[--deref]`, where NAME is not that option.
+/// `NAME [OLD]` after `[--deref]`, where NAME is not that option.
 fn deletion_of<'w>(deref: bool, words: &[&'w [u8]]) -> Option<Command<'w>>
     ensures { MatchOption result ((name : List ℕ) (old : Option ObjectId) →
         IsDeletion (texts words.now) name old → ⊥) (λ command. IsCommand
@@ -239,7 +239,7 @@ pub(crate) fn command_of<'w>(words: &[&'w [u8]]) -> Option<Command<'w>>
     })
 }
 
-/// `[OPTION VALUE]`: the value, if the option comes first, and the words behind it; `None` for an option alone.
+/// `[OPTION VALUE]`: the value, if the option comes first, and the words after it; `None` for an option alone.
 fn value_of<'a, 'w>(
     words: &'a [&'w [u8]],
     option: &[u8],
@@ -269,7 +269,7 @@ fn committer_of(signature: Option<&[u8]>) -> Result<Option<SignatureRef<'_>>, Wr
     }
 }
 
-/// The kind of ids, and the words behind the option for it.
+/// The kind of ids, and the words after the option for it.
 fn kind_of<'a, 'w>(words: &'a [&'w [u8]]) -> (Kind, &'a [&'w [u8]])
     ensures words { texts words.now ≡ kind_words result.0 ++ texts result.1.now }
     ensures option { result.0 ≡ Kind.Sha1 → first_is (texts words.now) (codes "--sha256") ≡ false }

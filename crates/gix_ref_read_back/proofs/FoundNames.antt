@@ -2,7 +2,7 @@
 use Rattle.std.proofs.Common.{◌≡◌, ◌⊎◌, ◌||◌, inl, inr, ℕ, Bool, true, false, List, [], ◌∷◌, ◌++◌, drop, map, refl, sym, ◌∙◌, ap, subst, Option, Some, None, Result, Ok, Err, cond, if◌then◌else◌, codes}
 use Rattle.gix_ref_files.specs.declared.files.FileError.{FileError}
 use Rattle.std.specs.Option.{option_map}
-use Rattle.gix_ref_name.specs.Candidates.{candidates, is_pseudo, is_rooted, remote_head}
+use Rattle.gix_ref_name.specs.Candidates.{candidates, is_pseudo, is_full_ref_path, remote_head}
 use Rattle.gix_ref_name.specs.declared.name.PartialName.{PartialName}
 use Rattle.gix_ref_target.specs.PackedRecords.{Record}
 use Rattle.gix_ref_target.specs.Targets.{TargetValue, target_value}
@@ -45,8 +45,8 @@ itself_first name false true h = refl
 itself_first name false false h = absurd (cc)
 
 -- the name itself comes first
-asked_first : (name : List ℕ) → (is_pseudo name || is_rooted name) ≡ true → candidates name ≡ name ∷ further name
-asked_first name = itself_first name (is_pseudo name) (is_rooted name)
+asked_first : (name : List ℕ) → (is_pseudo name || is_full_ref_path name) ≡ true → candidates name ≡ name ∷ further name
+asked_first name = itself_first name (is_pseudo name) (is_full_ref_path name)
 
 same_target : (a b : TargetValue) → Is a ≡ Is b → b ≡ a
 same_target a b is = cc
@@ -172,7 +172,7 @@ module _ {R : Type 0} (G : Ghosts R) (honest : Type 0) (h : honest) (settings : 
   or_later (PackedRef error) = tt
   or_later (RefnameValidation error) = tt
 
-  pub fails_as : (composes : Bool) → (is_pseudo name || is_rooted name) ≡ true → name_asked composes name ≡ name → (reads : Reading) → reading_among places (view_of T) records name ≡ reads → (e : FindError) → IsSound e →
+  pub fails_as : (composes : Bool) → (is_pseudo name || is_full_ref_path name) ≡ true → name_asked composes name ≡ name → (reads : Reading) → reading_among places (view_of T) records name ≡ reads → (e : FindError) → IsSound e →
       (e ≡ Memory) ⊎ FailsAmong {G = G} honest settings T Unopened before now (asked_names (name_asked composes name)) e → FailsAs failed reads e
   fails_as composes first composed Fault is e sound fails = or_none e
   fails_as composes first composed Absent is e sound fails = or_later e

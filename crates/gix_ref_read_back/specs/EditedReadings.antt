@@ -1,7 +1,7 @@
 -- What a reference reads after edits, and what a lookup of its full name finds then.
 use Rattle.std.specs.Prelude.{◌≡◌, ◌||◌, ℕ, List, Bool, true, drop, Option, Some, None, Result, Ok, Err}
 use Rattle.gix_ref_files.specs.declared.files.FileError.{FileError}
-use Rattle.gix_ref_name.specs.Candidates.{candidates, is_pseudo, is_rooted, remote_head}
+use Rattle.gix_ref_name.specs.Candidates.{candidates, is_pseudo, is_full_ref_path, remote_head}
 use Rattle.gix_ref_name.specs.Names.{full_bytes}
 use Rattle.gix_ref_target.specs.Targets.{target_value}
 use Rattle.gix_ref_packed_text.specs.declared.raw.Reference.{Reference}
@@ -26,7 +26,7 @@ reading_after s view edits name = edited_reading s edits name (reading s view na
 -- and underscores; it may be that of a reference; and it is not composed to another name.
 pub record IsAskedFirst (s : Store) (composes : Bool) (name : List ℕ) : Type 0 where
   pub reference : s.is_reference name ≡ true
-  pub first : (is_pseudo name || is_rooted name) ≡ true
+  pub first : (is_pseudo name || is_full_ref_path name) ≡ true
   pub composed : name_asked composes name ≡ name
 
 -- what it may be short for beside itself

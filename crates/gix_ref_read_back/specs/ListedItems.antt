@@ -39,8 +39,8 @@ module _ {F : Type 0} (honest : Type 0) (means : F → Meaning) (faults : F → 
 
   -- These are the items of the listing of a prefix in a store, all of them, while the count of faults went from `before` to `now`.
   -- A folder that could not be listed is among them only with a fault that was counted.
-  pub record AreItemsIn (store : Store F) (before now : FaultCounts) (records : List Record) (prefix : List ℕ)
-      (items : List (Result Reference Error)) : Type 0 where
+  pub record AreItemsIn (store : Store F) (before now : FaultCounts) (records : List Record)
+      (prefix : List ℕ) (items : List (Result Reference Error)) : Type 0 where
     pub listed : List Listed
     pub is : IsListing (settings_of store) (view_in means store) records prefix listed
     pub names : AllByRecursion (IsNameOrMet before now) listed

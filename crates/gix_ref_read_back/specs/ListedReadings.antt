@@ -40,7 +40,8 @@ pub record IsListable (s : Store) (prefix name : List ℕ) : Type 0 where
 -- Why the reference of this name is not given, while the count of faults went from `before` to `now`: its file holds no target, and
 -- so it reads a fault; the file could not be read, by this fault, which was counted; its place has the name of a device, and the store
 -- prohibits these; or there was no memory.
-abbrev pub IsReadingFault : Store → (before now : FaultCounts) → (name : List ℕ) → Reading → Error → Type 0
+abbrev pub IsReadingFault : Store → (before now : FaultCounts) → (name : List ℕ) → Reading →
+    Error → Type 0
 IsReadingFault s before now name reading (ReferenceCreation source path) = (reading ≡ Fault)
     × (path.items ≡ name)
 IsReadingFault s before now name reading (ReadFileContents (file_error source) path) =
@@ -76,8 +77,8 @@ IsNoFolder other = Unit {0}
 
 -- The items of a listing of the names with this prefix, while the count of faults went from `before` to `now`: by ascending names,
 -- each name that reads something, and no other, with the target that it reads.
-pub record ListsReadings (s : Store) (reads : List ℕ → Reading) (before now : FaultCounts) (prefix : List ℕ)
-    (items : List (Result Reference Error)) : Type 0 where
+pub record ListsReadings (s : Store) (reads : List ℕ → Reading) (before now : FaultCounts)
+    (prefix : List ℕ) (items : List (Result Reference Error)) : Type 0 where
   pub listed : List Listed
   pub ascending : Rises listed
   pub all : (name : List ℕ) → IsListable s prefix name → is_there (reads name) ≡ true →

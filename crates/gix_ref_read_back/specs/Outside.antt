@@ -60,7 +60,7 @@ pub record IsOutside (f : Layout) (Excepted : Path → Type 0) (path : Path) : T
   pub not_packed : packed_refs f ≢ path
   pub not_excepted : Excepted path → ⊥
 
--- From the tree `before` to T all outside of the namespace is as before: each file, but for locks that are excepted, and in
+-- From the tree `before` to T all outside of the namespace is as before: each file, except for locks that are excepted, and in
 -- `packed-refs` the record of each key.
 pub record OutsideIsAsBefore (f : Layout) (s : Store) (Excepted : Path → Type 0)
     (before T : Tree) : Type 0 where
@@ -99,7 +99,7 @@ abbrev pub DeletionsPutNothing : Type 0
 DeletionsPutNothing = (s : Store) (kind : Kind) (edits : List Edit) →
     AllPutReadable s DeletionsOnly kind edits
 
--- Where each reference is as before or as edited, as at a stop inside a commit, all outside of the namespace is as before, but for
+-- Where each reference is as before or as edited, as at a stop inside a commit, all outside of the namespace is as before, except for
 -- the locks of the transaction. In each mode, where the records that are put can be read again.
 abbrev pub EveryStopLeavesTheOutside : Type 0
 EveryStopLeavesTheOutside =
@@ -111,7 +111,7 @@ EveryStopLeavesTheOutside =
     OutsideIsAsBefore f (store_of f (git_options k prohibits))
     (IsOneOf (own_locks (store_of f (git_options k prohibits)) mode before edits)) before T
 
--- And so after a loss of power inside a commit that began on a settled disk D, but for locks.
+-- And so after a loss of power inside a commit that began on a settled disk D, except for locks.
 abbrev pub EveryLossLeavesTheOutside : Type 0
 EveryLossLeavesTheOutside =
     (f : Layout) (k : Kind) (prohibits : Bool) (mode : Mode) (edits : List RefEdit)
@@ -129,7 +129,7 @@ abbrev pub OwnLocksAreLocks : Type 0
 OwnLocksAreLocks = (s : Store) (mode : Mode) (T : Tree) (edits : List RefEdit) (q : Path) →
     is_in (own_locks s mode T edits) q ≡ true → IsLock q
 
--- and what is as before but for these locks is so but for all locks
+-- and what is as before except for these locks is so except for all locks
 abbrev pub TheseLocksAreLocks : Type 0
 TheseLocksAreLocks =
     (f : Layout) (s : Store) (locks : List Path) (before T : Tree) →

@@ -51,17 +51,17 @@ module _ {F : Type 0} (honest : Type 0) (means : F → Meaning) (faults : F → 
   reads_after old edits name = reading_after (meaning_of old) (view_in means old)
       (planned edits) name
 
-  -- outside of the namespace of the store `old` all is in T as it was, but for the locks that are excepted
+  -- outside of the namespace of the store `old` all is in T as it was, except for the locks that are excepted
   abbrev pub IsSameOutside : Store F → (Excepted : Path → Type 0) → Tree → Type 0
   IsSameOutside old Excepted T = OutsideIsAsBefore (folders old) (meaning_of old) Excepted
       (tree_of means old) T
 
-  -- and so at every stop between `old` and `new`, but for the locks of a transaction of these edits
+  -- and so at every stop between `old` and `new`, except for the locks of a transaction of these edits
   abbrev pub StopsOutside : Mode → (old new : Store F) → List RefEdit → Type 0
   StopsOutside mode old new edits = Leaves (means (files_of old)) (means (files_of new))
       (IsSameOutside old (IsOneOf (locks_in means mode old edits)))
 
-  -- and after every loss of power meanwhile, but for locks
+  -- and after every loss of power meanwhile, except for locks
   abbrev pub LossesOutside : (old new : Store F) → Type 0
   LossesOutside old new = Loses (means (files_of old)) (means (files_of new))
       (IsSameOutside old IsLock)
@@ -79,7 +79,7 @@ module _ {F : Type 0} (honest : Type 0) (means : F → Meaning) (faults : F → 
         (meaning_of old).is_reference name ≡ true →
         reading (meaning_of old) (view_in means new) name ≡ reads_after old split name
     pub named : (q : Path) → is_in left q ≡ true → IsLock q
-    -- outside of the namespace all is as it was but for the locks that stay, and meanwhile but for those of the edits
+    -- outside of the namespace all is as it was except for the locks that stay, and meanwhile except for those of the edits
     pub outside : honest → HasGoodRecords means old →
         IsSameOutside old (IsOneOf left) (tree_of means new)
     pub stops : honest → HasGoodRecords means old → StopsOutside mode old new split
@@ -222,7 +222,7 @@ module _ {F T : Type 0} (honest : Type 0) (means : F → Meaning) (faults : F �
     pub stops : EveryStopFrom honest means faults mid new committer packed held left
     pub lost : EveryLossFrom honest means faults mid new committer packed held
     pub folders : KeepsFolders honest means faults mid new committer packed held
-    -- outside of the namespace all is as it was, but for locks, at every stop and after every loss of power
+    -- outside of the namespace all is as it was, except for locks, at every stop and after every loss of power
     pub outside : honest → HasGoodRecords means old →
         StopsOutside honest means faults (mode_in uses) old new prepared.split
     pub losses : honest → HasGoodRecords means old → IsAtRest means old →
@@ -233,7 +233,8 @@ module _ {F T : Type 0} (honest : Type 0) (means : F → Meaning) (faults : F �
       List RefEdit → Error T → Type 0
   IsNotMade read old new committer given (Prepare refused) =
       RefusesGiven honest read means faults (OfFinder claims uses)
-      (ends_of meaning uses) (mode_in uses) old new given refused.error (paths_of refused.locks_left.items)
+      (ends_of meaning uses) (mode_in uses) old new given refused.error
+      (paths_of refused.locks_left.items)
       × (refused.packed_refs ≡ uses)
   IsNotMade read old new committer given (Commit failed) =
       HasFailed old new committer given failed.error (paths_of failed.locks_left.items)

@@ -38,10 +38,12 @@ pub fn commit_then_find<F: Files, T: Find>(
     committer: Option<SignatureRef<'_>>,
     name: PartialNameRef<'_>,
 ) -> Result<Found<T>, Error<T>>
-    ensures found { IfOk result (λ r. FindsAfter F.honest F.means F.faults T.claims T.meaning packed_refs
+    ensures found { IfOk result
+        (λ r. FindsAfter F.honest F.means F.faults T.claims T.meaning packed_refs
         F.Reader.ReadAt store.old store.new committer.entry edits.items
         r.done (partial_ref_bytes name.entry) r.found) }
-    ensures not_made { IfErr result (IsNotMade F.honest F.means F.faults T.claims T.meaning packed_refs
+    ensures not_made { IfErr result
+        (IsNotMade F.honest F.means F.faults T.claims T.meaning packed_refs
         (HasReadFault F.Reader.faults) store.old store.new
         committer.entry edits.items) }
 {

@@ -121,10 +121,12 @@ pub fn commit_then_list<F: Files, T: Find>(
     committer: Option<SignatureRef<'_>>,
     prefix: &[u8],
 ) -> Result<Listed<T>, Error<T>>
-    ensures listed { IfOk result (λ r. ListsAfter F.honest F.means F.faults T.claims T.meaning packed_refs
+    ensures listed { IfOk result
+        (λ r. ListsAfter F.honest F.means F.faults T.claims T.meaning packed_refs
         F.Reader.ReadAt store.old store.new committer.entry edits.items
         r.done prefix.now r.items) }
-    ensures not_made { IfErr result (IsNotMade F.honest F.means F.faults T.claims T.meaning packed_refs
+    ensures not_made { IfErr result
+        (IsNotMade F.honest F.means F.faults T.claims T.meaning packed_refs
         (HasReadFault F.Reader.faults) store.old store.new
         committer.entry edits.items) }
 {

@@ -28,7 +28,8 @@ pub fn make<F: Files, T: Find>(
 ) -> Result<Done<T>, Error<T>>
     ensures made { IfOk result (MakesEdited F.honest F.means F.faults T.claims T.meaning packed_refs
         store.old store.new committer.entry edits.items) }
-    ensures not_made { IfErr result (IsNotMade F.honest F.means F.faults T.claims T.meaning packed_refs
+    ensures not_made { IfErr result
+        (IsNotMade F.honest F.means F.faults T.claims T.meaning packed_refs
         (HasReadFault F.Reader.faults) store.old store.new
         committer.entry edits.items) }
     ensures same { IsSameStore store.old store.new }

@@ -43,10 +43,12 @@ pub fn commit_then_read<F: Files, T: Find>(
     name: PartialNameRef<'_>,
     prefix: &[u8],
 ) -> Result<Read<T>, Error<T>>
-    ensures read { IfOk result (λ r. ReadsAfter F.honest F.means F.faults T.claims T.meaning packed_refs
+    ensures read { IfOk result
+        (λ r. ReadsAfter F.honest F.means F.faults T.claims T.meaning packed_refs
         F.Reader.ReadAt store.old store.new committer.entry edits.items
         r.done (partial_ref_bytes name.entry) prefix.now r.found r.items) }
-    ensures not_made { IfErr result (IsNotMade F.honest F.means F.faults T.claims T.meaning packed_refs
+    ensures not_made { IfErr result
+        (IsNotMade F.honest F.means F.faults T.claims T.meaning packed_refs
         (HasReadFault F.Reader.faults) store.old store.new
         committer.entry edits.items) }
 {

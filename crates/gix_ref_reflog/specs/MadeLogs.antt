@@ -24,8 +24,8 @@ begins_with path components = bytes_eq path components
     || starts_with nat_eq path (components ++ 47 ∷ [])
 
 -- the log of `HEAD`, a branch, a remote branch, a note, or a reference of a worktree
-abbrev pub is_usual : (below : List ℕ) → Bool
-is_usual below =
+abbrev pub is_logged_by_default : (below : List ℕ) → Bool
+is_logged_by_default below =
     bytes_eq below (codes "HEAD")
     || (begins_with below (codes "refs/heads")
     || (begins_with below (codes "refs/remotes")
@@ -34,5 +34,5 @@ is_usual below =
 -- such a log is made, and any other where all are, or where the edit forces it
 abbrev pub makes_log : WriteReflog → (forced : Bool) → (below : List ℕ) → Bool
 makes_log Always forced below = true
-makes_log Normal forced below = forced || is_usual below
+makes_log Normal forced below = forced || is_logged_by_default below
 makes_log Disable forced below = false

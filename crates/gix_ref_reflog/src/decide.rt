@@ -17,7 +17,7 @@ use crate::leaves::leaves_of;
 use crate::line::line_at;
 use crate::logs::DueLogs;
 use crate::place::place_at;
-use crate::rules::{Rules, message_of};
+use crate::rules::{ReflogPolicy, message_of};
 use crate::write_reflog::WriteReflog;
 use gix_ref_edits::transaction::Change;
 use gix_ref_files::files::{Files, Node};
@@ -55,7 +55,7 @@ impl Due {
 fn due_line<F: Files>(
     alloc: Global,
     files: &mut F,
-    rules: Rules<'_>,
+    rules: ReflogPolicy<'_>,
     due: &mut DueLogs,
     edit: &Edit,
     leaf: Option<ObjectId>,
@@ -115,7 +115,7 @@ fn outcome(change: &Change, log: Vec<u8>, line: Option<Vec<u8>>) -> LogEffect
 fn decide_log<F: Files>(
     alloc: Global,
     files: &mut F,
-    rules: Rules<'_>,
+    rules: ReflogPolicy<'_>,
     due: &mut DueLogs,
     leaf: Option<ObjectId>,
     edit: &mut Edit,
@@ -178,7 +178,7 @@ pub fn decide_logs<F: Files>(
     ensures reads { OnlyReads F.honest F.means F.faults files.old files.new }
     ensures counted { IfErr result (IsCountedCause (F.faults files.old) (F.faults files.new)) }
 {
-    let rules = Rules {
+    let rules = ReflogPolicy {
         settings,
         write_reflog,
         committer,

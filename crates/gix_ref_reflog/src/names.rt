@@ -2,7 +2,7 @@
 ghost use Rattle.std.specs.Prelude.{◌≡◌, ◌++◌, ◌∷◌, [], IfOk};
 ghost use Rattle.gix_ref_target.specs.RefLayout.{location_value};
 ghost use Rattle.gix_ref_name.specs.Names.{full_ref_bytes};
-ghost use Rattle.gix_ref_reflog.specs.MadeLogs.{begins_with, below_logs, is_usual, location_name};
+ghost use Rattle.gix_ref_reflog.specs.MadeLogs.{begins_with, below_logs, is_logged_by_default, location_name};
 
 use gix_ref_name::name::FullNameRef;
 use gix_ref_target::layout::{Location, location_or_common};
@@ -46,8 +46,8 @@ fn is_or_is_below(path: &[u8], folder: &[u8], with_slash: &[u8]) -> bool
 
 /// Whether a log at this path below `logs/` is made where log lines are written as usual: that of `HEAD`, of a branch, of a
 /// remote branch, of a note, or of a reference of a worktree.
-pub fn is_usual(path: &[u8]) -> bool
-    ensures { result ≡ is_usual path.now }
+pub fn is_logged_by_default(path: &[u8]) -> bool
+    ensures { result ≡ is_logged_by_default path.now }
 {
     path == b"HEAD".as_slice()
         || is_or_is_below(path, b"refs/heads", b"refs/heads/")

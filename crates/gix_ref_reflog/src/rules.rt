@@ -4,7 +4,7 @@ ghost use Rattle.gix_ref_edits.specs.RefEdits.{is_forced, message_of};
 ghost use Rattle.gix_ref_reflog.specs.DueLines.{is_off};
 
 use crate::ids::{LineIds, ids_of};
-use crate::names::{below_logs, is_usual};
+use crate::names::{below_logs, is_logged_by_default};
 use crate::write_reflog::WriteReflog;
 use gix_ref_edits::transaction::Change;
 use gix_ref_hash::hash::ObjectId;
@@ -16,7 +16,7 @@ use std::alloc::{AllocError, Global};
 
 /// What the lines of a commit depend on beside its edits: where logs are, which are made, and who commits.
 #[derive(Clone, Copy)]
-pub struct Rules<'a> {
+pub struct ReflogPolicy<'a> {
     /// Where logs are.
     pub settings: &'a Settings<'a>,
     /// Which are made.
@@ -55,7 +55,7 @@ pub fn message_of(change: &Change) -> &[u8]
     }
 }
 
-impl Rules<'_> {
+impl ReflogPolicy<'_> {
     ghost use Rattle.std.specs.Prelude.{◌||◌, IfOk};
     ghost use Rattle.gix_ref_edits.specs.RefEdits.{name_of};
     ghost use Rattle.gix_ref_reflog.specs.AskedEdits.{asked_edit};
@@ -88,7 +88,7 @@ impl Rules<'_> {
                 }
                 let layout = layout_in(self.settings.dirs, self.settings.namespace);
                 let below = below_logs(alloc, layout.namespace, edit.update.name.as_ref())?;
-                Ok(is_usual(&below))
+                Ok(is_logged_by_default(&below))
             }
         }
     }

@@ -51,7 +51,7 @@ use Rattle.gix_ref_commit.specs.LogEffects.{AreLogsOf, IsLogOf}
 use Rattle.gix_ref_commit.specs.Unfinished.{EndsAtStep, EndsIn, IsRaised}
 use Rattle.gix_ref_commit.specs.declared.error.Error.{Error}
 use Rattle.gix_ref_commit.specs.declared.error.Error.TheVariants.{CreateOrUpdateRefLog, PackedTransactionCommit, LockCommit, DeleteReference, DeleteReflog, FolderInPlace, PreprocessingFailed, Memory}
-use Rattle.gix_ref_commit.specs.declared.folders.InWay.{InWay}
+use Rattle.gix_ref_commit.specs.declared.folders.EmptyDirs.{EmptyDirs}
 use Rattle.gix_ref_commit.specs.declared.plan.About.{About}
 use Rattle.gix_ref_commit.specs.declared.plan.About.TheVariants.{Folders, Line, Rename, LogRemoval, Packed, Removal}
 use Rattle.gix_ref_commit.specs.declared.run.Unfinished.{Unfinished}
@@ -213,7 +213,7 @@ raised_wider a b c d (AtStep about Unexpected) lower upper raised = tt
 raised_wider a b c d (AtStep about Asked) lower upper raised = tt
 
 -- a step at which a run ended is of one of the edits
-pub all_of_edits : (honest : Type 0) (dirs : Dirs) (ran : List Edit) (packed : Option Path) (rewrite : Rewrite) (ways : List InWay) (S T : Tree) (u : Unfinished) → EndsIn honest (commit_entries dirs ran packed rewrite ways) S T u → AllOfEdits (length ran) u
+pub all_of_edits : (honest : Type 0) (dirs : Dirs) (ran : List Edit) (packed : Option Path) (rewrite : Rewrite) (ways : List EmptyDirs) (S T : Tree) (u : Unfinished) → EndsIn honest (commit_entries dirs ran packed rewrite ways) S T u → AllOfEdits (length ran) u
 all_of_edits honest dirs ran packed rewrite ways S T no_memory e = tt
 all_of_edits honest dirs ran packed rewrite ways S T (AtStep a cause) e =
     let c = cut_of Any (folder_lists ways) (planned_entries dirs ran packed rewrite) (any_ways (folder_lists ways) (planned_entries dirs ran packed rewrite)) e.before (e.step, a) e.rest e.cut in
@@ -396,7 +396,7 @@ module _ {F : Type 0} (honest : Type 0) (means : F → Meaning) (faults : F → 
 
   -- The run of the steps ended early.
   module _ (outcomes : honest → outcomes_of ran ≡ log_outcomes (line_rules start committer) (view_of (tree_of means start)) (asked held)) (seen_logs : honest → SeeLogs (tree_of means start) ran) (passes : LinesPass honest means start committer held) (rewrite : Rewrite) (repacked : RepacksFrom honest means faults start packed held rewrite) (filled mid released : Tree)
-      (ways : List InWay) (way_is : honest → AllInWay ran start.dirs filled (folder_lists ways) (planned_entries start.dirs ran packed rewrite))
+      (ways : List EmptyDirs) (way_is : honest → AllInWay ran start.dirs filled (folder_lists ways) (planned_entries start.dirs ran packed rewrite))
       (fills : honest → IsPackedEmpty honest means faults start packed → IsFilled packed rewrite (tree_of means start) filled)
       (removes : honest → RemovesLocks (held_locks packed held) mid released) (tidies : honest → FoldersGo start.dirs (all_removed ran) released (tree_of means new)) where
     abbrev Ends : About → Cause → Type 0

@@ -67,7 +67,7 @@ use Rattle.gix_ref_reflog.specs.AskedEdits.{all_but_logs, asked, outcomes_of}
 use Rattle.gix_ref_reflog.specs.DueLines.{log_outcomes}
 use Rattle.gix_ref_log.specs.declared.actor.SignatureRef.{SignatureRef}
 use Rattle.gix_ref_commit.specs.Unfinished.{EndsAtStep, EndsIn}
-use Rattle.gix_ref_commit.specs.declared.folders.InWay.{InWay}
+use Rattle.gix_ref_commit.specs.declared.folders.EmptyDirs.{EmptyDirs}
 use Rattle.gix_ref_commit.specs.declared.plan.About.{About}
 use Rattle.gix_ref_commit.specs.declared.plan.About.TheVariants as about
 use Rattle.gix_ref_commit.specs.declared.run.Unfinished.{Unfinished}
@@ -363,7 +363,7 @@ module _ {F : Type 0} (honest : Type 0) (means : F → Meaning) (faults : F → 
       -- All is decided.
       module _ (outcomes : honest → outcomes_of ran ≡ log_outcomes (line_rules start committer) (view_of first.tree) (asked held)) (rewrite : Rewrite) (repacks : RepacksFrom honest means faults start packed held rewrite)
           (filled : honest → IsFilled packed rewrite first.tree decided.tree) (wholes : honest → (locks : List Path) → AreWholeLocks (disk_of first) locks → AreWholeLocks (disk_of decided) locks)
-          (ways : List InWay) (in_way : honest → AllInWay ran old.dirs decided.tree (folder_lists ways) (planned_entries old.dirs ran packed rewrite)) where
+          (ways : List EmptyDirs) (in_way : honest → AllInWay ran old.dirs decided.tree (folder_lists ways) (planned_entries old.dirs ran packed rewrite)) where
         abbrev all_entries : List Entry
         all_entries = commit_entries old.dirs ran packed rewrite ways
 

@@ -41,7 +41,7 @@ use Rattle.gix_ref_commit.specs.LogEffects.{Extra, with_extras}
 use Rattle.gix_ref_commit.specs.Unfinished.{EndsAtStep}
 use Rattle.gix_ref_commit.specs.declared.error.Error.{Error}
 use Rattle.gix_ref_commit.specs.declared.error.Error.TheVariants.{CreateOrUpdateRefLog, PackedTransactionCommit, LockCommit, DeleteReference, DeleteReflog, FolderInPlace, PreprocessingFailed, Memory}
-use Rattle.gix_ref_commit.specs.declared.folders.InWay.{InWay}
+use Rattle.gix_ref_commit.specs.declared.folders.EmptyDirs.{EmptyDirs}
 use Rattle.gix_ref_commit.specs.declared.plan.About.{About}
 use Rattle.gix_ref_commit.specs.declared.plan.About.TheVariants.{Folders, Line, Rename, LogRemoval, Packed, Removal}
 use Rattle.gix_ref_store.specs.CommitLines.{LinesPass, extras_due, line_rules, log_path_at}
@@ -153,7 +153,7 @@ module _ {F : Type 0} (honest : Type 0) (means : F → Meaning) (faults : F → 
     pub fills : honest → IsPackedEmpty start packed →
         IsFilled packed rewrite (tree_of means start) filled
     -- the folders that are removed before each step
-    pub ways : List InWay
+    pub ways : List EmptyDirs
     pub in_way : honest → AllInWay ran start.dirs filled (folder_lists ways)
         (planned_entries start.dirs ran packed rewrite)
     pub mid : Tree
@@ -307,7 +307,7 @@ module _ {F : Type 0} (honest : Type 0) (means : F → Meaning) (faults : F → 
       packed held → honest → HasGoodRecords means old → IsOfBadLine error → ⊥
 
   -- Every loss of power inside a commit, from the store `start` with these edits of a `prepare` that began with the store `old`,
-  -- where all was at rest: each reference reads as before or as edited, and all else is as it was, but for locks.
+  -- where all was at rest: each reference reads as before or as edited, and all else is as it was, except for locks.
   pub record EveryLossIsOldOrNew (mode : Mode) (old start new : Store F)
       (given : List RefEdit) (extras : List Extra) : Type 0 where
     -- on the disk with which it begins

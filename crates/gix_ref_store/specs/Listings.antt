@@ -133,7 +133,8 @@ module _ {F : Type 0} where
 
     -- These are the first items of a listing, in its order, and `rest` is yet to come. Each is made between two counts of faults,
     -- the first of which is `before`, and the last at most `now`.
-    abbrev pub AreFirst : Settings → View → (before now : FaultCounts) → (listed rest : List Listed) →
+    abbrev pub AreFirst : Settings → View → (before now : FaultCounts) →
+        (listed rest : List Listed) →
         List (Result Reference Error) → Type 0
     AreFirst settings view before now listed rest [] = NoFewer before now × (listed ≡ rest)
     AreFirst settings view before now listed rest (item ∷ items) =

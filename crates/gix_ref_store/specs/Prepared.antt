@@ -60,17 +60,17 @@ module _ {F : Type 0} (means : F → Meaning) where
   abbrev pub IsAtRest : Store F → Type 0
   IsAtRest store = IsAllSettled (disk_in store) × AllStay (disk_in store) (roots (folders store))
 
-  -- from the store `old` to `new`, every disk that is found is as that of `old` but for the locks of these places
+  -- from the store `old` to `new`, every disk that is found is as that of `old` except for the locks of these places
   abbrev pub KeepsAllBut : (old new : Store F) (places : List Path) → Type 0
   KeepsAllBut old new places =
       (staying : List Path) → AllStay (disk_in old) staying →
       Passes (means (files_of old)) (means (files_of new)) (IsAsBefore places staying (disk_in old))
 
-  -- and but for the locks of a transaction of these edits
+  -- and except for the locks of a transaction of these edits
   abbrev pub KeepsAll : Mode → (old new : Store F) → List RefEdit → Type 0
   KeepsAll mode old new edits = KeepsAllBut old new (places_in mode old edits)
 
-  -- Every loss of power meanwhile leaves each file that was settled, but for the locks of these places; and all stays as settled as
+  -- Every loss of power meanwhile leaves each file that was settled, except for the locks of these places; and all stays as settled as
   -- it was.
   pub record LosesNothingBut (old new : Store F) (places : List Path) : Type 0 where
     pub keeps : KeepsAllBut old new places
@@ -78,7 +78,7 @@ module _ {F : Type 0} (means : F → Meaning) where
         (λ T. (q : Path) → IsSpokenOf places (disk_in old) q →
         view_of T q ≡ view_of (tree_of old) q)
 
-  -- and so but for the locks of a transaction of these edits
+  -- and so except for the locks of a transaction of these edits
   abbrev pub LosesNothing : Mode → (old new : Store F) → List RefEdit → Type 0
   LosesNothing mode old new edits = LosesNothingBut old new (places_in mode old edits)
 
@@ -86,7 +86,7 @@ module _ {F : Type 0} (honest : Type 0) (read : FileError → Type 0) (means : F
     (claims : Type 0) (meaning : ObjectId → Stored) (mode : Mode) where
   -- A refusal. Where `packed-refs` is well formed, its error is the first cause that applies; `Packed` is returned for a
   -- `packed-refs` that is refused, and `PackedFind` where the record of an edit is asked for and cannot be read; a fault of files
-  -- came with a rise of their count, or a read by a reader failed; all is as before but for the locks that are named, and folders
+  -- was counted, by them or by a reader; all is as before except for the locks that are named, and folders
   -- that lead to locks; those that are named are locks of the edits, and one is named only where a fault came.
   pub record RefusesFrom (old new : Store F) (given : List RefEdit) (error : Error)
       (left : List Path) : Type 0 where
@@ -273,7 +273,7 @@ module _ {F : Type 0} (honest : Type 0) (means : F → Meaning) (faults : F → 
     pub leaves : honest → Leaves (means (files_of old)) (means (files_of new))
         (RemovesLocks locks (tree_of means old))
     pub removes : honest → OnlyRemoves locks (means (files_of old)) (means (files_of new))
-    -- every loss of power meanwhile leaves each file that was settled, but for these locks, whatever places they are the locks of
+    -- every loss of power meanwhile leaves each file that was settled, except for these locks, whatever places they are the locks of
     pub lost : honest → (places : List Path) →
         ((q : Path) → is_in locks q ≡ true → IsOwnLock places q) →
         LosesNothingBut means old new places

@@ -64,7 +64,7 @@ with_threshold store threshold = record {
   packed_mmap_threshold = threshold;
 }
 
--- the same store, but for what its files hold
+-- the same store, except for what its files hold
 pub record IsSameStore {F : Type 0} (old new : Store F) : Type 0 where
   pub dirs : new.dirs ≡ old.dirs
   pub namespace : new.namespace ≡ old.namespace

@@ -53,7 +53,7 @@ const ASKED: &[&str] = &[
 fn fronts(name: &str) -> &'static [&'static str] {
     if name == "A" || name == "HEAD" {
         &["", "refs/", "refs/tags/", "refs/heads/", "refs/remotes/"]
-    } else if is_rooted(name) {
+    } else if is_full_ref_path(name) {
         &["", "tags/", "heads/", "remotes/"]
     } else {
         &["refs/", "refs/tags/", "refs/heads/", "refs/remotes/"]
@@ -61,7 +61,7 @@ fn fronts(name: &str) -> &'static [&'static str] {
 }
 
 /// Whether a name is looked up as it is first.
-fn is_rooted(name: &str) -> bool {
+fn is_full_ref_path(name: &str) -> bool {
     name.starts_with("refs/")
         || name.starts_with("main-worktree/")
         || name.starts_with("worktrees/")
@@ -227,7 +227,7 @@ fn head<'a>(
     if asked == "HEAD" {
         return None;
     }
-    let refs = if is_rooted(asked) { "" } else { "refs/" };
+    let refs = if is_full_ref_path(asked) { "" } else { "refs/" };
     let name = format!(in alloc; "{refs}remotes/{asked}/HEAD").expect(rt, "memory");
     let digits = loose(rt, alloc, memory, space, name.as_str())?;
     Some((name, digits))

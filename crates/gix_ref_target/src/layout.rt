@@ -266,7 +266,7 @@ impl<'a> RefLayout<'a> {
 
     /// Whether `packed-refs` is asked for a name as it is. Where this is false, the record may still have the same name.
     /// As `packed_key` of the name, compared with it.
-    pub fn is_own_key(self, name: FullNameRef<'_>) -> bool
+    pub fn key_is_name(self, name: FullNameRef<'_>) -> bool
         ensures { OnTrue result ((paths_at (layout_of self.entry) (full_ref_bytes name.entry)).key
             ≡ Some (full_ref_bytes name.entry)) }
     {

@@ -17,7 +17,7 @@ use Rattle.gix_ref_theory.specs.OnRealTrees.{view_of}
 use Rattle.gix_ref_theory.specs.Readings.{Store}
 use Rattle.gix_ref_edits.specs.declared.transaction.RefEdit.{RefEdit}
 use Rattle.gix_ref_theory.specs.Edits.{Mode}
-use Rattle.gix_ref_transaction.specs.Causes.{ask_packed, has_key, may_change, packed_taken, packs_edit, packs_some, IsInTheWay, IsPackedCause, IsPackedLocked}
+use Rattle.gix_ref_transaction.specs.Causes.{ask_packed, is_packable, may_change, packed_taken, packs_edit, packs_some, IsInTheWay, IsPackedCause, IsPackedLocked}
 use Rattle.gix_ref_transaction.specs.PackedLock.{IsPackedTakenWhereDue}
 use Rattle.gix_ref_transaction.specs.PrepareSteps.{updates, packed_locks, packed_places, AreEmpty, AreWholeLocks, TakesPacked}
 use Rattle.gix_ref_transaction.specs.declared.edit.Edit.{Edit}
@@ -48,8 +48,8 @@ any_map : {X Y : Type 0} (P : Y → Bool) (f : X → Y) (xs : List X) → list_a
 any_map P f [] = refl
 any_map P f (x ∷ xs) = ap (λ b. P (f x) || b) (any_map P f xs)
 
-pub asked : (s : Store) (edits : List Edit) (b : Bool) → b ≡ list_any (λ (e : Edit). has_key s e.update) edits → ask_packed s (updates edits) ≡ b
-asked s edits b is = sym (is ∙ any_map (has_key s) (λ (e : Edit). e.update) edits)
+pub asked : (s : Store) (edits : List Edit) (b : Bool) → b ≡ list_any (λ (e : Edit). is_packable s e.update) edits → ask_packed s (updates edits) ≡ b
+asked s edits b is = sym (is ∙ any_map (is_packable s) (λ (e : Edit). e.update) edits)
 
 -- What there is by what `kind` says.
 pub file_there : (T : Tree) (p : Path) → node_at T p ≡ node.File → is_file (T p) ≡ true
@@ -70,7 +70,7 @@ no_file_there T p = by (T p) (is_blocked T p)
     by None blocked is = refl
 
 -- where an edit may have a record, and the lock was not taken, `packed-refs` is no file
-pub absent_by : (s : Store) (mode : Mode) (T : Tree) (edits : List Edit) (packed : Option Path) (asks : Bool) → asks ≡ list_any (λ (e : Edit). has_key s e.update) edits → is_some packed ≡ false →
+pub absent_by : (s : Store) (mode : Mode) (T : Tree) (edits : List Edit) (packed : Option Path) (asks : Bool) → asks ≡ list_any (λ (e : Edit). is_packable s e.update) edits → is_some packed ≡ false →
     packed_places packed ≡ packed_taken s mode T (updates edits) → asks ≡ true → view_of T s.packed_path ≡ None
 absent_by s mode T edits packed asks is none taken may =
     absent_from (T s.packed_path) (packs_some s mode (updates edits)) (no_places packed none ∙ (taken ∙ ap (λ b. if b && may_change s mode T (updates edits) then s.packed_path ∷ [] else []) (asked s edits asks is ∙ may)))

@@ -30,9 +30,11 @@ one_trees locks p within D E (inr (file, e)) q = by (bytes_eq p q) refl
     by : (b : Bool) → bytes_eq p q ≡ b → (E.tree q ≡ D.tree q) ⊎ ((is_in locks q ≡ true) × (E.tree q ≡ None) × (is_file (D.tree q) ≡ true))
     by true eq =
         let same : p ≡ q = (bytes_eq-Decides p q).0 eq in
-        inr (subst (λ (x : Path). is_in locks x ≡ true) same within,
-        ap (λ (X : Disk). X.tree q) e ∙ ap (λ (b : Bool). if b then None else D.tree q) eq,
-        subst (λ (x : Path). is_file (D.tree x) ≡ true) same file)
+        inr (
+          subst (λ (x : Path). is_in locks x ≡ true) same within,
+          ap (λ (X : Disk). X.tree q) e ∙ ap (λ (b : Bool). if b then None else D.tree q) eq,
+          subst (λ (x : Path). is_file (D.tree x) ≡ true) same file,
+        )
     by false ne = inl (ap (λ (X : Disk). X.tree q) e ∙ ap (λ (b : Bool). if b then None else D.tree q) ne)
 
 -- and of some

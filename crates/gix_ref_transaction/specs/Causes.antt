@@ -53,11 +53,12 @@ IsCounted before now (Packed error) = ⊥
 IsCounted before now (PackedFind error) = ⊥
 IsCounted before now other = Unit {0}
 
--- And so where `packed-refs` is read too: of honest files, `Packed` of `Io` is returned only where that count rose, or a read by a reader
--- failed.
-abbrev pub IsCountedWith : (honest : Type 0) → (read : FileError → Type 0) → FaultCounts → FaultCounts → Error →
-    Type 0
-IsCountedWith honest read before now (Packed (unread error)) = honest → (IsMet error before now ⊎ read error)
+-- And so where `packed-refs` is read too: of honest files, `Packed` of `Io` is returned only where this fault was counted by them or by
+-- a reader.
+abbrev pub IsCountedWith : (honest : Type 0) → (read : FileError → Type 0) → FaultCounts →
+    FaultCounts → Error → Type 0
+IsCountedWith honest read before now (Packed (unread error)) = honest →
+    (IsMet error before now ⊎ read error)
     × (error ≡ out_of_memory → ⊥)
 IsCountedWith honest read before now (Packed error) = Unit {0}
 IsCountedWith honest read before now (PackedFind error) = Unit {0}
@@ -171,11 +172,11 @@ IsDoubling edits other = ⊥
 -- The lock of `packed-refs`: it is taken before the records are read, where an edit of a reference may have one.
 
 -- an edit of a reference, and not of its log alone, that may have a record
-abbrev pub has_key : Store → RefEdit → Bool
-has_key s edit = is_of_reference (mode_of edit.change) && is_some (s.key (name_of edit))
+abbrev pub is_packable : Store → RefEdit → Bool
+is_packable s edit = is_of_reference (mode_of edit.change) && is_some (s.key (name_of edit))
 
 abbrev pub ask_packed : Store → List RefEdit → Bool
-ask_packed s edits = list_any (has_key s) edits
+ask_packed s edits = list_any (is_packable s) edits
 
 -- an update to an object
 abbrev pub is_new_object : Option TargetValue → Bool
@@ -187,7 +188,7 @@ updates_object change = is_new_object (new_of change)
 
 -- an edit that puts the object of an update into `packed-refs`
 abbrev pub packs_edit : Store → Mode → RefEdit → Bool
-packs_edit s mode edit = (packs_updates mode && updates_object edit.change) && has_key s edit
+packs_edit s mode edit = (packs_updates mode && updates_object edit.change) && is_packable s edit
 
 -- and whose loose file is removed
 abbrev pub goes_alone : Store → Mode → RefEdit → Bool

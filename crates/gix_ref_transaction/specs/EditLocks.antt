@@ -31,7 +31,7 @@ pub record IsLockTaken (old new : Meaning) (lock : Path) : Type 0 where
   pub made : IsNewLock old.tree lock new.tree
   pub whole : IsWholeAt (disk_of new) lock []
 
--- A fault of files or of memory; it is `Io` only where the count of faults rose.
+-- A fault of files or of memory; of `Io` this fault was counted.
 pub record IsFileOrMemoryFault (before now : FaultCounts) (error : Error) : Type 0 where
   pub outside : IsIoOrMemory error
   pub counted : IsCounted before now error
@@ -46,7 +46,7 @@ module _ {F : Type 0} (honest : Type 0) (means : F → Meaning) (faults : F → 
         (LockingOn (disk_of (means before)) place)
     pub no_fewer : NoFewer (faults before) (faults now)
 
-  -- Why the lock of an edit of this name is not taken. Nothing was added then but folders; and it is `Io` only where the count of faults rose.
+  -- Why the lock of an edit of this name is not taken. Nothing was added then but folders; and of `Io` this fault was counted.
   pub record IsNotTaken (name : List ℕ) (lock : Path) (before now : F)
       (error : Error) : Type 0 where
     pub cause : honest → IsRefusedLock (means before).tree name lock error
@@ -62,7 +62,7 @@ module _ {F : Type 0} (honest : Type 0) (means : F → Meaning) (faults : F → 
         (FillingOn (disk_of (means before)) lock)
     pub no_fewer : NoFewer (faults before) (faults now)
 
-  -- Why an edit with the id of its record is not accepted, by its own cause; and it is `Io` only where the count of faults rose.
+  -- Why an edit with the id of its record is not accepted, by its own cause; and of `Io` this fault was counted.
   pub record IsNotAccepted (s : Store) (edit : Edit) (Cause : Error → Type 0) (before now : F)
       (error : Error) : Type 0 where
     pub cause : honest → HasItsId s (means before).tree edit → IsIoOrMemory error ⊎ Cause error

@@ -70,7 +70,7 @@ pub record HoldsPackedLock
   pub free : honest → IsPackedLocked s mode old edits → ⊥
 
 module _ {F : Type 0} (honest : Type 0) (means : F → Meaning) (faults : F → FaultCounts) where
-  -- Why the locks of edits with the ids of their records are not taken: the first cause; and `Io` only where the count of faults rose.
+  -- Why the locks of edits with the ids of their records are not taken: the first cause; and of `Io` this fault was counted.
   pub record IsTakingFault (s : Store) (kind : Kind) (edits : List Edit) (before now : F)
       (error : Error) : Type 0 where
     pub first : honest → ids_in edits ≡ packed_ids s (means before).tree (updates edits) →

@@ -29,9 +29,10 @@ pub record IsPackedTakenWhereDue (honest : Type 0) (s : Store) (mode : Mode) (ed
   pub takes : honest → TakesPacked old.tree packed new.tree
   pub whole : honest → AreWholeLocks (disk_of new) (map lock_of (packed_places packed))
 
--- It is not taken, and nothing is added but folders on these ways, by this cause or by a fault of files or of memory; and `Io` only where
--- the count of faults rose.
-pub record IsPackedFault {F : Type 0} (honest : Type 0) (means : F → Meaning) (faults : F → FaultCounts)
+-- It is not taken, and nothing is added but folders on these ways, by this cause or by a fault of files or of memory; and of `Io`
+-- this fault was counted.
+pub record IsPackedFault {F : Type 0} (honest : Type 0) (means : F → Meaning)
+    (faults : F → FaultCounts)
     (ways : List Path) (Cause : Error → Type 0) (before now : F) (error : Error) : Type 0 where
   pub cause : honest → IsIoOrMemory error ⊎ Cause error
   pub kept : honest → AddsLocks [] ways (means before).tree (means now).tree

@@ -25,9 +25,10 @@ pub record IsSplitOf (honest : Type 0) (s : Store) (kind : Kind) (T : Tree) (giv
   pub valid : AllValid s kind [] given → AllValid s kind [] split.edits.items
   pub updates : AreUpdates given → AreUpdates split.edits.items
 
--- Why there is no split list: a fault of files or of memory, the name of an edit that is looked up, or too many rounds; and `Io` only where the
--- count of faults rose.
-pub record IsNotSplit {F : Type 0} (honest : Type 0) (means : F → Meaning) (faults : F → FaultCounts)
+-- Why there is no split list: a fault of files or of memory, the name of an edit that is looked up, or too many rounds; and of `Io` this
+-- fault was counted.
+pub record IsNotSplit {F : Type 0} (honest : Type 0) (means : F → Meaning)
+    (faults : F → FaultCounts)
     (s : Store) (given : List RefEdit) (before now : F) (error : Error) : Type 0 where
   pub cause : honest → IsIoOrMemory error
       ⊎ (IsFirstMisnamed s (all_rounds s (view_of (means before).tree) given) error

@@ -115,7 +115,7 @@ pub fn deletes_reference(change: &Change) -> bool
 
 /// What there is of a reference before its edit.
 #[derive(Drop)]
-struct Was {
+struct OldValue {
     /// Its target: that of its loose file, or else the object of its record.
     target: Option<Target>,
     /// Whether there is a loose file.
@@ -135,7 +135,7 @@ fn object_of(packed: Option<ObjectId>) -> Option<Target>
 }
 
 /// What there is of a reference, by its loose file and its record.
-fn was_of(loose: Loose, packed: Option<ObjectId>, namespace: &Option<Namespace>) -> Was
+fn old_value_of(loose: Loose, packed: Option<ObjectId>, namespace: &Option<Namespace>) -> OldValue
     ensures target { value_of result.target
         ≡ target_by (namespace_text namespace.now) loose packed }
     ensures file { result.has_file ≡ is_loose_file loose }
@@ -144,18 +144,18 @@ fn was_of(loose: Loose, packed: Option<ObjectId>, namespace: &Option<Namespace>)
     match loose {
         Loose::Holds(mut target) => {
             strip(&mut target, namespace);
-            Was {
+            OldValue {
                 target: Some(target),
                 has_file: true,
                 damaged: false,
             }
         }
-        Loose::Absent => Was {
+        Loose::Absent => OldValue {
             target: object_of(packed),
             has_file: false,
             damaged: false,
         },
-        Loose::Undecodable(_) => Was {
+        Loose::Undecodable(_) => OldValue {
             target: object_of(packed),
             has_file: true,
             damaged: true,
@@ -164,13 +164,13 @@ fn was_of(loose: Loose, packed: Option<ObjectId>, namespace: &Option<Namespace>)
 }
 
 /// What there is at a place, whose reference has this id in `packed-refs`: one call of files.
-fn was_at<F: Files>(
+fn read_old_value<F: Files>(
     alloc: Global,
     files: &mut F,
     settings: &Settings<'_>,
     place: &[u8],
     packed: Option<ObjectId>,
-) -> Result<Was, Error>
+) -> Result<OldValue, Error>
     ensures target { F.honest →
         IfOk result (λ was. value_of was.target ≡ found_by (setting_of settings.now)
         (decoded (setting_of settings.now) (contents F.means files.old place.now)) packed) }
@@ -183,11 +183,11 @@ fn was_at<F: Files>(
     ensures counted { IfErr result (IsCounted (F.faults files.old) (F.faults files.new)) }
 {
     let loose = loose_at(alloc, files, place, settings.kind)?;
-    Ok(was_of(loose, packed, settings.namespace))
+    Ok(old_value_of(loose, packed, settings.namespace))
 }
 
 /// Whether an update changes the reference: it has not this object already, in a file that can be read.
-fn is_change(new: &Target, was: &Was) -> bool
+fn is_change(new: &Target, was: &OldValue) -> bool
     ensures { result ≡ is_new (target_value new.now) (value_of was.now.target) was.now.damaged }
 {
     if was.damaged {
@@ -200,7 +200,7 @@ fn is_change(new: &Target, was: &Was) -> bool
 }
 
 /// What an update makes of the loose file, by what there was and whether it goes into `packed-refs` alone.
-fn effect_of_update(mode: RefLog, new: &Target, alone: bool, was: &Was) -> Effect
+fn effect_of_update(mode: RefLog, new: &Target, alone: bool, was: &OldValue) -> Effect
     ensures { result ≡ (if is_of_reference mode then decision_of (Some (target_value new.now)) alone
         (value_of was.now.target) was.now.damaged else Effect.Keep) }
 {
@@ -229,7 +229,7 @@ fn effect_of_deletion(mode: RefLog) -> Effect
 }
 
 /// What becomes of the loose file, by the change, whether it goes into `packed-refs` alone, and what there was.
-fn effect_of(change: &Change, alone: bool, was: &Was) -> Effect
+fn effect_of(change: &Change, alone: bool, was: &OldValue) -> Effect
     ensures { result ≡ decision change.now alone (value_of was.now.target) was.now.damaged }
 {
     match change {
@@ -382,7 +382,7 @@ impl Edit {
     }
 
     /// Keeps what there was, and decides what becomes of the loose file.
-    fn decide(&mut self, alone: bool, was: Was)
+    fn decide(&mut self, alone: bool, was: OldValue)
         ensures given { given self.new ≡ given self.old }
         ensures found { self.new.found ≡ was.target }
         ensures file { self.new.has_file ≡ was.has_file }
@@ -436,7 +436,7 @@ impl Edit {
         ensures fills { OnlyFills F.honest F.means F.faults
             (lock_of self.old.lock) files.old files.new }
     {
-        let was = was_at(alloc, files, settings, self.lock.place(), self.packed)?;
+        let was = read_old_value(alloc, files, settings, self.lock.place(), self.packed)?;
         check_expected(&self.update, &was.target, settings.kind)?;
         let alone = is_packed_alone(settings, packing, &self.update);
         self.decide(alone, was);

@@ -4,7 +4,7 @@ ghost use Rattle.gix_ref_transaction.specs.Causes.{goes_alone, packs_edit, updat
 ghost use Rattle.gix_ref_transaction.specs.PrepareSteps.{setting_of};
 ghost use Rattle.gix_ref_transaction.specs.Packing.{mode_of_packing};
 
-use crate::prepare::packed_lock::has_key;
+use crate::prepare::packed_lock::is_packable;
 use gix_ref_edits::transaction::{Change, RefEdit};
 use gix_ref_lookup::settings::Settings;
 use gix_ref_object::object::{Find, Never};
@@ -120,7 +120,7 @@ fn updates_object(change: &Change) -> bool
 pub fn is_packed(settings: &Settings<'_>, packing: Packing, update: &RefEdit) -> bool
     ensures { result ≡ packs_edit (setting_of settings.now) (mode_of_packing packing) update.now }
 {
-    packing.packs_updates() && updates_object(&update.change) && has_key(settings, update)
+    packing.packs_updates() && updates_object(&update.change) && is_packable(settings, update)
 }
 
 /// Whether an edit does, and its loose file is removed.

@@ -5,7 +5,7 @@ ghost use Rattle.gix_ref_name.specs.NameGrammar.{IsFullName, full_error, IsParti
 ghost use Rattle.gix_ref_name.specs.Namespaces.{namespace_bytes};
 ghost use Rattle.gix_ref_name.specs.Candidates.{candidates};
 
-use gix_ref_name::name::candidates::{fronts_of, name_behind};
+use gix_ref_name::name::candidates::{lookup_prefixes, with_prefix};
 use gix_ref_name::name::{Category, Error, FullName, FullNameRef, PartialNameRef};
 use gix_ref_name::namespace::Namespace;
 use std::alloc::{AllocError, Global};
@@ -51,8 +51,8 @@ pub fn candidates_of(alloc: Global, name: PartialNameRef<'_>) -> Result<Vec<Full
         ≡ candidates (partial_ref_bytes name.entry)) }
 {
     let mut found = Vec::new(alloc);
-    for front in fronts_of(name) {
-        found.push(name_behind(alloc, front, name)?)?;
+    for front in lookup_prefixes(name) {
+        found.push(with_prefix(alloc, front, name)?)?;
     }
     Ok(found)
 }

@@ -38,7 +38,7 @@ fn read_words(rt: &HostRuntime) -> Result<Vec<String>> {
     Ok(words)
 }
 
-/// Whether the first word is this option, and the words behind it.
+/// Whether the first word is this option, and the words after it.
 fn option_of<'w>(words: &'w [String], option: &[u8]) -> (bool, &'w [String]) {
     match words.split_first() {
         Some((first, rest)) if first.as_bytes() == option => (true, rest),

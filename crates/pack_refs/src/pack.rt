@@ -156,7 +156,7 @@ fn same_object(alloc: Global, name: FullName, id: ObjectId) -> RefEdit {
 
 /// Puts loose references into `packed-refs`, each with the object at the end of its tags, and removes their loose files (`git pack-refs`).
 ///
-/// With `is_all` these are all loose references below `refs/` that point to an object which the finder has, but for those of one worktree
+/// With `is_all` these are all loose references below `refs/` that point to an object which the finder has, except for those of one worktree
 /// alone, below `refs/bisect/`, `refs/rewritten/` and `refs/worktree/`. Without it they are the tags among these, and those that have a record
 /// in `packed-refs` already. In a namespace they are references of that namespace. Symbolic references stay as they are; so do broken ones,
 /// which are named. No reference reads otherwise afterwards, also where an error is returned.

@@ -76,7 +76,7 @@ fn first_break_of_lanes(text: &[u8], start: usize) -> Option<usize>
 /// The place of the first byte that is LF or less, as a tab is. Only whole runs of 16 bytes are looked at, so `None` says
 /// nothing. It stays a call: among the code of a caller, its loop would keep more places in step than the call costs.
 #[inline(never)]
-pub fn some_first_break(text: &[u8]) -> Option<usize>
+pub fn find_tab_or_lf(text: &[u8]) -> Option<usize>
     ensures { IfSome result (λ place. IsFirstByte is_break text.now (Some place)) }
 {
     let last = text.len().checked_sub(LANES)?;

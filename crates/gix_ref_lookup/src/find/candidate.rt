@@ -177,7 +177,9 @@ fn find_at_key<F: Files>(
         (packed_refs_in settings.entry (F.means files.old)) records.old)) }
     ensures failed { (name : List ℕ) → HasKey
         (meaning_in settings.entry) name (full_ref_bytes key.entry) →
-        IfErr result (IsNotPacked (F.honest × AreHonest records.old) (IsFaultOf F.Reader.faults (F.faults files.old) (F.faults files.new)) (OfKey (meaning_in settings.entry) name
+        IfErr result (IsNotPacked (F.honest × AreHonest records.old)
+        (IsFaultOf F.Reader.faults (F.faults files.old) (F.faults files.new))
+        (OfKey (meaning_in settings.entry) name
         (λ key. OfSearched settings.entry.kind (packed_refs_in settings.entry (F.means files.old))
         records.old (λ k text. CannotRead k text key))) (IsRefusedFile settings.entry.kind
         ((F.means files.old).tree (meaning_in settings.entry).packed_path))) }
@@ -243,7 +245,7 @@ fn find_packed<F: Files>(
     ensures no_fault { OnOk result (F.faults files.new ≡ F.faults files.old) }
     ensures leaves { F.honest → AtEveryStop F.means files.old files.new Unchanged }
 {
-    if settings.is_own_key(name) {
+    if settings.key_is_name(name) {
         return find_at_key(alloc, files, settings, name, records);
     }
     match settings.key_name(alloc, name)? {

@@ -16,7 +16,7 @@ use crate::find::records::Records;
 use crate::settings::Settings;
 use gix_ref_files::files::Files;
 use gix_ref_name::name::PartialNameRef;
-use gix_ref_name::name::candidates::{fronts_of, name_behind, remote_head};
+use gix_ref_name::name::candidates::{lookup_prefixes, remote_head, with_prefix};
 use gix_ref_packed::raw::Reference;
 use std::alloc::Global;
 
@@ -48,9 +48,9 @@ fn find_first<F: Files>(
     ensures no_fault { OnOk result (F.faults files.new ≡ F.faults files.old) }
     ensures leaves { F.honest → AtEveryStop F.means files.old files.new Unchanged }
 {
-    let fronts = fronts_of(name);
+    let fronts = lookup_prefixes(name);
     for front in fronts {
-        let Ok(candidate) = name_behind(alloc, front, name) else {
+        let Ok(candidate) = with_prefix(alloc, front, name) else {
             return Err(Error::Memory);
         };
         match find_candidate(alloc, files, settings, candidate.as_ref(), records) {

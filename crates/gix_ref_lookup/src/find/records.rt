@@ -104,7 +104,8 @@ fn open_records<'b, F: Files>(
     ensures none { F.honest → IfOk result (λ r. SearchesNone None r →
         packed_refs_in settings.entry (F.means files.old) ≡ None) }
     ensures refused { IfErr result (IsNotPacked F.honest
-        (IsFaultOf F.Reader.faults (F.faults files.old) (F.faults files.new)) ⊥ (IsRefusedFile settings.entry.kind
+        (IsFaultOf F.Reader.faults (F.faults files.old) (F.faults files.new)) ⊥
+        (IsRefusedFile settings.entry.kind
         ((F.means files.old).tree (meaning_in settings.entry).packed_path))) }
     ensures no_fault { OnOk result (F.faults files.new ≡ F.faults files.old) }
     ensures reads { OnlyReads F.honest F.means F.faults files.old files.new }
@@ -150,7 +151,8 @@ impl<R: ReadAt + Drop> Records<'_, R> {
         ensures none { F.honest → OnOk result (SearchesNone None self.new →
             SearchesNone (packed_refs_in settings.entry (F.means files.old)) self.old) }
         ensures refused { IfErr result (IsNotPacked F.honest
-            (IsFaultOf R.faults (F.faults files.old) (F.faults files.new)) ⊥ (IsRefusedFile settings.entry.kind
+            (IsFaultOf R.faults (F.faults files.old) (F.faults files.new)) ⊥
+            (IsRefusedFile settings.entry.kind
             ((F.means files.old).tree (meaning_in settings.entry).packed_path))) }
         ensures no_fault { OnOk result (F.faults files.new ≡ F.faults files.old) }
         ensures reads { OnlyReads F.honest F.means F.faults files.old files.new }

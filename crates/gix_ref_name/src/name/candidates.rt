@@ -5,7 +5,7 @@ ghost use Rattle.std.specs.Option.{option_map};
 ghost use Rattle.std.specs.Cmp.Lexicographic.{pointwise};
 ghost use Rattle.gix_ref_name.specs.NameGrammar.{IsFullName};
 ghost use Rattle.gix_ref_name.specs.Names.{partial_ref_bytes, full_bytes};
-ghost use Rattle.gix_ref_name.specs.Candidates.{is_rooted as rooted, fronts_of as fronts, remote_head as head_of_remote};
+ghost use Rattle.gix_ref_name.specs.Candidates.{is_full_ref_path as rooted, lookup_prefixes as fronts, remote_head as head_of_remote};
 
 use crate::name::{FullName, PartialNameRef, is_pseudo_name};
 use std::alloc::{AllocError, Global};
@@ -27,7 +27,7 @@ static OTHER_FRONTS: [&[u8]; 4] = [b"refs/", b"refs/tags/", b"refs/heads/", b"re
 
 /// Whether a name begins with `refs/`, `main-worktree/` or `worktrees/`, and so is looked up as it is before anything is put in front
 /// of it (`gitrevisions`).
-pub fn is_rooted(name: &[u8]) -> bool
+pub fn is_full_ref_path(name: &[u8]) -> bool
     ensures { result ≡ rooted name.now }
 {
     name.starts_with(b"refs/")
@@ -50,7 +50,7 @@ fn remotes_front(name: &[u8]) -> &'static [u8]
     ensures { let whole = name.now ++ codes "/HEAD" in result.now
         ≡ (if rooted whole then codes "remotes/" else codes "refs/remotes/") }
 {
-    if is_rooted(name) || is_root(name) {
+    if is_full_ref_path(name) || is_root(name) {
         b"remotes/"
     } else {
         b"refs/remotes/"
@@ -66,13 +66,13 @@ fn remotes_front(name: &[u8]) -> &'static [u8]
 /// ```text
 /// fronts_of(PartialNameRef::try_from("main")?) // refs/, refs/tags/, refs/heads/, refs/remotes/
 /// ```
-pub fn fronts_of(name: PartialNameRef<'_>) -> &'static [&'static [u8]]
+pub fn lookup_prefixes(name: PartialNameRef<'_>) -> &'static [&'static [u8]]
     ensures { map (λ f. f.now) result.now ≡ fronts (partial_ref_bytes name.entry) }
 {
     let path = name.to_partial_path();
     if is_pseudo_name(path) {
         &PSEUDO_FRONTS
-    } else if is_rooted(path) {
+    } else if is_full_ref_path(path) {
         &ROOTED_FRONTS
     } else {
         &OTHER_FRONTS
@@ -81,7 +81,7 @@ pub fn fronts_of(name: PartialNameRef<'_>) -> &'static [&'static [u8]]
 
 /// The full name that a partial name has behind one of its fronts. The error says that there was no memory. As
 /// `format!` of both.
-pub fn name_behind(
+pub fn with_prefix(
     alloc: Global,
     front: &[u8],
     name: PartialNameRef<'_>,

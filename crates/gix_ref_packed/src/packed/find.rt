@@ -3,13 +3,13 @@ ghost use Rattle.std.specs.Prelude.{◌≡◌, ◌≤◌, ◌<◌, ◌++◌, tru
 ghost use Rattle.gix_ref_name.specs.NameGrammar.{IsPartialName};
 ghost use Rattle.gix_ref_packed.specs.Searches.{Finds, FindsOne, FindsPartial};
 ghost use Rattle.gix_ref_packed_text.specs.SearchCosts.{CountsProbes};
-ghost use Rattle.gix_ref_name.specs.Candidates.{is_rooted as rooted};
+ghost use Rattle.gix_ref_name.specs.Candidates.{is_full_ref_path as rooted};
 
 pub mod existing;
 
 use crate::packed::buffer::Buffer;
 use gix_ref_hash::hash::Kind;
-use gix_ref_name::name::candidates::is_rooted;
+use gix_ref_name::name::candidates::is_full_ref_path;
 use gix_ref_name::name::{self, FullNameRef, PartialNameRef};
 use gix_ref_packed_text::packed::decode::take_record;
 use gix_ref_packed_text::packed::search::search;
@@ -228,7 +228,7 @@ impl Buffer {
             (partial_ref_bytes name.entry) result }
     {
         let path = name.to_partial_path();
-        if is_rooted(path) {
+        if is_full_ref_path(path) {
             find_rooted(self.as_bytes(), self.kind(), path)
         } else {
             find_partial(alloc, self.as_bytes(), self.kind(), path)

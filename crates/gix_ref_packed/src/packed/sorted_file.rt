@@ -10,7 +10,7 @@ use gix_ref_hash::hash::Kind;
 use gix_ref_name::name::FullNameRef;
 use gix_ref_packed_text::packed::Probes;
 use gix_ref_packed_text::packed::search::{SearchError, search};
-use gix_ref_packed_text::packed::searchable::{Look, Probe, SearchableRecords};
+use gix_ref_packed_text::packed::searchable::{Probe, ProbeMode, SearchableRecords};
 use gix_ref_packed_text::packed::window::{Found, InWindow, probe_in, record_in};
 use std::alloc::{AllocError, Global};
 use std::marker::Brand;
@@ -194,7 +194,13 @@ impl<R: ReadAt + Drop> SortedFile<R> {
 
     /// What a probe at the place sees, if the window shows it.
     #[inline(always)]
-    fn probe_in_window(&self, kind: Kind, offset: u64, wanted: &[u8], look: Look) -> Option<Probe>
+    fn probe_in_window(
+        &self,
+        kind: Kind,
+        offset: u64,
+        wanted: &[u8],
+        look: ProbeMode,
+    ) -> Option<Probe>
         requires { look.sure ≡ false → IsPlain wanted.now }
         ensures below { IfSome result (λ probe. probe.start ≤ offset) }
         ensures beyond { IfSome result (λ probe. offset < probe.next) }
@@ -380,7 +386,7 @@ impl<R: ReadAt + Drop> SearchableRecords for SortedFile<R> {
         kind: Kind,
         offset: u64,
         wanted: &[u8],
-        look: Look,
+        look: ProbeMode,
     ) -> Result<Probe, ReadError> {
         for turn in 0..MAX_WINDOW_DOUBLINGS {
             if let Some(probe) = self.probe_in_window(kind, offset, wanted, look) {

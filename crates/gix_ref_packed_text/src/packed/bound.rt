@@ -4,7 +4,7 @@ ghost use Rattle.gix_ref_target.specs.PackedRecords.{Record};
 ghost use Rattle.gix_ref_packed_text.specs.RecordGrammar.{Records, Rising};
 ghost use Rattle.gix_ref_packed_text.specs.Prefixes.{SplitsAt, SplitsLines, IsListStart, IsBadStart, NamesAscend};
 
-use crate::packed::searchable::{InMemory, Look, SearchableRecords};
+use crate::packed::searchable::{InMemory, ProbeMode, SearchableRecords};
 use gix_ref_hash::hash::Kind;
 use std::cmp::Ordering;
 
@@ -51,7 +51,7 @@ pub fn lower_bound<T: SearchableRecords>(
     let mut high = text.len();
     while low < high {
         let middle = low + (high - low) / 2;
-        let probe = match text.probe(kind, middle, wanted, Look::sure(high - low)) {
+        let probe = match text.probe(kind, middle, wanted, ProbeMode::sure(high - low)) {
             Ok(probe) => probe,
             Err(error) => return Err(error),
         };

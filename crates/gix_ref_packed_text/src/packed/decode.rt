@@ -10,7 +10,7 @@ use crate::packed::lines::line_start;
 pub use header_line::{header, take_header};
 pub use options::{Header, Peeled};
 pub use record_line::{
-    is_plain, name_at_record_start, order_at, quick_order, reference, split_record_line,
+    fast_compare, has_no_control, name_at_record_start, order_at, reference, split_record_line,
     take_record,
 };
 

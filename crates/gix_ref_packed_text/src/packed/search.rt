@@ -6,8 +6,8 @@ ghost use Rattle.gix_ref_packed_text.specs.Positions.{HitsAt, FindsAt, IsMalform
 ghost use Rattle.gix_ref_packed_text.specs.SearchCosts.{CountsProbes, FailsBy, count_search};
 
 use crate::packed::Probes;
-use crate::packed::decode::is_plain;
-use crate::packed::searchable::{Look, SearchableRecords};
+use crate::packed::decode::has_no_control;
+use crate::packed::searchable::{ProbeMode, SearchableRecords};
 use gix_ref_hash::hash::Kind;
 use std::cmp::Ordering;
 use std::error::Error;
@@ -71,13 +71,13 @@ pub fn search<T: SearchableRecords, L: Ledger>(
 {
     let mut low = 0;
     let mut high = text.len();
-    let plain = is_plain(wanted);
+    let plain = has_no_control(wanted);
     let mut first = true;
     let mut saw_malformed_line = false;
     while low < high {
         let middle = low + (high - low) / 2;
         probes.tick();
-        let look = Look::at(first, plain, high - low);
+        let look = ProbeMode::at(first, plain, high - low);
         first = false;
         let probe = match text.probe(kind, middle, wanted, look) {
             Ok(probe) => probe,

@@ -23,7 +23,7 @@ pub struct Probe {
 
 /// How closely a probe looks at a record whose name is another one. Either costs as much as the rest of a probe.
 #[derive(Clone, Copy, Debug)]
-pub struct Look {
+pub struct ProbeMode {
     /// It looks whether the record's line ends.
     pub sure: bool,
     /// It looks where the line ends, to go on behind it; else at the next byte. That is worth its cost where few bytes are left.
@@ -33,16 +33,16 @@ pub struct Look {
 /// Up to how many bytes are few.
 const FEW_BYTES: u64 = 512;
 
-impl Look {
+impl ProbeMode {
     ghost use Rattle.std.specs.Prelude.{◌≡◌, true};
 
     /// How to look for a name of that plainness, with so many bytes left.
     #[inline(always)]
-    pub fn at(sure: bool, plain: bool, left: u64) -> Look
+    pub fn at(sure: bool, plain: bool, left: u64) -> ProbeMode
         ensures sure { sure ≡ true → result.sure ≡ true }
         ensures plain { result.sure ≡ false → plain ≡ true }
     {
-        Look {
+        ProbeMode {
             sure: sure || !plain,
             near: left < FEW_BYTES,
         }
@@ -50,10 +50,10 @@ impl Look {
 
     /// How to look at a record that has to be one, with so many bytes left.
     #[inline(always)]
-    pub fn sure(left: u64) -> Look
+    pub fn sure(left: u64) -> ProbeMode
         ensures { result.sure ≡ true }
     {
-        Look {
+        ProbeMode {
             sure: true,
             near: left < FEW_BYTES,
         }
@@ -96,7 +96,7 @@ pub trait SearchableRecords {
         kind: Kind,
         offset: u64,
         wanted: &[u8],
-        look: Look,
+        look: ProbeMode,
     ) -> Result<Probe, Self::Error>
         requires inside { honest → offset < length (bytes self.old) }
         requires plain { look.sure ≡ false → IsPlain wanted.now }
@@ -144,7 +144,7 @@ impl<'a> SearchableRecords for InMemory<'a> {
         kind: Kind,
         offset: u64,
         wanted: &[u8],
-        look: Look,
+        look: ProbeMode,
     ) -> Result<Probe, Infallible> {
         let start = record_start_at_offset(self.bytes, offset as usize);
         let order = order_at(&self.bytes[start..], kind, wanted, look.sure);

@@ -11,9 +11,9 @@ ghost use Rattle.gix_ref_packed_text.specs.Probed.{IsProbeAt};
 ghost use Rattle.gix_ref_packed_text.specs.Views.{record_of};
 
 use crate::packed::Reference;
-use crate::packed::decode::{quick_order, split_record_line, take_record};
+use crate::packed::decode::{fast_compare, split_record_line, take_record};
 use crate::packed::lines::next_place;
-use crate::packed::searchable::{Look, Probe};
+use crate::packed::searchable::{Probe, ProbeMode};
 use gix_ref_hash::hash::{Kind, ObjectId};
 use memchr::{memchr2, memrchr};
 use std::cmp::Ordering;
@@ -128,7 +128,7 @@ pub fn order_in(
     ensures sure { at_eof ≡ true → IsHere result }
 {
     if !sure {
-        if let Some(order) = quick_order(part, kind, wanted) {
+        if let Some(order) = fast_compare(part, kind, wanted) {
             return InWindow::Here(Some(order));
         }
     }
@@ -159,7 +159,7 @@ pub fn probe_in(
     at_eof: bool,
     kind: Kind,
     wanted: &[u8],
-    look: Look,
+    look: ProbeMode,
 ) -> Option<Probe>
     requires plain { look.sure ≡ false → IsPlain wanted.now }
     requires inside { at < length window.now }

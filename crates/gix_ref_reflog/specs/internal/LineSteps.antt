@@ -9,13 +9,13 @@ use Rattle.gix_ref_theory.specs.OnRealTrees.{view_of}
 use Rattle.gix_ref_theory.specs.Views.{View}
 use Rattle.gix_ref_reflog.specs.DueLines.{LogRules, rules_of}
 use Rattle.gix_ref_reflog.specs.LineCauses.{CannotMake, CannotAdd}
-use Rattle.gix_ref_reflog.specs.declared.rules.Rules.{Rules}
+use Rattle.gix_ref_reflog.specs.declared.rules.ReflogPolicy.{ReflogPolicy}
 use Rattle.gix_ref_reflog.specs.declared.create_or_update.Error.TheVariants.{CreateLeadingDirectories, MessageWithNewlines, SignatureUnwritable}
 use Rattle.gix_ref_reflog.specs.declared.error.Error.{Error as Refusal}
 use Rattle.gix_ref_reflog.specs.declared.error.Error.TheVariants.{CreateOrUpdateRefLog, Memory}
 use Rattle.gix_ref_transaction.specs.OwnLocks.{is_in}
 
-abbrev pub log_rules : Rules → LogRules
+abbrev pub log_rules : ReflogPolicy → LogRules
 log_rules r = rules_of r.settings.now r.write_reflog r.committer
 
 abbrev pub refusal_of : AppendError → Refusal

@@ -37,7 +37,7 @@ pub struct Store<F> {
 #[derive(Debug, Drop, Error)]
 #[error_bound(F: Debug)]
 pub enum Error<F> {
-    /// A folder is not a clean path: it is empty, ends with a slash, or has a NUL, an empty component but for one leading
+    /// A folder is not a clean path: it is empty, ends with a slash, or has a NUL, an empty component except for one leading
     /// slash, or a component `.` or `..`.
     #[error("a folder of the repository is not a clean path")]
     PathNotClean { files: F },

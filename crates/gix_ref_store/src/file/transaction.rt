@@ -130,7 +130,7 @@ impl<'s, F: Files, T: Find> Transaction<'s, F, PackedRefs<T>> {
     /// for nothing else. That is done before any lock of an edit is taken, and no file is read for it.
     ///
     /// `Refused` has the first cause that applies, in the order of `prepare::Error`, and hands the finder back; then all is as before
-    /// but for the locks that it names, and folders on the way to locks. A finder that answers otherwise each time may be refused, or
+    /// except for the locks that it names, and folders on the way to locks. A finder that answers otherwise each time may be refused, or
     /// have another peeled id put into `packed-refs`, and nothing else comes of it. Reads one file for each edit, and makes one, and reads one
     /// more for each that follows; `packed-refs` is opened once, and searched once for each edit whose reference can be in it; the
     /// names of the edits are sorted.
@@ -221,7 +221,7 @@ impl<F: Files, T: Find> Prepared<'_, F, Plan<T>> {
     /// 4. renames the lock of `packed-refs` to its place, without the records of deleted references and with those of updates that
     ///    are put into it, or removes that file, where no record is left; and removes the loose files of deletions, and in the mode that
     ///    removes them those of updates that were put;
-    /// 5. removes the other locks, and tries the empty folders above deleted references and logs, whether a step failed or not, but for
+    /// 5. removes the other locks, and tries the empty folders above deleted references and logs, whether a step failed or not, except for
     ///    `logs`, `refs` and the folders right below `refs`.
     ///
     /// Empty folders in the way of a write are removed right before it, unless it was seen that none is there. `committer` is written in

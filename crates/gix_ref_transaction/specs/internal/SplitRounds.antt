@@ -124,7 +124,7 @@ pub record IsSplitRound (honest : Type 0) (s : Store) (T : Tree) (first : ℕ)
   pub by : IsRoundBy (values_of old) (values_of new) (values_of kids.edits.items)
   pub can_follow : All (CanFollow s) (values_of old)
 
--- Why a round fails: a fault of files or of memory, or the name of an edit that is looked up; and `Io` only where the count of faults rose.
+-- Why a round fails: a fault of files or of memory, or the name of an edit that is looked up; and of `Io` this fault was counted.
 pub record IsRoundFault (s : Store) (edits : List RefEdit) (before now : FaultCounts)
     (error : Error) : Type 0 where
   pub cause : IsIoOrMemory error ⊎ IsFirstMisnamed s (values_of edits) error

@@ -67,9 +67,10 @@ pub record IsSearchFault {R : Type 0} {G : Ghosts R} (records : Records R G) (Ba
   pub unread : AreHonest records → (kind : Kind) → OfFind (Bad kind) error
 
 -- Why the records of edits are not found, which asks for `packed-refs` at first: where that is well formed, by a fault of files or of memory;
--- `Packed` is returned for a `packed-refs` that is refused, and `PackedFind` where the record of an edit cannot be read; a fault of files came
--- with a rise of their count, or a read by a reader failed.
-pub record AreNotFound {F : Type 0} (honest : Type 0) (read : FileError → Type 0) (means : F → Meaning) (faults : F → FaultCounts)
+-- `Packed` is returned for a `packed-refs` that is refused, and `PackedFind` where the record of an edit cannot be read; a fault of files was
+-- counted by them or by a reader.
+pub record AreNotFound {F : Type 0} (honest : Type 0) (read : FileError → Type 0)
+    (means : F → Meaning) (faults : F → FaultCounts)
     (s : Store) (kind : Kind) (edits : List RefEdit) (before now : F) (error : Error) : Type 0 where
   pub sound : honest → (rs : List Record) → ArePackedRecords kind
       (view_of (means before).tree s.packed_path) rs → IsIoOrMemory error

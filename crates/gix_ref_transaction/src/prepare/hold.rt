@@ -21,7 +21,7 @@ ghost use Rattle.gix_ref_transaction.specs.PrepareSteps.{setting_of, updates, al
 use crate::edit::Edit;
 use crate::packing::{PackedRefs, Packing};
 use crate::prepare::Error;
-use crate::prepare::packed_lock::{is_absent, take_packed};
+use crate::prepare::packed_lock::{known_missing, take_packed};
 use crate::prepare::peel::peel_edits;
 use crate::prepare::records::find_records;
 use crate::prepare::split::SplitEdits;
@@ -130,12 +130,13 @@ fn find_and_peel<F: Files, T: Find>(
     files: &mut F,
     settings: &Settings<'_>,
     packed_refs: &PackedRefs<T>,
-    is_absent: bool,
+    known_missing: bool,
     edits: &mut [Edit],
 ) -> Result<(), Error>
-    requires absent { F.honest → is_absent ≡ true → packed_refs_in settings.now
+    requires absent { F.honest → known_missing ≡ true → packed_refs_in settings.now
         (F.means files.old) ≡ None }
-    requires places { place_paths edits.old ≡ places_of (setting_of settings.now) (updates edits.old) }
+    requires places { place_paths edits.old ≡ places_of (setting_of settings.now)
+        (updates edits.old) }
     ensures asked { all_asked edits.new ≡ all_asked edits.old }
     ensures opened { F.honest → OnOk result (IsOpenable settings.now.kind
         (packed_refs_in settings.now (F.means files.old))) }
@@ -154,7 +155,7 @@ fn find_and_peel<F: Files, T: Find>(
         settings.now.kind (updates edits.old)) files.old files.new) }
     ensures reads { OnlyReads F.honest F.means F.faults files.old files.new }
 {
-    find_records(alloc, files, settings, is_absent, edits)?;
+    find_records(alloc, files, settings, known_missing, edits)?;
     peel_edits(alloc, settings, packed_refs, edits)
 }
 
@@ -165,11 +166,11 @@ fn find_and_lock<F: Files, T: Find>(
     files: &mut F,
     settings: &Settings<'_>,
     packed_refs: &PackedRefs<T>,
-    is_absent: bool,
+    known_missing: bool,
     mut edits: Vec<Edit>,
     remains: Remains,
 ) -> Result<HeldEdits, LockFailure>
-    requires absent { F.honest → is_absent ≡ true →
+    requires absent { F.honest → known_missing ≡ true →
         packed_refs_in settings.now (F.means files.old) ≡ None }
     requires ready { AreReady (setting_of settings.now) settings.now.kind edits.items }
     requires room { HasRoom edits remains }
@@ -201,7 +202,14 @@ fn find_and_lock<F: Files, T: Find>(
     ensures takes { OnlyTakes F.honest F.means F.faults
         (locks_of (setting_of settings.now) (updates edits.items)) files.old files.new }
 {
-    match find_and_peel(alloc, files, settings, packed_refs, is_absent, &mut edits) {
+    match find_and_peel(
+        alloc,
+        files,
+        settings,
+        packed_refs,
+        known_missing,
+        &mut edits,
+    ) {
         Ok(()) => lock_all_or_none(
             alloc,
             files,
@@ -267,13 +275,13 @@ pub fn lock_edits<F: Files, T: Find>(
             });
         }
     };
-    let is_absent = is_absent(settings, &edits, &packed);
+    let known_missing = known_missing(settings, &edits, &packed);
     match find_and_lock(
         alloc,
         files,
         settings,
         packed_refs,
-        is_absent,
+        known_missing,
         edits,
         remains,
     ) {

@@ -7,7 +7,7 @@ ghost use Rattle.gix_ref_files.specs.Tree.{Tree, has_folders};
 ghost use Rattle.gix_ref_theory.specs.OnRealTrees.{view_of};
 ghost use Rattle.gix_ref_edits.specs.RefEdits.{is_of_reference, mode_of};
 ghost use Rattle.gix_ref_theory.specs.Edits.{Mode};
-ghost use Rattle.gix_ref_transaction.specs.Causes.{has_key as may_have_record, packed_taken, packs_edit, IsInTheWay, IsPackedCause};
+ghost use Rattle.gix_ref_transaction.specs.Causes.{is_packable as may_have_record, packed_taken, packs_edit, IsInTheWay, IsPackedCause};
 ghost use Rattle.gix_ref_transaction.specs.EditLocks.{TakesItsLock};
 ghost use Rattle.gix_ref_transaction.specs.HeldLocks.{OnlyTakes};
 ghost use Rattle.gix_ref_transaction.specs.PackedLock.{IsPackedFault, IsPackedTaken, IsPackedTakenWhereDue};
@@ -36,18 +36,18 @@ fn is_of_the_reference(change: &Change) -> bool
 }
 
 /// Whether an edit is of a reference that may have a record in `packed-refs`.
-pub(crate) fn has_key(settings: &Settings<'_>, update: &RefEdit) -> bool
+pub(crate) fn is_packable(settings: &Settings<'_>, update: &RefEdit) -> bool
     ensures { result ≡ may_have_record (setting_of settings.now) update.now }
 {
     is_of_the_reference(&update.change) && packed_key(update.name.as_ref()).is_some()
 }
 
 /// Whether one of these edits is of a reference that may have a record in `packed-refs`.
-fn ask(settings: &Settings<'_>, edits: &[Edit]) -> bool
+fn may_touch_packed_refs(settings: &Settings<'_>, edits: &[Edit]) -> bool
     ensures { result
         ≡ list_any (λ edit. may_have_record (setting_of settings.now) edit.update) edits.now }
 {
-    edits.iter().any(|edit| has_key(settings, &edit.update))
+    edits.iter().any(|edit| is_packable(settings, &edit.update))
 }
 
 /// Whether one of these edits puts an object into `packed-refs`.
@@ -101,7 +101,7 @@ fn take_lock<F: Files>(
 }
 
 /// Refused where something is at the path of the lock of `packed-refs`, where that is no file and the lock is not taken.
-fn pass_lock<F: Files>(files: &mut F, lock: LockFile) -> Result<Option<LockFile>, Error>
+fn refuse_stale_lock<F: Files>(files: &mut F, lock: LockFile) -> Result<Option<LockFile>, Error>
     ensures none { IfOk result (λ packed. packed ≡ None) }
     ensures free { F.honest → OnOk result ((F.means files.old).tree (lock_of lock) ≡ None) }
     ensures refused { IfErr result (IsPackedFault F.honest F.means F.faults (lock_of lock ∷ [])
@@ -116,12 +116,12 @@ fn pass_lock<F: Files>(files: &mut F, lock: LockFile) -> Result<Option<LockFile>
 }
 
 /// Whether it is known that `packed-refs` is no file, where one of the edits may have a record in it and its lock was not taken.
-pub fn is_absent(settings: &Settings<'_>, edits: &[Edit], packed: &Option<LockFile>) -> bool
+pub fn known_missing(settings: &Settings<'_>, edits: &[Edit], packed: &Option<LockFile>) -> bool
     ensures { (mode : Mode) (T : Tree) → packed_places packed.now
         ≡ packed_taken (setting_of settings.now) mode T (updates edits.now) → result ≡ true →
         view_of T (setting_of settings.now).packed_path ≡ None }
 {
-    packed.is_none() && ask(settings, edits)
+    packed.is_none() && may_touch_packed_refs(settings, edits)
 }
 
 /// Takes the lock of `packed-refs`, where one of the edits may have a record in it, and that is a file or an object is put into it; `None`
@@ -144,7 +144,7 @@ pub fn take_packed<F: Files>(
         F.honest F.means F.faults (packed_locks (setting_of settings.now) (mode_of_packing packing)
         (F.means files.old).tree (updates edits.now)) files.old files.new }
 {
-    if !ask(settings, edits) {
+    if !may_touch_packed_refs(settings, edits) {
         return Ok(None);
     }
     let lock = LockFile::at(settings.packed_refs_path(alloc)?)?;
@@ -152,6 +152,6 @@ pub fn take_packed<F: Files>(
     if may_change(settings, packing, edits, is_there) {
         take_lock(files, lock, is_there)
     } else {
-        pass_lock(files, lock)
+        refuse_stale_lock(files, lock)
     }
 }

@@ -81,7 +81,7 @@ fn id_of<R: ReadAt + Drop>(
     ensures still { (kind : Kind) → AreStillAsked kind None records.old records.new }
     ensures ready { IsReady records.new }
 {
-    if settings.is_own_key(name) {
+    if settings.key_is_name(name) {
         return id_at(records, name);
     }
     match settings.key_name(alloc, name)? {
@@ -118,7 +118,7 @@ fn holds_target<F: Files>(
 
 /// Passes over a search that failed for the record of an edit whose loose file holds a target, which hides the record; not that of a
 /// deletion of the reference, which removes the record too. One call of files at the most.
-fn pass_hidden<F: Files>(
+fn ignore_if_hidden<F: Files>(
     alloc: Global,
     files: &mut F,
     settings: &Settings<'_>,
@@ -177,7 +177,7 @@ fn id_unless_hidden<F: Files>(
     match id_of(alloc, settings, edit.update.name.as_ref(), records) {
         Ok(id) => Ok(id),
         Err(error) => {
-            pass_hidden(alloc, files, settings, edit, error)?;
+            ignore_if_hidden(alloc, files, settings, edit, error)?;
             Ok(None)
         }
     }
@@ -192,7 +192,8 @@ fn find_ids<F: Files>(
     records: &mut Records<'_, F::Reader>,
 ) -> Result<(), Error>
     requires ready { IsReady records.old }
-    requires places { place_paths edits.old ≡ places_of (setting_of settings.now) (updates edits.old) }
+    requires places { place_paths edits.old ≡ places_of (setting_of settings.now)
+        (updates edits.old) }
     ensures asked { all_asked edits.new ≡ all_asked edits.old }
     ensures found { (kind : Kind) (rs : List Record) →
         AreAsked kind None records.old rs → OnOk result
@@ -201,7 +202,8 @@ fn find_ids<F: Files>(
         (AllWithIds (IsAskedId (setting_of settings.now) kind (contents F.means files.old)
         records.old) (updates edits.old) (ids_in edits.new)) }
     ensures failed { IfErr result (IsSearchFault records.old (λ kind. OfSomeKey
-        (λ edit. F.honest → IsHidden (setting_of settings.now) (contents F.means files.old) edit → ⊥)
+        (λ edit. F.honest → IsHidden (setting_of settings.now) (contents F.means files.old) edit →
+        ⊥)
         (IsStuckKey kind records.old) (setting_of settings.now) (updates edits.old))) }
     ensures counted { IfErr result (IsCountedWith (AreHonest records.old)
         (HasReadFault F.Reader.faults) (F.faults files.old) (F.faults files.new)) }
@@ -214,16 +216,16 @@ fn find_ids<F: Files>(
 }
 
 /// The records of `packed-refs`, which is not open yet; none where it is known that there is no such file.
-fn unopened<'b, R: ReadAt + Drop>(is_absent: bool) -> Records<'b, R>
-    ensures asked { (kind : Kind) (file : Option (List ℕ)) (rs : List Record) → (is_absent ≡ true →
+fn unopened<'b, R: ReadAt + Drop>(known_missing: bool) -> Records<'b, R>
+    ensures asked { (kind : Kind) (file : Option (List ℕ)) (rs : List Record) → (known_missing ≡ true →
         file ≡ None) → ArePackedRecords kind file rs → AreAsked kind file result rs }
     ensures searched { (kind of_kind : Kind) (file : Option (List ℕ)) (text : List ℕ) →
         IsSearched kind file result of_kind text → IsOpenedText kind file of_kind text }
     ensures honest { AreHonest result }
-    ensures none { (file : Option (List ℕ)) → (is_absent ≡ true → file ≡ None) →
+    ensures none { (file : Option (List ℕ)) → (known_missing ≡ true → file ≡ None) →
         SearchesNone file result → file ≡ None }
 {
-    if is_absent {
+    if known_missing {
         Records::None
     } else {
         Records::Unopened
@@ -237,12 +239,13 @@ pub fn find_records<F: Files>(
     alloc: Global,
     files: &mut F,
     settings: &Settings<'_>,
-    is_absent: bool,
+    known_missing: bool,
     edits: &mut [Edit],
 ) -> Result<(), Error>
-    requires absent { F.honest → is_absent ≡ true → packed_refs_in settings.now
+    requires absent { F.honest → known_missing ≡ true → packed_refs_in settings.now
         (F.means files.old) ≡ None }
-    requires places { place_paths edits.old ≡ places_of (setting_of settings.now) (updates edits.old) }
+    requires places { place_paths edits.old ≡ places_of (setting_of settings.now)
+        (updates edits.old) }
     ensures asked { all_asked edits.new ≡ all_asked edits.old }
     ensures found { F.honest → (rs : List Record) → ArePackedRecords settings.now.kind
         (packed_refs_in settings.now (F.means files.old)) rs → OnOk result
@@ -256,7 +259,7 @@ pub fn find_records<F: Files>(
         (setting_of settings.now) settings.now.kind (updates edits.old) files.old files.new) }
     ensures reads { OnlyReads F.honest F.means F.faults files.old files.new }
 {
-    let mut records = unopened(is_absent);
+    let mut records = unopened(known_missing);
     match records.open(alloc, files, *settings) {
         Ok(()) => find_ids(alloc, files, settings, edits, &mut records),
         Err(error) => Err(refused(error)),

@@ -22,4 +22,4 @@ returns-in-Err-clause-ended g c h =
     search (rules, does)
 
 pub returns-in-Err-clause-memory : goal.returns-in-Err-clause-memory
-returns-in-Err-clause-memory g c = subst HasMemory (sym c.once_done.ensures) (memory_once_done c.in-Err.cause c.in-Err.ensures.memory)
+returns-in-Err-clause-memory g c = subst HasMemory (sym c.as_sync_error.ensures) (memory_once_done c.in-Err.cause c.in-Err.ensures.memory)

@@ -84,7 +84,7 @@ impl<'a, F: ReadAt> Reverse<'a, F> {
     }
 
     /// The place of the last line feed in the window.
-    fn last_feed(&self) -> Option<usize>
+    fn last_newline(&self) -> Option<usize>
         ensures { IsLastByte (is_byte 10) (take self.now.end self.now.buf.now) result }
     {
         last_place(&self.buf[..self.end], b'\n')
@@ -126,13 +126,13 @@ impl<'a, F: ReadAt> Reverse<'a, F> {
         ensures full { IfOk result (λ start. start ≡ None → (self.new.pos ≡ 0)
             ⊎ (self.new.end ≡ length self.new.buf.now)) }
     {
-        if let Some(start) = self.last_feed() {
+        if let Some(start) = self.last_newline() {
             return Ok(Some(start));
         }
         if self.pos > 0 && self.end < self.buf.len() {
             self.widen()?;
         }
-        Ok(self.last_feed())
+        Ok(self.last_newline())
     }
 
     /// The line that the window holds from a place on. One of the common form takes the fast path.

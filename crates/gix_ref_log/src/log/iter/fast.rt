@@ -8,7 +8,7 @@ ghost use Rattle.gix_ref_log.specs.internal.LogFast.{HasFront, BeginsWithLine};
 use crate::actor::SignatureRef;
 use crate::log::line::LineRef;
 use crate::log::lines::strip_cr;
-use gix_ref_hash::bytes::{cut, some_first_break};
+use gix_ref_hash::bytes::{cut, find_tab_or_lf};
 use gix_ref_hash::hash::are_hex;
 
 /// The ids of a SHA-1 at the front, and what follows the space behind them. `None` says nothing.
@@ -34,7 +34,7 @@ fn sha1_ids(text: &[u8]) -> Option<(&[u8], &[u8], &[u8])>
 fn cut_at_tab(text: &[u8]) -> Option<(&[u8], &[u8])>
     ensures { IfSome result (λ p. Cuts 9 text.now p.0.now p.1.now × NoByte 10 p.0.now) }
 {
-    let place = some_first_break(text)?;
+    let place = find_tab_or_lf(text)?;
     if text[place] != b'\t' {
         return None;
     }

@@ -139,7 +139,7 @@ pub fn name_at_record_start(text: &[u8], kind: Kind) -> Option<&[u8]>
 }
 
 /// Whether no byte up to CR is in the name.
-pub fn is_plain(name: &[u8]) -> bool
+pub fn has_no_control(name: &[u8]) -> bool
     ensures { MatchBool result (IsPlain name.now) (IsPlain name.now → ⊥) }
 {
     let mut least = u8::MAX;
@@ -167,7 +167,7 @@ fn ends_in_line_feed(text: &[u8], name: &[u8]) -> bool
 /// `None` where the part does not decide. Whether the line of another name ends is not looked at: a line's end is
 /// below each byte of a plain name.
 #[inline(always)]
-pub fn quick_order(part: &[u8], kind: Kind, wanted: &[u8]) -> Option<Ordering>
+pub fn fast_compare(part: &[u8], kind: Kind, wanted: &[u8]) -> Option<Ordering>
     requires { IsPlain wanted.now }
     ensures compares { IfSome result (λ order. (text name : List ℕ) →
         part.now ≡ take (length part.now) text → NameAt kind text name →
@@ -201,7 +201,7 @@ pub fn order_at(text: &[u8], kind: Kind, wanted: &[u8], sure: bool) -> Option<Or
     ensures { OrdersIfNamed kind text.now wanted.now sure result }
 {
     if !sure {
-        if let Some(order) = quick_order(text, kind, wanted) {
+        if let Some(order) = fast_compare(text, kind, wanted) {
             return Some(order);
         }
     }

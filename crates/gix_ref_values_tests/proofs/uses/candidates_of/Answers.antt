@@ -9,8 +9,8 @@ returns c =
     let p = partial_ref_bytes c.args.name in
     let behind = λ (front : List ℕ). front ++ p in
     let bytes = λ (front : Bor (List ℕ)). front.now in
-    let items = c.fronts_of-front-items.result.now in
+    let items = c.lookup_prefixes-front-items.result.now in
     c.loop-front.invariant
     ∙ ap (map (λ (front : Bor (List ℕ)). front.now ++ p)) (take_all c.loop-front.front-index items c.loop-front-test.false)
     ∙ sym (map-map behind bytes items)
-    ∙ ap (map behind) c.fronts_of-front-items.ensures
+    ∙ ap (map behind) c.lookup_prefixes-front-items.ensures

@@ -1,6 +1,6 @@
 use Rattle.std.proofs.Common.{◌≡◌, inl, ℕ, ◌+◌, List, [], ◌++◌, Some, None, Bor, get_or, drop, arith, sym, ◌∙◌, ap, subst}
 use Rattle.std.specs.List.{AllByRecursion}
-use Rattle.gix_ref_name.specs.Candidates.{candidates, fronts_of}
+use Rattle.gix_ref_name.specs.Candidates.{candidates, lookup_prefixes}
 use Rattle.gix_ref_name.specs.Names.{partial_ref_bytes, full_ref_bytes}
 use Rattle.gix_ref_target.specs.PackedRecords.{Record}
 use Rattle.gix_ref_files.specs.Tree.{Tree}
@@ -22,10 +22,10 @@ returns-in_default-clause-failed g c =
     let before = g.F.Files.faults c.args.files.now in
     let now = g.F.Files.faults c.loop-front.files in
     let p = partial_ref_bytes c.args.name in
-    let lent = c.fronts_of-fronts.result.now in
+    let lent = c.lookup_prefixes-fronts.result.now in
     let i = c.loop-front.front-index in
     let d : Bor (List ℕ) = record { ref_ptr = (0, 0); now = [] } in
-    let next = next_name lent (fronts_of p) p i d c.fronts_of-fronts.ensures (omega arith) in
+    let next = next_name lent (lookup_prefixes p) p i d c.lookup_prefixes-fronts.ensures (omega arith) in
     c.loop-front.invariant.fails now Memory (fails_here (IsPassed {R = g.row.F-Reader.Denot} {G = g.F.Reader.ReadAt} g.F.Files.honest settings first.tree c.args.records.now)
     (λ n. CandidateFails {R = g.row.F-Reader.Denot} {G = g.F.Reader.ReadAt} g.F.Files.honest settings first.tree c.args.records.now before now n Memory)
     (candidates p) i ((get_or lent i d).now ++ p) next (inl tt))
@@ -39,10 +39,10 @@ returns-in-Err-clause-failed g c =
     let before = g.F.Files.faults c.args.files.now in
     let now = g.F.Files.faults c.find_candidate.new.files in
     let p = partial_ref_bytes c.args.name in
-    let lent = c.fronts_of-fronts.result.now in
+    let lent = c.lookup_prefixes-fronts.result.now in
     let i = c.loop-front.front-index in
     let d : Bor (List ℕ) = record { ref_ptr = (0, 0); now = [] } in
-    let next = next_name lent (fronts_of p) p i d c.fronts_of-fronts.ensures (omega arith) in
+    let next = next_name lent (lookup_prefixes p) p i d c.lookup_prefixes-fronts.ensures (omega arith) in
     let named = c.as_ref.ensures ∙ c.in-Ok.ensures.bytes in
     let error = c.in-Err.error in
     let Fails = λ (n : List ℕ). CandidateFails {R = g.row.F-Reader.Denot} {G = g.F.Reader.ReadAt} g.F.Files.honest settings first.tree c.args.records.now before now n error in
@@ -58,11 +58,11 @@ returns-in-Ok-Some-clause-found g c h rs are =
     let s = meaning_in settings in
     let first = g.F.Files.means c.args.files.now in
     let p = partial_ref_bytes c.args.name in
-    let lent = c.fronts_of-fronts.result.now in
+    let lent = c.lookup_prefixes-fronts.result.now in
     let i = c.loop-front.front-index in
     let d : Bor (List ℕ) = record { ref_ptr = (0, 0); now = [] } in
     let n = (get_or lent i d).now ++ p in
-    let next = next_name lent (fronts_of p) p i d c.fronts_of-fronts.ensures (omega arith) in
+    let next = next_name lent (lookup_prefixes p) p i d c.lookup_prefixes-fronts.ensures (omega arith) in
     let named = c.as_ref.ensures ∙ c.in-Ok.ensures.bytes in
     let same = (x.leaves h).tree in
     let r = c.in-Ok-Some.reference in
@@ -79,11 +79,11 @@ returns-in-Ok-Some-clause-hit g c h honest =
     let first = g.F.Files.means c.args.files.now in
     let mid = g.F.Files.means c.loop-front.files in
     let p = partial_ref_bytes c.args.name in
-    let lent = c.fronts_of-fronts.result.now in
+    let lent = c.lookup_prefixes-fronts.result.now in
     let i = c.loop-front.front-index in
     let d : Bor (List ℕ) = record { ref_ptr = (0, 0); now = [] } in
     let n = (get_or lent i d).now ++ p in
-    let next = next_name lent (fronts_of p) p i d c.fronts_of-fronts.ensures (omega arith) in
+    let next = next_name lent (lookup_prefixes p) p i d c.lookup_prefixes-fronts.ensures (omega arith) in
     let named = c.as_ref.ensures ∙ c.in-Ok.ensures.bytes in
     let r = c.in-Ok-Some.reference in
     let Hits = λ (m : List ℕ). IsHit {R = g.row.F-Reader.Denot} {G = g.F.Reader.ReadAt} settings (view_of first.tree) c.args.records.now m r in
@@ -101,12 +101,12 @@ loop-front-preserved g c =
     let view = view_of first.tree in
     let before = g.F.Files.faults c.args.files.now in
     let p = partial_ref_bytes c.args.name in
-    let lent = c.fronts_of-fronts.result.now in
+    let lent = c.lookup_prefixes-fronts.result.now in
     let i = c.loop-front.front-index in
     let d : Bor (List ℕ) = record { ref_ptr = (0, 0); now = [] } in
     let n = (get_or lent i d).now ++ p in
     let names = candidates p in
-    let next = next_name lent (fronts_of p) p i d c.fronts_of-fronts.ensures (omega arith) in
+    let next = next_name lent (lookup_prefixes p) p i d c.lookup_prefixes-fronts.ensures (omega arith) in
     let named = c.as_ref.ensures ∙ c.in-Ok.ensures.bytes in
     let same = λ (h : g.F.Files.honest). (x.leaves h).tree in
     let asked = λ (h : g.F.Files.honest) (rs : List Record) (are : AreAsked settings.kind (packed_refs_at settings first.tree) c.args.records.now rs). subst (λ (T : Tree). AreAsked settings.kind (packed_refs_at settings T) c.loop-front.records rs) (sym (same h)) (x.asked h rs are) in

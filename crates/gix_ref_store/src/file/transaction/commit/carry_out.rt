@@ -9,7 +9,7 @@ ghost use Rattle.gix_ref_store.specs.Store.{files_of, with_files};
 use crate::file::store::Store;
 use crate::file::transaction::commit::decide::Decisions;
 use gix_ref_commit::error::Error;
-use gix_ref_commit::failure::{failure, is_renamed, unless_renamed};
+use gix_ref_commit::failure::{failure, is_renamed, still_held};
 use gix_ref_commit::tidy::remove_empty_folders;
 use gix_ref_files::files::Files;
 use gix_ref_files::lock::LockFile;
@@ -66,7 +66,7 @@ impl<F: Files> Store<F> {
         };
         if let Err(unfinished) = self.publish(alloc, &edits, &packed, &rewrite, &ways) {
             let done = unfinished.done(edits.len());
-            let packed = unless_renamed(packed, unfinished.is_packed_renamed(&rewrite));
+            let packed = still_held(packed, unfinished.is_packed_renamed(&rewrite));
             let Remains {
                 edits,
                 left,
@@ -80,7 +80,7 @@ impl<F: Files> Store<F> {
             });
         }
         let done = edits.len();
-        let packed = unless_renamed(packed, is_renamed(&rewrite));
+        let packed = still_held(packed, is_renamed(&rewrite));
         let released = release_all(&mut self.files, done, packed, edits, remains);
         remove_empty_folders(&mut self.files, &self.dirs, &removed);
         Ok(released)

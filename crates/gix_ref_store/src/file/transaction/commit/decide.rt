@@ -12,7 +12,7 @@ use crate::file::store::Store;
 use gix_ref_commit::decide::{NewPacked, decide_folders, decide_packed};
 use gix_ref_commit::error::Error;
 use gix_ref_commit::failure::{undecided, unlogged};
-use gix_ref_commit::folders::InWay;
+use gix_ref_commit::folders::EmptyDirs;
 use gix_ref_commit::run::{Unfinished, run_plan};
 use gix_ref_commit::tidy::removed_paths;
 use gix_ref_files::files::Files;
@@ -31,7 +31,7 @@ pub(crate) struct Decisions {
     /// The path of `packed-refs`, where its lock is held; empty where it is not.
     pub path: Vec<u8>,
     /// The folders that are removed before each step.
-    pub ways: Vec<InWay>,
+    pub ways: Vec<EmptyDirs>,
     /// The paths of the logs and loose files that are removed.
     pub removed: Vec<Vec<u8>>,
 }
@@ -116,7 +116,7 @@ impl<F: Files> Store<F> {
         edits: &[Edit],
         packed: &Option<LockFile>,
         rewrite: &Rewrite,
-        ways: &[InWay],
+        ways: &[EmptyDirs],
     ) -> Result<(), Unfinished>
         ensures finished { OnOk result (RunsAll F.honest
             (commit_entries self.old.dirs edits.now packed.now rewrite.now ways.now)

@@ -16,7 +16,7 @@ ghost use Rattle.gix_ref_transaction.specs.Causes.{AllValid, AreRecordIds, IsCou
 
 use crate::file::settings::settings;
 use crate::file::store::Store;
-use crate::file::transaction::prepare::compose::asked_edits;
+use crate::file::transaction::prepare::compose::compose_names;
 use gix_ref_edits::transaction::RefEdit;
 use gix_ref_files::files::Files;
 use gix_ref_lookup::settings::Settings;
@@ -31,7 +31,7 @@ use gix_ref_transaction::release::Remains;
 use std::alloc::{AllocError, Global};
 
 /// A refusal before any lock was tried.
-fn untouched(alloc: Global, error: Error) -> LockFailure
+fn refused_before_locks(alloc: Global, error: Error) -> LockFailure
     ensures error { result.error ≡ error }
     ensures none { result.locks_left.items ≡ [] }
 {
@@ -107,7 +107,7 @@ impl<F: Files> Store<F> {
     {
         let settings = settings!(self);
         if let Err(error) = check_names(alloc, &split.edits) {
-            return Err(untouched(alloc, error));
+            return Err(refused_before_locks(alloc, error));
         }
         match begun(alloc, &settings, split) {
             Ok((edits, remains)) => {
@@ -120,7 +120,7 @@ impl<F: Files> Store<F> {
                     remains,
                 )
             }
-            Err(_) => Err(untouched(alloc, Error::Memory)),
+            Err(_) => Err(refused_before_locks(alloc, Error::Memory)),
         }
     }
 
@@ -195,7 +195,7 @@ impl<F: Files> Store<F> {
     {
         match self.split(alloc, edits) {
             Ok(split) => self.lock_split(alloc, packed_refs, split),
-            Err(error) => Err(untouched(alloc, error)),
+            Err(error) => Err(refused_before_locks(alloc, error)),
         }
     }
 
@@ -217,9 +217,9 @@ impl<F: Files> Store<F> {
             edits.items held.packed held.edits.items) }
         ensures room { IfOk result (λ held. HasRoom held.edits held.remains) }
     {
-        match asked_edits(alloc, self.precompose_unicode, edits) {
+        match compose_names(alloc, self.precompose_unicode, edits) {
             Ok(asked) => self.check_and_lock(alloc, packed_refs, asked),
-            Err(_) => Err(untouched(alloc, Error::Memory)),
+            Err(_) => Err(refused_before_locks(alloc, Error::Memory)),
         }
     }
 }

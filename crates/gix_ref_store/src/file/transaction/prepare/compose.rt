@@ -49,7 +49,7 @@ fn compose_edits(alloc: Global, edits: Vec<RefEdit>) -> Result<Vec<RefEdit>, All
 
 /// The edits that a store is asked for: of the composed names, where it composes names. A name of ASCII bytes stays as it is.
 /// The error says that there was no memory.
-pub(crate) fn asked_edits(
+pub(crate) fn compose_names(
     alloc: Global,
     composes: bool,
     edits: Vec<RefEdit>,

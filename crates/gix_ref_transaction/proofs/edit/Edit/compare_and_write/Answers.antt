@@ -17,7 +17,7 @@ pub returns-clause-written : goal.returns-clause-written
 returns-clause-written g c h =
     let s = setting_of c.args.settings.now in
     let T = (g.F.Files.means c.args.files.now).tree in
-    let T' = (g.F.Files.means c.was_at.new.files).tree in
+    let T' = (g.F.Files.means c.read_old_value.new.files).tree in
     let view = view_of T in
     let old = c.args.self.now in
     let new = c.decide.new.self in
@@ -26,9 +26,9 @@ returns-clause-written g c h =
     let placed : c.place.result.now ≡ s.place name = c.place.ensures ∙ c.requires.place in
     let bad : was.damaged ≡ is_damaged s (view (s.place name)) = c.in_ok-was.ensures.damaged h ∙ ap (λ (p : Path). is_damaged s (view p)) placed in
     let allowed : s.is_prohibited (s.place name) ≡ false = subst (λ (p : Path). s.is_prohibited p ≡ false) c.requires.place c.requires.allowed in
-    let same : T' ≡ T = (c.was_at.ensures.reads.leaves h).tree in
+    let same : T' ≡ T = (c.read_old_value.ensures.reads.leaves h).tree in
     let at : lock_of new.lock ≡ lock_of old.lock = ap (λ p. lock_of p.1) c.decide.ensures.given in
-    let still = (c.was_at.ensures.reads.passes h).disk in
+    let still = (c.read_old_value.ensures.reads.passes h).disk in
     both_on_ok c.write.result (c.write.ensures.filled h) (c.write.ensures.whole h) (λ fills wholes. record {
       decided = λ asked empty.
           let is : value_of was.target ≡ found s view name =
@@ -46,5 +46,5 @@ returns-clause-written g c h =
             filled = filled_with T T' (g.F.Files.means c.write.new.files).tree (lock_of old.lock) (lock_of new.lock) _ _ same at text empty fills;
           };
       whole = λ whole. subst (IsSomeWhole (disk_of (g.F.Files.means c.write.new.files))) at
-          (wholes (subst (λ (l : Path). IsWholeAt (disk_of (g.F.Files.means c.was_at.new.files)) l []) (sym at) (subst (λ (D : Disk). IsWholeAt D (lock_of old.lock) []) (sym still) whole)));
+          (wholes (subst (λ (l : Path). IsWholeAt (disk_of (g.F.Files.means c.read_old_value.new.files)) l []) (sym at) (subst (λ (D : Disk). IsWholeAt D (lock_of old.lock) []) (sym still) whole)));
     })

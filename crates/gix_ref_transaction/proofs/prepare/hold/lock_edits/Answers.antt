@@ -260,5 +260,5 @@ find_and_lock-requires-clause-absent g c h is =
     let off : (q : Path) → q ≢ lock_of s.packed_path → IsSameButWay (lock_of s.packed_path) old.tree mid.tree q = off_lock s old.tree mid.tree c.in-Ok.packed c.in-Ok.ensures.taken.place (c.in-Ok.ensures.taken.takes h) in
     let due : packed_places c.in-Ok.packed ≡ packed_taken s (mode_of_packing c.packing.result) old.tree U = rw c.deref.ensures.value at (c.in-Ok.ensures.taken.due h) in
     same_packed s kind old.tree mid.tree off apart.packed_lock
-    ∙ c.is_absent-is_absent.ensures (mode_of_packing c.packing.result) old.tree
+    ∙ c.known_missing-known_missing.ensures (mode_of_packing c.packing.result) old.tree
     (subst (λ (l : List Edit). packed_places c.in-Ok.packed ≡ packed_taken s (mode_of_packing c.packing.result) old.tree (updates l)) (sym c.deref-2.ensures.value) due) is

@@ -25,12 +25,12 @@ use Rattle.gix_ref_transaction.specs.declared.prepare.error.Error.{Error}
 use Rattle.gix_ref_transaction.specs.declared.prepare.error.Error.TheVariants.{PackedTransactionAcquire}
 use Rattle.gix_ref_transaction.proofs.prepare.packed_lock.take_packed.Goals as goal
 
-pub returns-then-not-ask-clause-taken : goal.returns-then-not-ask-clause-taken
-returns-then-not-ask-clause-taken g c =
+pub returns-then-not-may_touch_packed_refs-clause-taken : goal.returns-then-not-may_touch_packed_refs-clause-taken
+returns-then-not-may_touch_packed_refs-clause-taken g c =
     let s = setting_of c.args.settings.now in
     let T = (g.F.Files.means c.args.files.now).tree in
     let edits = updates c.args.edits.now in
-    let asks_not : ask_packed s edits ≡ false = asked s c.args.edits.now c.ask.result c.ask.ensures ∙ c.if-not-ask.true in
+    let asks_not : ask_packed s edits ≡ false = asked s c.args.edits.now c.may_touch_packed_refs.result c.may_touch_packed_refs.ensures ∙ c.if-not-may_touch_packed_refs.true in
     record {
       place = search rules;
       due = λ h. unasked_taken s (mode_of_packing c.args.packing) T edits asks_not;
@@ -69,7 +69,7 @@ returns-then-may_change-clause-taken g c =
     let T = old.tree in
     let edits = updates c.args.edits.now in
     let lock = c.in_ok-lock.lock in
-    let asks : ask_packed s edits ≡ true = asked s c.args.edits.now c.ask.result c.ask.ensures ∙ c.if-not-ask.false in
+    let asks : ask_packed s edits ≡ true = asked s c.args.edits.now c.may_touch_packed_refs.result c.may_touch_packed_refs.ensures ∙ c.if-not-may_touch_packed_refs.false in
     let at : lock ≡ s.packed_path = c.in_ok-lock.ensures ∙ c.in_ok-packed_refs_path.ensures in
     let same : F.honest → (F.means c.kind.new.self).tree ≡ T = λ h. (c.kind.ensures.leaves h).tree in
     let node : F.honest → c.in_ok-kind.field-0 ≡ node_at T s.packed_path = λ h. c.in_ok-kind.ensures.answer h ∙ ap (node_at T) (c.place.ensures ∙ at) in
@@ -94,7 +94,7 @@ returns-then-may_change-clause-refused g c =
     let T = old.tree in
     let edits = updates c.args.edits.now in
     let lock = c.in_ok-lock.lock in
-    let asks : ask_packed s edits ≡ true = asked s c.args.edits.now c.ask.result c.ask.ensures ∙ c.if-not-ask.false in
+    let asks : ask_packed s edits ≡ true = asked s c.args.edits.now c.may_touch_packed_refs.result c.may_touch_packed_refs.ensures ∙ c.if-not-may_touch_packed_refs.false in
     let at : lock ≡ s.packed_path = c.in_ok-lock.ensures ∙ c.in_ok-packed_refs_path.ensures in
     let same : F.honest → (F.means c.kind.new.self).tree ≡ T = λ h. (c.kind.ensures.leaves h).tree in
     let node : F.honest → c.in_ok-kind.field-0 ≡ node_at T s.packed_path = λ h. c.in_ok-kind.ensures.answer h ∙ ap (node_at T) (c.place.ensures ∙ at) in
@@ -119,7 +119,7 @@ returns-then-may_change-clause-takes g c =
     let T = old.tree in
     let edits = updates c.args.edits.now in
     let lock = c.in_ok-lock.lock in
-    let asks : ask_packed s edits ≡ true = asked s c.args.edits.now c.ask.result c.ask.ensures ∙ c.if-not-ask.false in
+    let asks : ask_packed s edits ≡ true = asked s c.args.edits.now c.may_touch_packed_refs.result c.may_touch_packed_refs.ensures ∙ c.if-not-may_touch_packed_refs.false in
     let at : lock ≡ s.packed_path = c.in_ok-lock.ensures ∙ c.in_ok-packed_refs_path.ensures in
     let same : F.honest → (F.means c.kind.new.self).tree ≡ T = λ h. (c.kind.ensures.leaves h).tree in
     let node : F.honest → c.in_ok-kind.field-0 ≡ node_at T s.packed_path = λ h. c.in_ok-kind.ensures.answer h ∙ ap (node_at T) (c.place.ensures ∙ at) in
@@ -148,15 +148,15 @@ returns-else-may_change-clause-taken g c =
     let T = old.tree in
     let edits = updates c.args.edits.now in
     let lock = c.in_ok-lock.lock in
-    let asks : ask_packed s edits ≡ true = asked s c.args.edits.now c.ask.result c.ask.ensures ∙ c.if-not-ask.false in
+    let asks : ask_packed s edits ≡ true = asked s c.args.edits.now c.may_touch_packed_refs.result c.may_touch_packed_refs.ensures ∙ c.if-not-may_touch_packed_refs.false in
     let at : lock ≡ s.packed_path = c.in_ok-lock.ensures ∙ c.in_ok-packed_refs_path.ensures in
     let same : F.honest → (F.means c.kind.new.self).tree ≡ T = λ h. (c.kind.ensures.leaves h).tree in
     let node : F.honest → c.in_ok-kind.field-0 ≡ node_at T s.packed_path = λ h. c.in_ok-kind.ensures.answer h ∙ ap (node_at T) (c.place.ensures ∙ at) in
     let due : F.honest → may_change s mode T edits ≡ c.may_change.result = λ h. may_by s mode T c.args.edits.now c.in_ok-kind.field-0 (node h) c.is_file_node-is_there.result c.is_file_node-is_there.ensures c.may_change.result c.may_change.ensures in
-    let reads = c.pass_lock.ensures.reads in
-    let new = c.pass_lock.new.files in
+    let reads = c.refuse_stale_lock.ensures.reads in
+    let new = c.refuse_stale_lock.new.files in
     let all : F.honest → (F.means new).tree ≡ T = λ h. (reads.leaves h).tree ∙ same h in
-    passed F.honest s mode edits old (F.means c.kind.new.self) (F.means new) asks (λ h. due h ∙ c.if-may_change.false) lock at same all c.pass_lock.result c.pass_lock.ensures.none c.pass_lock.ensures.free
+    passed F.honest s mode edits old (F.means c.kind.new.self) (F.means new) asks (λ h. due h ∙ c.if-may_change.false) lock at same all c.refuse_stale_lock.result c.refuse_stale_lock.ensures.none c.refuse_stale_lock.ensures.free
 
 pub returns-else-may_change-clause-refused : goal.returns-else-may_change-clause-refused
 returns-else-may_change-clause-refused g c =
@@ -167,20 +167,20 @@ returns-else-may_change-clause-refused g c =
     let T = old.tree in
     let edits = updates c.args.edits.now in
     let lock = c.in_ok-lock.lock in
-    let asks : ask_packed s edits ≡ true = asked s c.args.edits.now c.ask.result c.ask.ensures ∙ c.if-not-ask.false in
+    let asks : ask_packed s edits ≡ true = asked s c.args.edits.now c.may_touch_packed_refs.result c.may_touch_packed_refs.ensures ∙ c.if-not-may_touch_packed_refs.false in
     let at : lock ≡ s.packed_path = c.in_ok-lock.ensures ∙ c.in_ok-packed_refs_path.ensures in
     let same : F.honest → (F.means c.kind.new.self).tree ≡ T = λ h. (c.kind.ensures.leaves h).tree in
     let node : F.honest → c.in_ok-kind.field-0 ≡ node_at T s.packed_path = λ h. c.in_ok-kind.ensures.answer h ∙ ap (node_at T) (c.place.ensures ∙ at) in
     let due : F.honest → may_change s mode T edits ≡ c.may_change.result = λ h. may_by s mode T c.args.edits.now c.in_ok-kind.field-0 (node h) c.is_file_node-is_there.result c.is_file_node-is_there.ensures c.may_change.result c.may_change.ensures in
-    let reads = c.pass_lock.ensures.reads in
-    let new = c.pass_lock.new.files in
-    let r = c.pass_lock.result in
+    let reads = c.refuse_stale_lock.ensures.reads in
+    let new = c.refuse_stale_lock.new.files in
+    let r = c.refuse_stale_lock.result in
     if_err r (λ (e : Error) (why : IsPackedFault F.honest F.means F.faults (lock_of lock ∷ []) (λ error. IsSome ((F.means c.kind.new.self).tree (lock_of lock)) × (error ≡ PackedTransactionAcquire)) c.kind.new.self new e). record {
       cause = λ h. ⊎_elim (λ outside. inl outside)
           (λ there. inr (something_there s mode T edits asks (due h ∙ c.if-may_change.false) lock at e (subst (λ (R : Tree). IsSome (R (lock_of lock))) (same h) there.0) there.1)) (why.cause h);
       kept = λ h q. inl (ap (λ (U : Tree). U q) ((reads.leaves h).tree ∙ same h));
       counted = subst (λ n. IsCounted n (F.faults new) e) c.in_ok-kind.ensures.count why.counted;
-    }) c.pass_lock.ensures.refused
+    }) c.refuse_stale_lock.ensures.refused
 
 pub returns-else-may_change-clause-takes : goal.returns-else-may_change-clause-takes
 returns-else-may_change-clause-takes g c =
@@ -191,12 +191,12 @@ returns-else-may_change-clause-takes g c =
     let T = old.tree in
     let edits = updates c.args.edits.now in
     let lock = c.in_ok-lock.lock in
-    let asks : ask_packed s edits ≡ true = asked s c.args.edits.now c.ask.result c.ask.ensures ∙ c.if-not-ask.false in
+    let asks : ask_packed s edits ≡ true = asked s c.args.edits.now c.may_touch_packed_refs.result c.may_touch_packed_refs.ensures ∙ c.if-not-may_touch_packed_refs.false in
     let at : lock ≡ s.packed_path = c.in_ok-lock.ensures ∙ c.in_ok-packed_refs_path.ensures in
     let same : F.honest → (F.means c.kind.new.self).tree ≡ T = λ h. (c.kind.ensures.leaves h).tree in
     let node : F.honest → c.in_ok-kind.field-0 ≡ node_at T s.packed_path = λ h. c.in_ok-kind.ensures.answer h ∙ ap (node_at T) (c.place.ensures ∙ at) in
     let due : F.honest → may_change s mode T edits ≡ c.may_change.result = λ h. may_by s mode T c.args.edits.now c.in_ok-kind.field-0 (node h) c.is_file_node-is_there.result c.is_file_node-is_there.ensures c.may_change.result c.may_change.ensures in
-    let reads = c.pass_lock.ensures.reads in
+    let reads = c.refuse_stale_lock.ensures.reads in
     record {
       leaves = λ h. joins (weaken (c.kind.ensures.leaves h) (λ R is q. inl (ap (λ (U : Tree). U q) is)))
           (weaken (reads.leaves h) (λ R is q. inl (ap (λ (U : Tree). U q) (is ∙ same h))));

@@ -12,9 +12,9 @@ use Rattle.gix_ref_transaction.proofs.prepare.records.id_of.Goals as goal
 pub returns-in-None-clause-read : goal.returns-in-None-clause-read
 returns-in-None-clause-read g c h kind = inl (rw c.in-None.is at c.in_ok-key.ensures, refl)
 
-pub returns-then-is_own_key-clause-read : goal.returns-then-is_own_key-clause-read
-returns-then-is_own_key-clause-read g c h kind =
-    if_ok c.id_at.result (λ id read. inr (full_ref_bytes c.args.name, c.if-is_own_key.ensures, read)) (c.id_at.ensures.read h kind)
+pub returns-then-key_is_name-clause-read : goal.returns-then-key_is_name-clause-read
+returns-then-key_is_name-clause-read g c h kind =
+    if_ok c.id_at.result (λ id read. inr (full_ref_bytes c.args.name, c.if-key_is_name.ensures, read)) (c.id_at.ensures.read h kind)
 
 pub returns-in-Some-clause-read : goal.returns-in-Some-clause-read
 returns-in-Some-clause-read g c h kind =
@@ -31,15 +31,15 @@ returns-in-None-clause-found g c kind rs asked =
     let name = full_ref_bytes c.args.name in
     sym (no_id s (s.key name) rs (without_key c.args.settings.now kind None c.args.records.now rs name asked (rw c.in-None.is at c.in_ok-key.ensures)))
 
-pub returns-then-is_own_key-clause-failed : goal.returns-then-is_own_key-clause-failed
-returns-then-is_own_key-clause-failed g c =
+pub returns-then-key_is_name-clause-failed : goal.returns-then-key_is_name-clause-failed
+returns-then-key_is_name-clause-failed g c =
     let s = setting_of c.args.settings.now in
     let name = full_ref_bytes c.args.name in
     let records = c.args.records.now in
     if_err c.id_at.result (λ (e : Error) (why : IsSearchFault records (λ kind. IsStuckKey kind records name) e). record {
       sound = why.sound;
       refused = why.refused;
-      unread = λ h kind. let stuck = IsStuckKey kind records in find_wider (stuck name) (OfKey s name stuck) e (λ bad. (name, c.if-is_own_key.ensures, bad)) (why.unread h kind);
+      unread = λ h kind. let stuck = IsStuckKey kind records in find_wider (stuck name) (OfKey s name stuck) e (λ bad. (name, c.if-key_is_name.ensures, bad)) (why.unread h kind);
     }) c.id_at.ensures.failed
 
 pub returns-in-Some-clause-failed : goal.returns-in-Some-clause-failed

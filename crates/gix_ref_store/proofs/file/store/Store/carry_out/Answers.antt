@@ -128,7 +128,7 @@ returns-in-Err-publish-clause-failed g c =
     subst (λ n. n < length ran.items → log ≡ path_in (log_at ran.items n)) done (λ lt. e.back.log (omega (arith, lt, ran.ok))) in
     record {
       cause =
-          let less : F.honest → RemovesLocks (held_locks (if renamed then None else packed) ran.items) mid.tree released.tree = λ h. rw c.unless_renamed-packed.ensures at (e.releases.leaves h).tree in
+          let less : F.honest → RemovesLocks (held_locks (if renamed then None else packed) ran.items) mid.tree released.tree = λ h. rw c.still_held-packed.ensures at (e.releases.leaves h).tree in
           let tidied : F.honest → FoldersGo start.dirs (paths_of (tried_after u c.deref-in-Err-publish.result.now)) released.tree (tree_of F.means new) = λ h.
           subst (λ (d : Dirs). FoldersGo d (paths_of (tried_after u c.deref-in-Err-publish.result.now)) released.tree (tree_of F.means new)) still
           (subst (λ ps. FoldersGo c.publish.new.self.dirs (paths_of ps) released.tree (tree_of F.means new)) c.tried.ensures (c.remove_empty_folders.ensures.leaves h).tree) in
@@ -180,14 +180,14 @@ returns-in-Err-publish-clause-safe g c =
           subst (λ (d : Dirs). Leaves released tidied (FoldersGo d paths released.tree)) still (c.remove_empty_folders.ensures.leaves h) in
           let runs : F.honest → Leaves decided mid (IsLeftBy (bare_steps (commit_entries old.dirs ran.items packed rewrite ways)) decided.tree) = λ h.
           subst (λ (d : Dirs). Leaves decided mid (IsLeftBy (bare_steps (commit_entries d ran.items packed rewrite ways)) decided.tree)) same (rw c.deref-2.ensures.value at (rw c.deref.ensures.value at (c.publish.ensures.runs.leaves h))) in
-          let releases : F.honest → Leaves mid (F.means c.release_all-edits.new.files) (RemovesLocks (held_locks (if renamed then None else packed) ran.items) mid.tree) = λ h. rw c.unless_renamed-packed.ensures at (e.releases.leaves h) in
+          let releases : F.honest → Leaves mid (F.means c.release_all-edits.new.files) (RemovesLocks (held_locks (if renamed then None else packed) ran.items) mid.tree) = λ h. rw c.still_held-packed.ensures at (e.releases.leaves h) in
           let ends : EndsIn F.honest (commit_entries old.dirs ran.items packed rewrite ways) decided.tree mid.tree u =
           subst (λ (d : Dirs). EndsIn F.honest (commit_entries d ran.items packed rewrite ways) decided.tree mid.tree u) same (rw c.deref-2.ensures.value at (rw c.deref.ensures.value at c.in-Err-publish.ensures.stopped.ended)) in
           ran_well F.honest F.means F.faults mode old start c.args.committer given packed held from ran.items alike new left decided
           (λ h. c.decide.ensures.fills.leaves h (from.packed.empty h)) (λ h. c.decide.ensures.fills.passes h (from.packed.empty h))
           c.in-Ok.ensures.decided.texts.logs rewrite c.in-Ok.ensures.decided.texts.repacked (λ h. c.in-Ok.ensures.decided.texts.filled h (from.packed.empty h)) (λ h. c.in-Ok.ensures.decided.texts.wholes h (from.packed.empty h)) ways in_way
           mid released renamed paths runs releases tidies done
-          (λ h. rw c.unless_renamed-packed.ensures at (e.packed_gone h))
+          (λ h. rw c.still_held-packed.ensures at (e.packed_gone h))
           (λ h text path some. cut_packed_gone F.honest F.means F.faults mode old start c.args.committer given packed held from ran.items alike new left decided
           (λ h. c.decide.ensures.fills.leaves h (from.packed.empty h)) (λ h. c.decide.ensures.fills.passes h (from.packed.empty h))
           c.in-Ok.ensures.decided.texts.logs rewrite c.in-Ok.ensures.decided.texts.repacked (λ h. c.in-Ok.ensures.decided.texts.filled h (from.packed.empty h)) (λ h. c.in-Ok.ensures.decided.texts.wholes h (from.packed.empty h)) ways in_way
@@ -197,7 +197,7 @@ returns-in-Err-publish-clause-safe g c =
           (λ h. c.decide.ensures.fills.leaves h (from.packed.empty h)) (λ h. c.decide.ensures.fills.passes h (from.packed.empty h))
           c.in-Ok.ensures.decided.texts.logs rewrite c.in-Ok.ensures.decided.texts.repacked (λ h. c.in-Ok.ensures.decided.texts.filled h (from.packed.empty h)) (λ h. c.in-Ok.ensures.decided.texts.wholes h (from.packed.empty h)) ways in_way
           mid released renamed paths runs releases tidies u ends h k lt (subst (λ n. k < n) done_is early) written)
-          (rw c.unless_renamed-packed.ensures at e.named.ours) (rw c.unless_renamed-packed.ensures at e.named.once);
+          (rw c.still_held-packed.ensures at e.named.ours) (rw c.still_held-packed.ensures at e.named.once);
       losses = λ old mode given from h good at_rest.
           let same : c.decide.new.self.dirs ≡ old.dirs = ap (λ (st : Store g.row.F.Denot). st.dirs) c.decide.ensures.same ∙ from.held.same.dirs in
           let in_way : F.honest → AllInWay ran.items old.dirs decided.tree (folder_lists ways) (planned_entries old.dirs ran.items packed rewrite) = λ h.
@@ -207,10 +207,10 @@ returns-in-Err-publish-clause-safe g c =
           subst (λ (d : Dirs). Leaves released tidied (FoldersGo d paths released.tree)) still (c.remove_empty_folders.ensures.leaves h) in
           let runs : F.honest → Leaves decided mid (IsLeftBy (bare_steps (commit_entries old.dirs ran.items packed rewrite ways)) decided.tree) = λ h.
           subst (λ (d : Dirs). Leaves decided mid (IsLeftBy (bare_steps (commit_entries d ran.items packed rewrite ways)) decided.tree)) same (rw c.deref-2.ensures.value at (rw c.deref.ensures.value at (c.publish.ensures.runs.leaves h))) in
-          let releases : F.honest → Leaves mid (F.means c.release_all-edits.new.files) (RemovesLocks (held_locks (if renamed then None else packed) ran.items) mid.tree) = λ h. rw c.unless_renamed-packed.ensures at (e.releases.leaves h) in
+          let releases : F.honest → Leaves mid (F.means c.release_all-edits.new.files) (RemovesLocks (held_locks (if renamed then None else packed) ran.items) mid.tree) = λ h. rw c.still_held-packed.ensures at (e.releases.leaves h) in
           let passes : Passes decided mid (IsReachedBy (steps_in (commit_entries old.dirs ran.items packed rewrite ways)) (disk_of decided)) =
           subst (λ (d : Dirs). Passes decided mid (IsReachedBy (steps_in (commit_entries d ran.items packed rewrite ways)) (disk_of decided))) same (rw c.deref-2.ensures.value at (rw c.deref.ensures.value at (c.publish.ensures.runs.passes h))) in
-          let only : OnlyRemoves (held_locks (if renamed then None else packed) ran.items) mid (F.means c.release_all-edits.new.files) = rw c.unless_renamed-packed.ensures at (e.releases.passes h) in
+          let only : OnlyRemoves (held_locks (if renamed then None else packed) ran.items) mid (F.means c.release_all-edits.new.files) = rw c.still_held-packed.ensures at (e.releases.passes h) in
           let less : Passes released tidied (LosesNoMore (disk_of released)) = c.remove_empty_folders.ensures.loses h in
           lost F.honest F.means F.faults mode old start c.args.committer given packed held from ran.items alike new left decided
           (λ h. c.decide.ensures.fills.leaves h (from.packed.empty h)) (λ h. c.decide.ensures.fills.passes h (from.packed.empty h))
@@ -241,7 +241,7 @@ returns-in-Err-publish-clause-kept g c =
       folders = λ h empty.
           let left : IsLeftBy (bare_steps (commit_entries start.dirs ran.items packed rewrite ways)) decided.tree mid.tree =
           subst (λ (d : Dirs). IsLeftBy (bare_steps (commit_entries d ran.items packed rewrite ways)) decided.tree mid.tree) same (rw c.deref-2.ensures.value at (rw c.deref.ensures.value at (c.publish.ensures.runs.leaves h).tree)) in
-          let releases : Leaves mid released (RemovesLocks (held_locks (if renamed then None else packed) ran.items) mid.tree) = rw c.unless_renamed-packed.ensures at (c.release_all-edits.ensures.releases.leaves h) in
+          let releases : Leaves mid released (RemovesLocks (held_locks (if renamed then None else packed) ran.items) mid.tree) = rw c.still_held-packed.ensures at (c.release_all-edits.ensures.releases.leaves h) in
           let tried : FoldersGo start.dirs (paths_of (tried_after u c.deref-in-Err-publish.result.now)) released.tree tidied.tree =
           subst (λ (d : Dirs). FoldersGo d (paths_of (tried_after u c.deref-in-Err-publish.result.now)) released.tree tidied.tree) still
           (subst (λ ps. FoldersGo c.publish.new.self.dirs (paths_of ps) released.tree tidied.tree) c.tried.ensures (c.remove_empty_folders.ensures.leaves h).tree) in
@@ -283,14 +283,14 @@ returns-clause-safe g c =
           subst (λ (d : Dirs). Leaves released tidied (FoldersGo d paths released.tree)) still (c.remove_empty_folders-2.ensures.leaves h) in
           let runs : F.honest → Leaves decided mid (IsLeftBy (bare_steps (commit_entries old.dirs ran.items packed rewrite ways)) decided.tree) = λ h.
           subst (λ (d : Dirs). Leaves decided mid (IsLeftBy (bare_steps (commit_entries d ran.items packed rewrite ways)) decided.tree)) same (rw c.deref-2.ensures.value at (rw c.deref.ensures.value at (c.publish.ensures.runs.leaves h))) in
-          let releases : F.honest → Leaves mid (F.means c.release_all-released.new.files) (RemovesLocks (held_locks (if renamed then None else packed) ran.items) mid.tree) = λ h. rw c.unless_renamed-packed-2.ensures at (e.releases.leaves h) in
+          let releases : F.honest → Leaves mid (F.means c.release_all-released.new.files) (RemovesLocks (held_locks (if renamed then None else packed) ran.items) mid.tree) = λ h. rw c.still_held-packed-2.ensures at (e.releases.leaves h) in
           let after : F.honest → IsAfter (bare_steps (commit_entries old.dirs ran.items packed rewrite ways)) decided.tree mid.tree = λ h.
           subst (λ (d : Dirs). IsAfter (bare_steps (commit_entries d ran.items packed rewrite ways)) decided.tree mid.tree) same (rw c.deref-2.ensures.value at (rw c.deref.ensures.value at (c.in_default.ensures.finished.done h))) in
           ran_well F.honest F.means F.faults mode old start c.args.committer given packed held from ran.items alike new left decided
           (λ h. c.decide.ensures.fills.leaves h (from.packed.empty h)) (λ h. c.decide.ensures.fills.passes h (from.packed.empty h))
           c.in-Ok.ensures.decided.texts.logs rewrite c.in-Ok.ensures.decided.texts.repacked (λ h. c.in-Ok.ensures.decided.texts.filled h (from.packed.empty h)) (λ h. c.in-Ok.ensures.decided.texts.wholes h (from.packed.empty h)) ways in_way
           mid released renamed paths runs releases tidies done
-          (λ h. rw c.unless_renamed-packed-2.ensures at (e.packed_gone h))
+          (λ h. rw c.still_held-packed-2.ensures at (e.packed_gone h))
           (λ h text path some. whole_packed_gone F.honest F.means F.faults mode old start c.args.committer given packed held from ran.items alike new left decided
           (λ h. c.decide.ensures.fills.leaves h (from.packed.empty h)) (λ h. c.decide.ensures.fills.passes h (from.packed.empty h))
           c.in-Ok.ensures.decided.texts.logs rewrite c.in-Ok.ensures.decided.texts.repacked (λ h. c.in-Ok.ensures.decided.texts.filled h (from.packed.empty h)) (λ h. c.in-Ok.ensures.decided.texts.wholes h (from.packed.empty h)) ways in_way
@@ -300,7 +300,7 @@ returns-clause-safe g c =
           (λ h. c.decide.ensures.fills.leaves h (from.packed.empty h)) (λ h. c.decide.ensures.fills.passes h (from.packed.empty h))
           c.in-Ok.ensures.decided.texts.logs rewrite c.in-Ok.ensures.decided.texts.repacked (λ h. c.in-Ok.ensures.decided.texts.filled h (from.packed.empty h)) (λ h. c.in-Ok.ensures.decided.texts.wholes h (from.packed.empty h)) ways in_way
           mid released renamed paths runs releases tidies after h k lt written)
-          (rw c.unless_renamed-packed-2.ensures at e.named.ours) (rw c.unless_renamed-packed-2.ensures at e.named.once);
+          (rw c.still_held-packed-2.ensures at e.named.ours) (rw c.still_held-packed-2.ensures at e.named.once);
       losses = λ old mode given from h good at_rest.
           let e = c.release_all-released.ensures in
           let left = paths_of c.release_all-released.result.left.items in
@@ -312,10 +312,10 @@ returns-clause-safe g c =
           subst (λ (d : Dirs). Leaves released tidied (FoldersGo d paths released.tree)) still (c.remove_empty_folders-2.ensures.leaves h) in
           let runs : F.honest → Leaves decided mid (IsLeftBy (bare_steps (commit_entries old.dirs ran.items packed rewrite ways)) decided.tree) = λ h.
           subst (λ (d : Dirs). Leaves decided mid (IsLeftBy (bare_steps (commit_entries d ran.items packed rewrite ways)) decided.tree)) same (rw c.deref-2.ensures.value at (rw c.deref.ensures.value at (c.publish.ensures.runs.leaves h))) in
-          let releases : F.honest → Leaves mid (F.means c.release_all-released.new.files) (RemovesLocks (held_locks (if renamed then None else packed) ran.items) mid.tree) = λ h. rw c.unless_renamed-packed-2.ensures at (e.releases.leaves h) in
+          let releases : F.honest → Leaves mid (F.means c.release_all-released.new.files) (RemovesLocks (held_locks (if renamed then None else packed) ran.items) mid.tree) = λ h. rw c.still_held-packed-2.ensures at (e.releases.leaves h) in
           let passes : Passes decided mid (IsReachedBy (steps_in (commit_entries old.dirs ran.items packed rewrite ways)) (disk_of decided)) =
           subst (λ (d : Dirs). Passes decided mid (IsReachedBy (steps_in (commit_entries d ran.items packed rewrite ways)) (disk_of decided))) same (rw c.deref-2.ensures.value at (rw c.deref.ensures.value at (c.publish.ensures.runs.passes h))) in
-          let only : OnlyRemoves (held_locks (if renamed then None else packed) ran.items) mid (F.means c.release_all-released.new.files) = rw c.unless_renamed-packed-2.ensures at (e.releases.passes h) in
+          let only : OnlyRemoves (held_locks (if renamed then None else packed) ran.items) mid (F.means c.release_all-released.new.files) = rw c.still_held-packed-2.ensures at (e.releases.passes h) in
           let less : Passes released tidied (LosesNoMore (disk_of released)) = c.remove_empty_folders-2.ensures.loses h in
           lost F.honest F.means F.faults mode old start c.args.committer given packed held from ran.items alike new left decided
           (λ h. c.decide.ensures.fills.leaves h (from.packed.empty h)) (λ h. c.decide.ensures.fills.passes h (from.packed.empty h))
@@ -345,7 +345,7 @@ returns-clause-kept g c =
       folders = λ h empty.
           let left : IsLeftBy (bare_steps (commit_entries start.dirs ran.items packed rewrite ways)) decided.tree mid.tree =
           subst (λ (d : Dirs). IsLeftBy (bare_steps (commit_entries d ran.items packed rewrite ways)) decided.tree mid.tree) same (rw c.deref-2.ensures.value at (rw c.deref.ensures.value at (c.publish.ensures.runs.leaves h).tree)) in
-          let releases : Leaves mid released (RemovesLocks (held_locks (if renamed then None else packed) ran.items) mid.tree) = rw c.unless_renamed-packed-2.ensures at (c.release_all-released.ensures.releases.leaves h) in
+          let releases : Leaves mid released (RemovesLocks (held_locks (if renamed then None else packed) ran.items) mid.tree) = rw c.still_held-packed-2.ensures at (c.release_all-released.ensures.releases.leaves h) in
           let tidies : FoldersGo start.dirs (all_removed ran.items) released.tree tidied.tree =
           subst (λ (paths : List Path). FoldersGo start.dirs paths released.tree tidied.tree) removed
           (subst (λ (d : Dirs). FoldersGo d (paths_of c.deref-3.result.now) released.tree tidied.tree) still (c.remove_empty_folders-2.ensures.leaves h).tree) in
@@ -385,7 +385,7 @@ returns-clause-committed g c =
           subst (λ (d : Dirs). Leaves released tidied (FoldersGo d paths released.tree)) still (c.remove_empty_folders-2.ensures.leaves h) in
           let runs : F.honest → Leaves decided mid (IsLeftBy (bare_steps (commit_entries old.dirs ran.items packed rewrite ways)) decided.tree) = λ h.
           subst (λ (d : Dirs). Leaves decided mid (IsLeftBy (bare_steps (commit_entries d ran.items packed rewrite ways)) decided.tree)) same (rw c.deref-2.ensures.value at (rw c.deref.ensures.value at (c.publish.ensures.runs.leaves h))) in
-          let releases : F.honest → Leaves mid (F.means c.release_all-released.new.files) (RemovesLocks (held_locks (if renamed then None else packed) ran.items) mid.tree) = λ h. rw c.unless_renamed-packed-2.ensures at (e.releases.leaves h) in
+          let releases : F.honest → Leaves mid (F.means c.release_all-released.new.files) (RemovesLocks (held_locks (if renamed then None else packed) ran.items) mid.tree) = λ h. rw c.still_held-packed-2.ensures at (e.releases.leaves h) in
           let after : F.honest → IsAfter (bare_steps (commit_entries old.dirs ran.items packed rewrite ways)) decided.tree mid.tree = λ h.
           subst (λ (d : Dirs). IsAfter (bare_steps (commit_entries d ran.items packed rewrite ways)) decided.tree mid.tree) same (rw c.deref-2.ensures.value at (rw c.deref.ensures.value at (c.in_default.ensures.finished.done h))) in
           committed F.honest F.means F.faults mode old start c.args.committer given packed held from ran.items alike new left decided
@@ -403,7 +403,7 @@ returns-clause-committed g c =
           subst (λ (d : Dirs). Leaves released tidied (FoldersGo d paths released.tree)) still (c.remove_empty_folders-2.ensures.leaves h) in
           let runs : F.honest → Leaves decided mid (IsLeftBy (bare_steps (commit_entries old.dirs ran.items packed rewrite ways)) decided.tree) = λ h.
           subst (λ (d : Dirs). Leaves decided mid (IsLeftBy (bare_steps (commit_entries d ran.items packed rewrite ways)) decided.tree)) same (rw c.deref-2.ensures.value at (rw c.deref.ensures.value at (c.publish.ensures.runs.leaves h))) in
-          let releases : F.honest → Leaves mid (F.means c.release_all-released.new.files) (RemovesLocks (held_locks (if renamed then None else packed) ran.items) mid.tree) = λ h. rw c.unless_renamed-packed-2.ensures at (e.releases.leaves h) in
+          let releases : F.honest → Leaves mid (F.means c.release_all-released.new.files) (RemovesLocks (held_locks (if renamed then None else packed) ran.items) mid.tree) = λ h. rw c.still_held-packed-2.ensures at (e.releases.leaves h) in
           let after : F.honest → IsAfter (bare_steps (commit_entries old.dirs ran.items packed rewrite ways)) decided.tree mid.tree = λ h.
           subst (λ (d : Dirs). IsAfter (bare_steps (commit_entries d ran.items packed rewrite ways)) decided.tree mid.tree) same (rw c.deref-2.ensures.value at (rw c.deref.ensures.value at (c.in_default.ensures.finished.done h))) in
           good_on F.means old start new (files_of new) from.held.same (ap (λ (st : Store g.row.F.Denot). with_files st (files_of new)) (c.publish.ensures.same ∙ ap (λ (st : Store g.row.F.Denot). with_files st (files_of c.publish.new.self)) c.decide.ensures.same))
@@ -424,10 +424,10 @@ returns-clause-committed g c =
           subst (λ (d : Dirs). Leaves released tidied (FoldersGo d paths released.tree)) still (c.remove_empty_folders-2.ensures.leaves h) in
           let runs : F.honest → Leaves decided mid (IsLeftBy (bare_steps (commit_entries old.dirs ran.items packed rewrite ways)) decided.tree) = λ h.
           subst (λ (d : Dirs). Leaves decided mid (IsLeftBy (bare_steps (commit_entries d ran.items packed rewrite ways)) decided.tree)) same (rw c.deref-2.ensures.value at (rw c.deref.ensures.value at (c.publish.ensures.runs.leaves h))) in
-          let releases : F.honest → Leaves mid (F.means c.release_all-released.new.files) (RemovesLocks (held_locks (if renamed then None else packed) ran.items) mid.tree) = λ h. rw c.unless_renamed-packed-2.ensures at (e.releases.leaves h) in
+          let releases : F.honest → Leaves mid (F.means c.release_all-released.new.files) (RemovesLocks (held_locks (if renamed then None else packed) ran.items) mid.tree) = λ h. rw c.still_held-packed-2.ensures at (e.releases.leaves h) in
           let done : IsSyncedAfter (steps_in (commit_entries old.dirs ran.items packed rewrite ways)) (disk_of decided) (disk_of mid) =
           subst (λ (d : Dirs). IsSyncedAfter (steps_in (commit_entries d ran.items packed rewrite ways)) (disk_of decided) (disk_of mid)) same (rw c.deref-2.ensures.value at (rw c.deref.ensures.value at (c.in_default.ensures.finished.synced h))) in
-          let only : OnlyRemoves (held_locks (if renamed then None else packed) ran.items) mid (F.means c.release_all-released.new.files) = rw c.unless_renamed-packed-2.ensures at (e.releases.passes h) in
+          let only : OnlyRemoves (held_locks (if renamed then None else packed) ran.items) mid (F.means c.release_all-released.new.files) = rw c.still_held-packed-2.ensures at (e.releases.passes h) in
           settled F.honest F.means F.faults mode old start c.args.committer given packed held from ran.items alike new left decided
           (λ h. c.decide.ensures.fills.leaves h (from.packed.empty h)) (λ h. c.decide.ensures.fills.passes h (from.packed.empty h))
           c.in-Ok.ensures.decided.texts.logs rewrite c.in-Ok.ensures.decided.texts.repacked (λ h. c.in-Ok.ensures.decided.texts.filled h (from.packed.empty h)) (λ h. c.in-Ok.ensures.decided.texts.wholes h (from.packed.empty h)) ways in_way

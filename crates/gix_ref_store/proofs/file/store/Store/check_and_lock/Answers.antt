@@ -151,11 +151,11 @@ returns-in-Err-clause-refused g c =
     let old = c.args.self.now in
     let given = c.args.edits.items in
     let files = files_of c.split.new.self in
-    let error = c.untouched.result.error in
-    let is : error ≡ c.in-Err.error = c.untouched.ensures.error in
-    let left = paths_of c.untouched.result.locks_left.items in
+    let error = c.refused_before_locks.result.error in
+    let is : error ≡ c.in-Err.error = c.refused_before_locks.ensures.error in
+    let left = paths_of c.refused_before_locks.result.locks_left.items in
     subst (λ (st : Store g.row.F.Denot). RefusesFrom F.honest read F.means F.faults (OfFinder g.T.Find.claims c.args.packed_refs.now) (ends_of g.T.Find.meaning c.args.packed_refs.now) (mode_in c.args.packed_refs.now) old st given error left) (sym c.in-Err.ensures.same)
-    (refused_before F.honest F.means F.faults (mode_in c.args.packed_refs.now) old files c.in-Err.ensures.reads read (OfFinder g.T.Find.claims c.args.packed_refs.now) (ends_of g.T.Find.meaning c.args.packed_refs.now) given error left (ap paths_of c.untouched.ensures.none)
+    (refused_before F.honest F.means F.faults (mode_in c.args.packed_refs.now) old files c.in-Err.ensures.reads read (OfFinder g.T.Find.claims c.args.packed_refs.now) (ends_of g.T.Find.meaning c.args.packed_refs.now) given error left (ap paths_of c.refused_before_locks.ensures.none)
     (λ h. subst (IsSplitCause (meaning_of old) (kind_of old) (tree_of F.means old) given) (sym is) (c.in-Err.ensures.refused h))
     (subst (IsCounted (F.faults (files_of old)) (F.faults files)) (sym is) c.in-Err.ensures.counted))
 

@@ -24,11 +24,11 @@ returns-in-Err-clause-refused g c =
     let F = g.F.Files in
     let old = c.args.self.now in
     let given = c.args.edits.items in
-    let error = c.untouched.result.error in
-    let is : error ≡ Memory = c.untouched.ensures.error in
-    let left = paths_of c.untouched.result.locks_left.items in
+    let error = c.refused_before_locks.result.error in
+    let is : error ≡ Memory = c.refused_before_locks.ensures.error in
+    let left = paths_of c.refused_before_locks.result.locks_left.items in
     record {
       asked = given;
       composed = inr (is, refl);
-      refuses = refused_unread F.honest (HasReadFault g.F.Reader.ReadAt.faults) F.means F.faults (OfFinder g.T.Find.claims c.args.packed_refs.now) (ends_of g.T.Find.meaning c.args.packed_refs.now) (mode_in c.args.packed_refs.now) old given error left is (ap paths_of c.untouched.ensures.none);
+      refuses = refused_unread F.honest (HasReadFault g.F.Reader.ReadAt.faults) F.means F.faults (OfFinder g.T.Find.claims c.args.packed_refs.now) (ends_of g.T.Find.meaning c.args.packed_refs.now) (mode_in c.args.packed_refs.now) old given error left is (ap paths_of c.refused_before_locks.ensures.none);
     }

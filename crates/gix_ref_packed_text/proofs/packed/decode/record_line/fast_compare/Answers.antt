@@ -3,7 +3,7 @@ use Rattle.std.proofs.Common.{arith, sym, ◌≡◌, ◌∙◌, List, ℕ, lengt
 use Rattle.std.proofs.lemmas.List.{take_rest}
 use Rattle.std.specs.declared.cmp.Ordering.TheVariants.{Less, Greater}
 use Rattle.gix_ref_packed_text.proofs.QuickOrders.{quick, whole_name, whole_compares}
-use Rattle.gix_ref_packed_text.proofs.packed.decode.record_line.quick_order.Goals as goal
+use Rattle.gix_ref_packed_text.proofs.packed.decode.record_line.fast_compare.Goals as goal
 
 pub returns-in-Less-clause-compares : goal.returns-in-Less-clause-compares
 returns-in-Less-clause-compares c = λ text name is at.

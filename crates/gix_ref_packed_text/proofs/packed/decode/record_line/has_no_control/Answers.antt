@@ -1,5 +1,5 @@
 use Rattle.gix_ref_packed_text.proofs.QuickOrders.{plain_by}
-use Rattle.gix_ref_packed_text.proofs.packed.decode.record_line.is_plain.Goals as goal
+use Rattle.gix_ref_packed_text.proofs.packed.decode.record_line.has_no_control.Goals as goal
 
 pub returns : goal.returns
 returns c =

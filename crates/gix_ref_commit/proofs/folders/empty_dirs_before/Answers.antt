@@ -1,5 +1,5 @@
 use Rattle.gix_ref_commit.proofs.Walking.{unlisted_for}
-use Rattle.gix_ref_commit.proofs.folders.way_before.Goals as goal
+use Rattle.gix_ref_commit.proofs.folders.empty_dirs_before.Goals as goal
 
 pub returns-in-Err-clause-failed : goal.returns-in-Err-clause-failed
 returns-in-Err-clause-failed g c =

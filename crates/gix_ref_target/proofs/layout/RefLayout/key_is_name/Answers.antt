@@ -5,7 +5,7 @@ use Rattle.gix_ref_target.specs.Layout.{RefPaths}
 use Rattle.gix_ref_target.specs.Locations.{row_of}
 use Rattle.gix_ref_target.specs.RefLayout.{layout_of, location_value}
 use Rattle.gix_ref_target.specs.declared.layout.Location.{Location}
-use Rattle.gix_ref_target.proofs.layout.RefLayout.is_own_key.Goals as goal
+use Rattle.gix_ref_target.proofs.layout.RefLayout.key_is_name.Goals as goal
 
 on_true : (b : Bool) (P : Type 0) → (IsTrue b → P) → OnTrue b P
 on_true true P holds = holds refl

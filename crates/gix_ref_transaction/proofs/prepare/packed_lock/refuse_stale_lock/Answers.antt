@@ -1,7 +1,7 @@
 use Rattle.std.proofs.Common.{rules}
 use Rattle.std.proofs.lemmas.Result.{err_from_is_err_and}
 use Rattle.gix_ref_transaction.proofs.Faults.{told_fault}
-use Rattle.gix_ref_transaction.proofs.prepare.packed_lock.pass_lock.Goals as goal
+use Rattle.gix_ref_transaction.proofs.prepare.packed_lock.refuse_stale_lock.Goals as goal
 
 pub returns-in_err-kind-clause-refused : goal.returns-in_err-kind-clause-refused
 returns-in_err-kind-clause-refused g c =

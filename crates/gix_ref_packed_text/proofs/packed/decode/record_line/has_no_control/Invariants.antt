@@ -1,5 +1,5 @@
 use Rattle.std.proofs.Common.{◌⊎◌, ◌<◌, ◌≤◌, ℕ, get_or}
-use Rattle.gix_ref_packed_text.proofs.packed.decode.record_line.is_plain.Given as goal
+use Rattle.gix_ref_packed_text.proofs.packed.decode.record_line.has_no_control.Given as goal
 
 abbrev pub invariant-loop-byte : goal.invariant-loop-byte
 invariant-loop-byte l = record {

@@ -1,7 +1,7 @@
 use Rattle.std.proofs.Common.{◌<◌, length, drop, sym, ◌∙◌, ap, arith, not}
 use Rattle.gix_ref_hash.specs.Bytes.{in_line}
 use Rattle.gix_ref_hash.proofs.ByteLemmas.{spans_at, passes_more}
-use Rattle.gix_ref_hash.proofs.bytes.before_line_end.Goals as goal
+use Rattle.gix_ref_hash.proofs.bytes.up_to_line_end.Goals as goal
 
 pub returns-then-is_line_end : goal.returns-then-is_line_end
 returns-then-is_line_end c =

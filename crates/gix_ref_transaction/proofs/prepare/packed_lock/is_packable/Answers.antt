@@ -5,7 +5,7 @@ use Rattle.gix_ref_lookup.specs.StoreLayout.{folders_of}
 use Rattle.gix_ref_edits.specs.RefEdits.{name_of}
 use Rattle.gix_ref_name.specs.Names.{full_ref_bytes}
 use Rattle.gix_ref_transaction.proofs.PackedLocks.{has_outside}
-use Rattle.gix_ref_transaction.proofs.prepare.packed_lock.has_key.Goals as goal
+use Rattle.gix_ref_transaction.proofs.prepare.packed_lock.is_packable.Goals as goal
 
 pub returns-then-is_of_the_reference : goal.returns-then-is_of_the_reference
 returns-then-is_of_the_reference c =

@@ -2,7 +2,7 @@ use Rattle.std.proofs.Common.{◌≡◌, ◌++◌, subst, sym, rules}
 use Rattle.gix_ref_name.specs.NameGrammar.{IsPartialName, IsFullName}
 use Rattle.gix_ref_name.specs.Names.{partial_ref_bytes}
 use Rattle.gix_ref_name.proofs.CandidateNames.{named_behind}
-use Rattle.gix_ref_name.proofs.name.candidates.name_behind.Goals as goal
+use Rattle.gix_ref_name.proofs.name.candidates.with_prefix.Goals as goal
 
 pub invariant_of-result : goal.invariant_of-result
 invariant_of-result c =

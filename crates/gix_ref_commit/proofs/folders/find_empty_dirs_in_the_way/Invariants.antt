@@ -2,7 +2,7 @@ use Rattle.std.proofs.Common.{take}
 use Rattle.gix_ref_files.specs.ReadOnly.{OnlyReads}
 use Rattle.gix_ref_commit.specs.Cleared.{AllInWay, folder_lists}
 use Rattle.gix_ref_commit.specs.Entries.{entries}
-use Rattle.gix_ref_commit.proofs.folders.all_in_way.Given as goal
+use Rattle.gix_ref_commit.proofs.folders.find_empty_dirs_in_the_way.Given as goal
 
 -- the folders in the way of the steps so far, and nothing has changed
 abbrev pub invariant-loop-planned : goal.invariant-loop-planned
