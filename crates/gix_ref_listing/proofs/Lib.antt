@@ -1,3 +1,4 @@
+pub mod AllowedNames
 pub mod CleanFolders
 pub mod FolderWalks
 pub mod GoneFiles

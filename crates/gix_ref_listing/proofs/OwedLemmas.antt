@@ -174,7 +174,7 @@ module _ (settings : Settings) (text : Text) where
       subst (λ (m : List ℕ). OwesNames settings text (m ∷ names) t) (ap full_bytes (sym (file_named honest view before now n path r is))) pays
   item_pays honest view before now names (taking.Walked (Unlisted path error)) (Ok r) t (inl found) pays = absurd found
   item_pays honest view before now names (taking.Walked (Unlisted path error)) (Ok r) t (inr gone) pays = absurd gone
-  item_pays honest view before now names (taking.Packed (Ok own)) (Ok r) t is pays = subst (λ (m : List ℕ). OwesNames settings text (m ∷ names) t) (sym is.0) pays
+  item_pays honest view before now names (taking.Packed (Ok own)) (Ok r) t is pays = subst (λ (m : List ℕ). OwesNames settings text (m ∷ names) t) (sym is.0.0) pays
   item_pays honest view before now names (taking.Packed (Err error)) (Ok r) t is pays = absurd is
 
 -- an iterator of a key owes the records of the key, where none was given

@@ -8,6 +8,7 @@ use Rattle.gix_ref_packed.specs.declared.packed.iter.error.Error.{Error as LineE
 use Rattle.gix_ref_packed_text.specs.declared.raw.Reference.{Reference}
 use Rattle.gix_ref_theory.specs.OnRealTrees.{view_of}
 use Rattle.gix_ref_theory.specs.Views.{View}
+use Rattle.gix_ref_lookup.specs.Lookups.{meaning_in}
 use Rattle.gix_ref_lookup.specs.declared.settings.Settings.{Settings}
 use Rattle.gix_ref_listing.specs.PlainSettings.{plain}
 use Rattle.gix_ref_listing.specs.Walks.{FoundEntry}
@@ -15,10 +16,11 @@ use Rattle.gix_ref_name.specs.Names.{full_bytes, full_ref_bytes}
 use Rattle.gix_ref_packed.specs.declared.packed.iter.Iter.{Iter}
 use Rattle.gix_ref_listing.specs.OwedNames.{Text, AreAllGiven, OwesOthers, OwesAfter, OwesNames, PaysItem}
 use Rattle.gix_ref_listing.specs.OwnRecords.{Own, own_of, own_name, own_records, with_own, AheadOf, AreAhead}
-use Rattle.gix_ref_listing.specs.Listings.{Listed, merged_listing, TakesRecord, IsNoRecord}
+use Rattle.gix_ref_listing.specs.Listings.{Listed, merged_listing, TakesRecord, IsNotLent}
 use Rattle.gix_ref_listing.specs.Listings.Listed.{Walked, InPacked}
 use Rattle.gix_ref_listing.specs.LooseListings.{IsLooseListed, IsFoundIn}
 use Rattle.gix_ref_listing.specs.GoneFiles.{IsGivenItem}
+use Rattle.gix_ref_listing.specs.Items.{IsAllowed}
 use Rattle.gix_ref_listing.specs.Steps.{AreYet, GivesItem, GivesRecord, IsDrained}
 use Rattle.gix_ref_listing.specs.declared.error.Error.{Error}
 use Rattle.gix_ref_listing.specs.declared.found.Found.TheVariants.{File, Unlisted}
@@ -92,22 +94,23 @@ module _ (s : Settings) where
   pub lends_plain : (old new : Merge) (result : Option OwnRecord) →
       IfSome result (λ own. (owns : List Own) → AreAhead s old.packed owns → TakesRecord s (merged_listing old.found.entries owns) own new) →
       IfSome result (λ own. (text : Text) (names : List (List ℕ)) → OwesNames s text names old → OwesNames s text (full_ref_bytes own.name ∷ names) new) → IfSome result (λ own. IsDrained old → ⊥) →
-      IfSome result (GivesRecord (plain s) old new)
-  lends_plain old new None takes pays goes_on = _
-  lends_plain old new (Some own) takes pays goes_on = record {
+      IfSome result (λ own. IsAllowed (meaning_in s) (full_ref_bytes own.name)) → IfSome result (GivesRecord (plain s) old new)
+  lends_plain old new None takes pays goes_on allowed = _
+  lends_plain old new (Some own) takes pays goes_on allowed = record {
     pays = λ text names owes. owes_to_plain text (full_ref_bytes own.name ∷ names) new (pays text names (owes_of_plain text names old owes));
     gives = λ listed yet.
         let before = of_plain old listed yet in
         let took = takes before.0 before.1 in
         (merged_listing new.found.entries took.0, before.2 ∙ took.2, to_plain new (merged_listing new.found.entries took.0) (took.0, took.1, refl));
+    allowed = allowed;
     goes_on = goes_on;
   }
 
   -- no record is lent
-  pub none_plain : (old : Merge) (result : Option OwnRecord) → IfNone result ((owns : List Own) → AreAhead s old.packed owns → IsNoRecord (merged_listing old.found.entries owns)) →
-      IfNone result ((listed : List Listed) → AreYet (plain s) old listed → IsNoRecord listed)
+  pub none_plain : (old : Merge) (result : Option OwnRecord) → IfNone result ((owns : List Own) → AreAhead s old.packed owns → IsNotLent s (merged_listing old.found.entries owns)) →
+      IfNone result ((listed : List Listed) → AreYet (plain s) old listed → IsNotLent s listed)
   none_plain old (Some own) none = _
-  none_plain old None none = λ listed yet. let before = of_plain old listed yet in subst IsNoRecord (sym before.2) (none before.0 before.1)
+  none_plain old None none = λ listed yet. let before = of_plain old listed yet in subst (IsNotLent s) (sym before.2) (none before.0 before.1)
 
   -- an item
   pub item_plain : (honest : Type 0) (view : View) (before now : FaultCounts) (one : Listed) (item : Result Reference Error) → IsGivenItem honest s view before now one item → IsGivenItem honest (plain s) view before now one item

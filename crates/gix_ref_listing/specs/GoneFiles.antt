@@ -106,7 +106,8 @@ abbrev pub IsGivenItem : (honest : Type 0) → Settings → View → (before now
     Result Reference Error → Type 0
 IsGivenItem honest settings view before now (Walked e) item =
     IsFoundOrGone honest settings view before now e.1 item
-IsGivenItem honest settings view before now (InPacked own) item = IsRecordItem own item
+IsGivenItem honest settings view before now (InPacked own) item =
+    IsRecordItem settings own item
 
 -- what was taken as an item
 abbrev pub IsTakenItem : (honest : Type 0) → Settings → View → (before now : FaultCounts) → Taken →
@@ -114,7 +115,7 @@ abbrev pub IsTakenItem : (honest : Type 0) → Settings → View → (before now
 IsTakenItem honest settings view before now (taking.Walked found) item =
     IsFoundOrGone honest settings view before now found item
 IsTakenItem honest settings view before now (taking.Packed (Ok own)) item =
-    IsRecordItem (own_of own) item
+    IsRecordItem settings (own_of own) item
 IsTakenItem honest settings view before now (taking.Packed (Err error)) (Ok r) = ⊥
 IsTakenItem honest settings view before now (taking.Packed (Err line)) (Err error) =
     IsOfLine line error

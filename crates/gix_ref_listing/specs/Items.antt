@@ -76,16 +76,33 @@ IsFoundItem honest settings view before now (Unlisted path source) (Ok r) = ⊥
 IsFoundItem honest settings view before now (Unlisted path source) (Err error) = error
     ≡ Traversal source path
 
--- a record as an item: its name, its id, and the id at which its tag ends
-abbrev pub IsRecordItem : Own → Result Reference Error → Type 0
-IsRecordItem own (Ok r) =
+-- the store prohibits nothing at the place of the name
+abbrev pub IsAllowed : Store → (name : List ℕ) → Type 0
+IsAllowed s name = s.is_prohibited (s.place name) ≡ false
+
+-- the reference of a record: its name, its id, and the id at which its tag ends
+abbrev pub IsOfRecord : Own → Reference → Type 0
+IsOfRecord own r =
     (full_bytes r.name ≡ own.name) × (reading_of_record (Some own.of) ≡ Is (target_value r.target))
     × (r.peeled ≡ peeled_of (Some own.of))
-IsRecordItem own (Err error) = error ≡ Memory
+
+-- Why the record of a name is not given, as a lookup of the name says it: its place has the name of a device, and the store
+-- prohibits these; or no memory.
+abbrev pub IsRecordFault : Store → (name : List ℕ) → Error → Type 0
+IsRecordFault s name (ReadFileContents DeviceName path) =
+    (s.is_prohibited (s.place name) ≡ true) × (path.items ≡ s.place name)
+IsRecordFault s name Memory = Unit {0}
+IsRecordFault s name other = ⊥
+
+-- a record as an item: its reference, where the store prohibits nothing at the place of its name; or why it is not given
+abbrev pub IsRecordItem : Settings → Own → Result Reference Error → Type 0
+IsRecordItem settings own (Ok r) = IsOfRecord own r × IsAllowed (meaning_in settings) own.name
+IsRecordItem settings own (Err error) = IsRecordFault (meaning_in settings) own.name error
 
 -- one of a listing as an item
 abbrev pub IsItem : (honest : Type 0) → Settings → View → (before now : FaultCounts) → Listed →
     Result Reference Error → Type 0
 IsItem honest settings view before now (Walked e) item =
     IsFoundItem honest settings view before now e.1 item
-IsItem honest settings view before now (InPacked own) item = IsRecordItem own item
+IsItem honest settings view before now (InPacked own) item =
+    IsRecordItem settings own item

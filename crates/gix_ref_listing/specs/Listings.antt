@@ -1,5 +1,5 @@
 -- A listing: what a walk found and the records of `packed-refs`, in the order of their names.
-use Rattle.std.specs.Prelude.{◌≡◌, ◌+◌, ℕ, List, [], ◌∷◌, length, map, Option, Some, None, Result, Ok, Err}
+use Rattle.std.specs.Prelude.{◌≡◌, ◌⊎◌, ◌+◌, ℕ, List, [], ◌∷◌, length, map, Option, Some, None, Result, Ok, Err, true}
 use Rattle.std.specs.Ordering.{match_ordering, nat_cmp}
 use Rattle.std.specs.Cmp.Lexicographic.{slice_cmp}
 use Rattle.std.specs.declared.cmp.Ordering.{Ordering}
@@ -69,6 +69,10 @@ abbrev pub IsNoRecord : List Listed → Type 0
 IsNoRecord [] = Unit {0}
 IsNoRecord (Walked e ∷ more) = Unit {0}
 IsNoRecord (InPacked own ∷ more) = ⊥
+
+-- what comes next is not lent: it is no record, or the store prohibits device names
+abbrev pub IsNotLent : Settings → List Listed → Type 0
+IsNotLent settings listed = IsNoRecord listed ⊎ (settings.prohibit_windows_device_names ≡ true)
 
 -- how many items are yet to come at most
 abbrev pub merge_left : Merge → ℕ

@@ -5,12 +5,14 @@ use Rattle.gix_ref_files.specs.Calls.{Unchanged}
 use Rattle.gix_ref_theory.specs.OnRealTrees.{view_of}
 use Rattle.gix_ref_name.specs.Names.{full_ref_bytes}
 use Rattle.gix_ref_packed_text.specs.declared.raw.Reference.{Reference}
+use Rattle.gix_ref_lookup.specs.Lookups.{meaning_in}
 use Rattle.gix_ref_lookup.specs.declared.settings.Settings.{Settings}
 use Rattle.gix_ref_listing.specs.OwedNames.{Text, OwesNames, PaysItem}
 use Rattle.gix_ref_listing.specs.OwnRecords.{Own, own_of, AreAhead}
 use Rattle.gix_ref_listing.specs.Listings.{Listed, merged_listing}
 use Rattle.gix_ref_listing.specs.Listings.Listed.{InPacked}
 use Rattle.gix_ref_listing.specs.GoneFiles.{IsGivenItem}
+use Rattle.gix_ref_listing.specs.Items.{IsAllowed}
 use Rattle.gix_ref_listing.specs.declared.own_records.OwnRecord.{OwnRecord}
 use Rattle.gix_ref_listing.specs.declared.error.Error.{Error}
 use Rattle.gix_ref_listing.specs.declared.merge.Merge.{Merge}
@@ -24,12 +26,14 @@ abbrev pub AreYet : Settings → Merge → List Listed → Type 0
 AreYet settings m listed = (owns : List Own) × AreAhead settings m.packed owns
     × (listed ≡ merged_listing m.found.entries owns)
 
--- What lending a record does: it is the first of those that are yet to come, of which there are some.
+-- What lending a record does: it is the first of those that are yet to come, of which there are some, and the store prohibits
+-- nothing at the place of its name.
 pub record GivesRecord (settings : Settings) (s t : Merge) (own : OwnRecord) : Type 0 where
   pub gives : (listed : List Listed) → AreYet settings s listed → (more : List Listed)
       × (listed ≡ InPacked (own_of own) ∷ more) × AreYet settings t more
   pub pays : (text : Text) (names : List (List ℕ)) → OwesNames settings text names s →
       OwesNames settings text (full_ref_bytes own.name ∷ names) t
+  pub allowed : IsAllowed (meaning_in settings) (full_ref_bytes own.name)
   pub goes_on : IsDrained s → ⊥
 
 -- no fault was counted, unless the item is a fault

@@ -19,7 +19,8 @@ pub enum Error {
         path: Vec<u8>,
     },
     /// The file at this path could not be read, or was removed since the walk that found it, and the name has no record in
-    /// `packed-refs` either. The path is that of `packed-refs` where this could not be opened or searched for such a name.
+    /// `packed-refs` either. The path is that of `packed-refs` where this could not be opened or searched for such a name. Of a
+    /// record it is the place of its name, which has the name of a device, and the store prohibits these.
     #[error("the file of a reference could not be read: {source}")]
     ReadFileContents {
         source: ReadError,

@@ -1,12 +1,14 @@
 //! One item of a listing.
-ghost use Rattle.std.specs.Prelude.{◌≡◌, ◌≤◌, ◌+◌, List, IfSome, IfNone, OnOk};
+ghost use Rattle.std.specs.Prelude.{◌≡◌, ◌≤◌, ◌+◌, List, IfErr, IfSome, IfNone, OnOk};
 ghost use Rattle.std.specs.Option.{option_len};
+ghost use Rattle.gix_ref_name.specs.Names.{full_ref_bytes};
 ghost use Rattle.gix_ref_theory.specs.OnRealTrees.{contents};
+ghost use Rattle.gix_ref_lookup.specs.Lookups.{meaning_in};
 ghost use Rattle.gix_ref_lookup.specs.Looks.{OnlyLooks};
 ghost use Rattle.gix_ref_listing.specs.OwnRecords.{own_of};
 ghost use Rattle.gix_ref_listing.specs.GoneFiles.{IsFoundOrGone, IsTakenItem};
-ghost use Rattle.gix_ref_listing.specs.Items.{IsRecordItem};
-ghost use Rattle.gix_ref_listing.specs.Listings.{Listed, IsNoRecord, merge_left};
+ghost use Rattle.gix_ref_listing.specs.Items.{IsAllowed, IsRecordFault, IsRecordItem};
+ghost use Rattle.gix_ref_listing.specs.Listings.{Listed, IsNotLent, merge_left};
 ghost use Rattle.gix_ref_listing.specs.PlainSettings.{plain};
 ghost use Rattle.gix_ref_listing.specs.Steps.{AreYet, GivesNext, GivesRecord};
 ghost use Rattle.gix_ref_listing.specs.declared.found.Found.TheVariants.{File};
@@ -17,9 +19,10 @@ use crate::gone::find_again;
 use crate::merge::{Merge, Taken};
 use crate::own_records::OwnRecord;
 use gix_ref_files::files::Files;
+use gix_ref_lookup::find::ReadError;
 use gix_ref_lookup::find::candidate::read_at;
 use gix_ref_lookup::settings::Settings;
-use gix_ref_name::name::FullName;
+use gix_ref_name::name::{FullName, FullNameRef};
 use gix_ref_packed::raw::Reference;
 use gix_ref_target::target::Target;
 use std::alloc::Global;
@@ -48,10 +51,36 @@ fn file_item<F: Files>(
     }
 }
 
-/// The reference of a record.
-fn record_item(alloc: Global, own: OwnRecord<'_>) -> Result<Reference, Error>
-    ensures { IsRecordItem (own_of own.entry) result }
+/// Refuses the record of a name whose place has the name of a device, where the store prohibits these, as a lookup of the name
+/// does. Where it prohibits none, no path is made.
+fn check_place(alloc: Global, settings: Settings<'_>, name: FullNameRef<'_>) -> Result<(), Error>
+    ensures allowed { OnOk result
+        (IsAllowed (meaning_in settings.entry) (full_ref_bytes name.entry)) }
+    ensures refused { IfErr result
+        (IsRecordFault (meaning_in settings.entry) (full_ref_bytes name.entry)) }
 {
+    if !settings.prohibit_windows_device_names {
+        return Ok(());
+    }
+    let path = settings.place(alloc, name)?;
+    if settings.is_prohibited(&path) {
+        return Err(Error::ReadFileContents {
+            source: ReadError::DeviceName,
+            path,
+        });
+    }
+    Ok(())
+}
+
+/// The reference of a record.
+fn record_item(
+    alloc: Global,
+    settings: Settings<'_>,
+    own: OwnRecord<'_>,
+) -> Result<Reference, Error>
+    ensures { IsRecordItem settings.entry (own_of own.entry) result }
+{
+    check_place(alloc, settings, own.name)?;
     Ok(Reference {
         name: own.name.to_owned(alloc)?,
         target: Target::Object(own.record.target()),
@@ -74,7 +103,7 @@ fn item<F: Files>(
     match taken {
         Taken::Walked(Found::File { name, path }) => file_item(alloc, files, settings, name, path),
         Taken::Walked(Found::Unlisted { path, source }) => Err(Error::Traversal { source, path }),
-        Taken::Packed(Ok(own)) => record_item(alloc, own),
+        Taken::Packed(Ok(own)) => record_item(alloc, settings, own),
         Taken::Packed(Err(error)) => Err(of_line(alloc, error)),
     }
 }
@@ -112,11 +141,12 @@ pub fn next_item<F: Files>(
 }
 
 /// The next of a listing, lent, where it is a record of `packed-refs`. `None` where it is anything else, which then stays the
-/// next, and at the end. Takes no memory.
+/// next, and at the end; and always where the store prohibits device names, so that `next_item` gives the record, or why it is not
+/// given. Takes no memory.
 pub fn next_record<'p>(settings: Settings<'_>, merge: &mut Merge<'p>) -> Option<OwnRecord<'p>>
     ensures gives { IfSome result (GivesRecord (plain settings.entry) merge.old merge.new) }
     ensures none { IfNone result ((listed : List Listed) →
-        AreYet (plain settings.entry) merge.old listed → IsNoRecord listed) }
+        AreYet (plain settings.entry) merge.old listed → IsNotLent settings.entry listed) }
     ensures stays { IfNone result (merge.new ≡ merge.old) }
     ensures left { option_len result + merge_left merge.new ≤ merge_left merge.old }
 {

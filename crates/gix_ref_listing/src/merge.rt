@@ -26,10 +26,12 @@ pub struct Merge<'p> {
 impl<'p> Merge<'p> {
     ghost use Rattle.std.specs.Prelude.{◌≡◌, ◌≤◌, ◌+◌, ◌∷◌, ℕ, List, IfNone, IfSome, None};
     ghost use Rattle.gix_ref_name.specs.Names.{full_ref_bytes};
+    ghost use Rattle.gix_ref_lookup.specs.Lookups.{meaning_in};
     ghost use Rattle.std.specs.Option.{option_len};
     ghost use Rattle.gix_ref_listing.specs.OwnRecords.{Own, AreAhead};
     ghost use Rattle.gix_ref_listing.specs.OwedNames.{Text, OwesNames, PaysTaken};
-    ghost use Rattle.gix_ref_listing.specs.Listings.{merged_listing, order_of, TakesFirst, TakesListed, TakesRecord, IsNoRecord, merge_left};
+    ghost use Rattle.gix_ref_listing.specs.Listings.{merged_listing, order_of, TakesFirst, TakesListed, TakesRecord, IsNotLent, merge_left};
+    ghost use Rattle.gix_ref_listing.specs.Items.{IsAllowed};
     ghost use Rattle.gix_ref_listing.specs.Steps.{IsDrained};
 
     /// Whether what was found comes before the next record, is of the same name, or comes after it.
@@ -83,7 +85,7 @@ impl<'p> Merge<'p> {
     }
 
     /// The next of the listing, where it is a record of `packed-refs`. `None` where it is anything else, which then stays the
-    /// next, and at the end.
+    /// next, and at the end; and always where the store prohibits device names, since a record may be refused for its name then.
     pub fn take_record(&mut self, settings: Settings<'_>) -> Option<OwnRecord<'p>>
         ensures takes { IfSome result (λ own. (owns : List Own) →
             AreAhead settings.entry self.old.packed owns →
@@ -91,12 +93,18 @@ impl<'p> Merge<'p> {
         ensures pays { IfSome result (λ own. (text : Text) (names : List (List ℕ)) →
             OwesNames settings.entry text names self.old →
             OwesNames settings.entry text (full_ref_bytes own.name ∷ names) self.new) }
-        ensures none { IfNone result ((owns : List Own) → AreAhead settings.entry self.old.packed
-            owns → IsNoRecord (merged_listing self.old.found.entries owns)) }
+        ensures allowed { IfSome result
+            (λ own. IsAllowed (meaning_in settings.entry) (full_ref_bytes own.name)) }
+        ensures none { IfNone result ((owns : List Own) →
+            AreAhead settings.entry self.old.packed owns →
+            IsNotLent settings.entry (merged_listing self.old.found.entries owns)) }
         ensures goes_on { IfSome result (λ _. IsDrained self.old → ⊥) }
         ensures stays { IfNone result (self.new ≡ self.old) }
         ensures left { option_len result + merge_left self.new ≤ merge_left self.old }
     {
+        if settings.prohibit_windows_device_names {
+            return None;
+        }
         match self.order() {
             Ordering::Greater => self.packed.take_record(settings),
             Ordering::Less | Ordering::Equal => None,

@@ -7,7 +7,7 @@ use Rattle.std.specs.Io.KnownBytes.{Appends, Keeps, append_known}
 use Rattle.std.specs.Iterator.{Yields}
 use Rattle.gix_ref_files.specs.Files.{Meaning, FaultCounts}
 use Rattle.gix_ref_packed_text.specs.declared.raw.Reference.{Reference}
-use Rattle.gix_ref_listing.specs.Items.{IsRecordItem}
+use Rattle.gix_ref_listing.specs.Items.{IsOfRecord}
 use Rattle.gix_ref_listing.specs.OwnRecords.{own_of}
 use Rattle.gix_ref_listing.specs.declared.own_records.OwnRecord.{OwnRecord}
 use Rattle.gix_ref_listing.specs.declared.error.Error.{Error}
@@ -46,7 +46,7 @@ pub record PrintsAll {F : Type 0} (honest : Type 0) (means : F → Meaning) (fau
 -- The line of a record is added: that of the reference with its name, its id and the id at which its tag ends.
 pub record PushesRecord (own : OwnRecord) (old new : List ℕ) : Type 0 where
   pub reference : Reference
-  pub is : IsRecordItem (own_of own) (Ok reference)
+  pub is : IsOfRecord (own_of own) reference
   pub added : new ≡ old ++ reference_line reference
 
 -- the text of an item, if there is one

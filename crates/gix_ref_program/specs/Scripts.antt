@@ -47,7 +47,8 @@ IsNoLine line refusals.WrongLine = (asked : List Asked) → AsksFor line asked �
 IsNoLine line refusals.Memory = Unit {0}
 IsNoLine line refusal = ⊥
 
-module _ {F : Type 0} (honest : Type 0) (means : F → Meaning) (faults : F → FaultCounts) (terms : Terms) where
+module _ {F : Type 0} (honest : Type 0) (means : F → Meaning) (faults : F → FaultCounts)
+    (terms : Terms) where
   -- a line was made: the transaction of what it asks for was, and some locks may stay
   abbrev pub LineMade : (line : List ℕ) → (old new : Store F) → Type 0
   LineMade line old new = (asked : List Asked) × AsksFor line asked
@@ -77,7 +78,8 @@ module _ {F : Type 0} (honest : Type 0) (means : F → Meaning) (faults : F → 
   IsScriptLoss lines old T = IsWithinSteps LineMade (λ s. IsKept means (files_of s) T)
       (IsLineLoss T) lines old
 
-module _ {F : Type 0} (honest : Type 0) (read : FileError → Type 0) (means : F → Meaning) (faults : F → FaultCounts) (terms : Terms) where
+module _ {F : Type 0} (honest : Type 0) (read : FileError → Type 0) (means : F → Meaning)
+    (faults : F → FaultCounts) (terms : Terms) where
   -- a line that is not begun
   abbrev pub NotALine : (line : List ℕ) → (old new : Store F) → Outcome → Type 0
   NotALine line old new (outcomes.Refused refusal locks) = IsNoLine line refusal × (new ≡ old)

@@ -69,7 +69,8 @@ IsKept means files T = (q : Path) →
     IsSettledAt (disk_of (means files)) (view_of (means files).tree q) q →
     view_of T q ≡ view_of (means files).tree q
 
-module _ {F : Type 0} (honest : Type 0) (means : F → Meaning) (faults : F → FaultCounts) (terms : Terms) where
+module _ {F : Type 0} (honest : Type 0) (means : F → Meaning) (faults : F → FaultCounts)
+    (terms : Terms) where
   -- A transaction that was made: the edits that these commands ask for were prepared and committed, and these locks stay. Where
   -- `packed-refs` was well formed it is so again, and where all was at rest all is. Names mean the same.
   pub record IsWritten (asked : List Asked) (old new : Store F) (left : List Path) : Type 0 where
@@ -93,7 +94,8 @@ module _ {F : Type 0} (honest : Type 0) (means : F → Meaning) (faults : F → 
       ⊎ ((edits : List RefEdit) × AreEditsOf terms asked edits
       × IsLossOf honest means faults terms.uses old terms.committer edits T)
 
-module _ {F : Type 0} (honest : Type 0) (read : FileError → Type 0) (means : F → Meaning) (faults : F → FaultCounts) (terms : Terms) where
+module _ {F : Type 0} (honest : Type 0) (read : FileError → Type 0) (means : F → Meaning)
+    (faults : F → FaultCounts) (terms : Terms) where
   -- A transaction that was refused, or whose commit failed, and the locks that stay: the commands have no edits, and nothing is
   -- begun; or these edits were not made.
   abbrev pub IsNotWritten : List Asked → (old new : Store F) → Refusal → (left : List Path) → Type 0

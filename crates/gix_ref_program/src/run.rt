@@ -368,7 +368,8 @@ fn run_command<F: Files, W: Write>(
     requires { IsNoScript (line_asked line.now).asked }
     ensures packed_refs { result.packed_refs ≡ packed_refs }
     ensures prints { Prints (LineRan F.honest F.means F.faults packed_refs F.Reader.ReadAt files
-        result.files (line_asked line.now)) (W.contents out.old) (W.contents out.new) result.status }
+        result.files (line_asked line.now)) (W.contents out.old) (W.contents out.new)
+        result.status }
     ensures leaves { F.honest → Leaves (F.means files) (F.means result.files)
         (IsStopIn F.honest F.means F.faults packed_refs files (line_asked line.now)) }
     ensures loses { F.honest → IsWrite (line_asked line.now).asked →
@@ -403,7 +404,8 @@ fn run_line<F: Files, W: Write>(
 ) -> RunResult<F>
     ensures packed_refs { result.packed_refs ≡ packed_refs }
     ensures prints { Prints (LineRan F.honest F.means F.faults packed_refs F.Reader.ReadAt files
-        result.files (line_asked line.now)) (W.contents out.old) (W.contents out.new) result.status }
+        result.files (line_asked line.now)) (W.contents out.old) (W.contents out.new)
+        result.status }
     ensures leaves { F.honest → Leaves (F.means files) (F.means result.files)
         (IsStopIn F.honest F.means F.faults packed_refs files (line_asked line.now)) }
     ensures loses { F.honest → MayWrite (line_asked line.now).asked →

@@ -20,7 +20,7 @@ use Rattle.gix_ref_theory.specs.Readings.Reading.{Is, Fault, Absent}
 use Rattle.gix_ref_theory.specs.Views.{View}
 use Rattle.gix_ref_lookup.specs.Lookups.{meaning_in, Among}
 use Rattle.gix_ref_lookup.specs.declared.settings.Settings.{Settings}
-use Rattle.gix_ref_listing.specs.Items.{IsItem, IsUnread}
+use Rattle.gix_ref_listing.specs.Items.{IsAllowed, IsItem, IsRecordFault, IsUnread}
 use Rattle.gix_ref_listing.specs.Listings.{Listed}
 use Rattle.gix_ref_listing.specs.Listings.Listed.{Walked, InPacked}
 use Rattle.gix_ref_listing.specs.LooseListings.{IsFileListed, IsFront, IsLooseListed}
@@ -31,7 +31,7 @@ use Rattle.gix_ref_listing.specs.declared.found.Found.TheVariants.{File, Unliste
 use Rattle.gix_ref_listing.specs.declared.error.Error.TheVariants.{Traversal, ReadFileContents, ReferenceCreation, PackedReference, Memory}
 use Rattle.gix_ref_lookup.specs.declared.find.error.ReadError.TheVariants.{File as file_error, DeviceName}
 use Rattle.gix_ref_lookup.proofs.LooseLemmas.{refused_none}
-use Rattle.gix_ref_read_back.specs.ListedReadings.{AreComposed, IsReadingFault, IsAllowed, IsItemOf, IsListable}
+use Rattle.gix_ref_read_back.specs.ListedReadings.{AreComposed, IsReadingFault, IsItemOf, IsListable}
 use Rattle.gix_ref_read_back.proofs.OwnPlaces.{own_key, own_place, place_of_own_key}
 
 -- ---- lists
@@ -186,24 +186,33 @@ module _ (settings : Settings) (view : View) (composed : AreComposed settings vi
         by true is = refl
         by false is = is
 
+    -- the record of a name is not given where its place is prohibited
+    record_fault : (before now : FaultCounts) (name : List ℕ) (e : Error) → IsRecordFault s name e → IsReadingFault s before now name (reads name) e
+    record_fault before now name (ReadFileContents DeviceName path) why = why
+    record_fault before now name (ReadFileContents (file_error source) path) why = absurd why
+    record_fault before now name Memory why = tt
+    record_fault before now name (ReferenceCreation source path) why = absurd why
+    record_fault before now name (Traversal source path) why = absurd why
+    record_fault before now name (PackedReference line number) why = absurd why
+
     -- and each reference has the target that it reads
     pub one_target : (honest : Type 0) → honest → AllByRecursion IsNameItem listed → (before now : FaultCounts) (one : Listed) (item : Result Reference Error) → IsNameItem one → Among (λ l. one ≡ l) listed → IsInStore settings view records prefix one →
         IsItem honest settings view before now one item → IsItemOf s reads before now one item
     one_target honest h names before now (Walked (key, Unlisted path source)) (Err e) is_name within found item = absurd is_name
     one_target honest h names before now (Walked (key, File n path)) (Err e) is_name within (named, file) item =
         fault_of honest h before now (full_bytes n) key.items path.items e (at_place prefix key.items path.items file) named file.there item
-    one_target honest h names before now (InPacked own) (Err e) is_name within found item = subst (IsReadingFault s before now own.name (reads own.name)) (sym item) tt
+    one_target honest h names before now (InPacked own) (Err e) is_name within found item = record_fault before now own.name e item
     one_target honest h names before now (Walked (key, Unlisted path e)) (Ok r) is_name within found item = absurd item
     one_target honest h names before now (Walked (key, File n path)) (Ok r) is_name within (named, file) item =
         let name : full_bytes r.name ≡ key.items = ap full_bytes item.0 ∙ named in
         let at = at_place prefix key.items path.items file in
         let loose = item.1 h in (
           name,
-          subst (λ n. IsAllowed s n → reads n ≡ Is (target_value r.target)) (sym name)
-              (λ may. allowed key.items may ∙ (ap (λ f. reading_by s (s.key key.items) f records) (ap view at ∙ loose.1) ∙ loose.2)),
+          subst (λ n. reads n ≡ Is (target_value r.target)) (sym name)
+              (allowed key.items (ap s.is_prohibited at ∙ item.3) ∙ (ap (λ f. reading_by s (s.key key.items) f records) (ap view at ∙ loose.1) ∙ loose.2)),
         )
     one_target honest h names before now (InPacked own) (Ok r) is_name within (there, has) item =
-        (item.0, subst (λ n. IsAllowed s n → reads n ≡ Is (target_value r.target)) (sym item.0) (λ may. allowed own.name may ∙ by (view (s.place own.name)) refl))
+        (item.0.0, subst (λ n. reads n ≡ Is (target_value r.target)) (sym item.0.0) (allowed own.name item.1 ∙ by (view (s.place own.name)) refl))
       where
         by : (file : Option (List ℕ)) → view (s.place own.name) ≡ file → reading_by s (s.key own.name) (view (s.place own.name)) records ≡ Is (target_value r.target)
         by (Some bytes) at =
@@ -212,4 +221,4 @@ module _ (settings : Settings) (view : View) (composed : AreComposed settings vi
             (is.loose own.name (loose_listed prefix own.name there.valid there.begins (place_of_own_key settings own.name there.own) (ap is_some at))))
         by None at =
             ap (λ f. reading_by s (s.key own.name) f records) at
-            ∙ (ap (λ k. reading_by s k None records) there.own ∙ (ap reading_of_record has ∙ item.1))
+            ∙ (ap (λ k. reading_by s k None records) there.own ∙ (ap reading_of_record has ∙ item.0.1))

@@ -1,5 +1,5 @@
 -- What a listing gives, by what each reference reads.
-use Rattle.std.specs.Prelude.{◌≡◌, ℕ, List, [], ◌∷◌, ◌++◌, IsSome, Result, Ok, Err, true, false, codes}
+use Rattle.std.specs.Prelude.{◌≡◌, ℕ, List, [], ◌∷◌, ◌++◌, IsSome, Result, Ok, Err, true, codes}
 use Rattle.std.specs.List.{AllByRecursion}
 use Rattle.gix_ref_hash.specs.Bytes.{BeginsWith}
 use Rattle.gix_ref_name.specs.NameGrammar.{IsPartialName}
@@ -10,6 +10,7 @@ use Rattle.gix_ref_packed_text.specs.declared.raw.Reference.{Reference}
 use Rattle.gix_ref_theory.specs.Lookups.{is_there}
 use Rattle.gix_ref_theory.specs.Readings.{Store, Reading}
 use Rattle.gix_ref_theory.specs.Readings.Reading.{Is, Fault}
+use Rattle.gix_ref_listing.specs.Items.{IsAllowed}
 use Rattle.gix_ref_listing.specs.Listings.{Listed}
 use Rattle.gix_ref_listing.specs.LooseListings.{IsFront}
 use Rattle.gix_ref_listing.specs.WholeListings.{IsOf, Rises, listed_key}
@@ -19,10 +20,6 @@ use Rattle.gix_ref_lookup.specs.Lookups.{Among, name_asked}
 use Rattle.gix_ref_lookup.specs.declared.settings.Settings.{Settings}
 use Rattle.gix_ref_theory.specs.Views.{View}
 use Rattle.gix_ref_lookup.specs.declared.find.error.ReadError.TheVariants.{File as file_error, DeviceName}
-
--- the store prohibits nothing at the place of the name
-abbrev pub IsAllowed : Store → List ℕ → Type 0
-IsAllowed s name = s.is_prohibited (s.place name) ≡ false
 
 -- each file below a folder of the store has a composed name, where the store composes names (`core.precomposeUnicode` of `git
 -- config`)
@@ -56,7 +53,7 @@ abbrev pub IsItemOf : Store → (List ℕ → Reading) → (before now : FaultCo
     Result Reference Error → Type 0
 IsItemOf s reads before now one (Ok r) =
     (full_bytes r.name ≡ listed_key one)
-    × (IsAllowed s (full_bytes r.name) → reads (full_bytes r.name) ≡ Is (target_value r.target))
+    × (reads (full_bytes r.name) ≡ Is (target_value r.target))
 IsItemOf s reads before now one (Err error) =
     IsReadingFault s before now (listed_key one) (reads (listed_key one)) error
 

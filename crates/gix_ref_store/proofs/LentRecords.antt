@@ -6,7 +6,7 @@ use denote.Ref.{MutBor}
 use Rattle.gix_ref_files.specs.Files.{Meaning, FaultCounts}
 use Rattle.gix_ref_files.proofs.Moments.{starts}
 use Rattle.gix_ref_packed_text.specs.declared.raw.Reference.{Reference}
-use Rattle.gix_ref_listing.specs.Items.{IsRecordItem}
+use Rattle.gix_ref_listing.specs.Items.{IsOfRecord}
 use Rattle.gix_ref_listing.specs.Listings.Listed.{InPacked}
 use Rattle.gix_ref_listing.specs.OwedNames.{OwesNames}
 use Rattle.gix_ref_listing.specs.OwnRecords.{own_of}
@@ -23,9 +23,9 @@ use Rattle.gix_ref_store.specs.declared.file.iter.Remaining.{Remaining}
 
 module _ {F : Type 0} (honest : Type 0) (means : F → Meaning) (faults : F → FaultCounts) where
   -- files that nothing was asked of, and an item in the place of a record
-  given : (files : F) (settings : Settings) (s t : Merge) (own : OwnRecord) (r : Reference) → GivesRecord settings s t own → IsRecordItem (own_of own) (Ok r) → GivesNext honest means faults settings files files s (Some (Ok r)) t
+  given : (files : F) (settings : Settings) (s t : Merge) (own : OwnRecord) (r : Reference) → GivesRecord settings s t own → IsOfRecord (own_of own) r → GivesNext honest means faults settings files files s (Some (Ok r)) t
   given files settings s t own r gave is = record {
-    gives = λ listed yet. let first = gave.gives listed yet in (InPacked (own_of own), first.0, first.1, first.2, is);
+    gives = λ listed yet. let first = gave.gives listed yet in (InPacked (own_of own), first.0, first.1, first.2, (is, gave.allowed));
     pays = λ text names owes. subst (λ (n : List ℕ). OwesNames settings text (n ∷ names) t) (sym is.0) (gave.pays text names owes);
     rises = no_fewer_starts (faults files);
     counts = refl;

@@ -13,8 +13,8 @@ use Rattle.gix_ref_packed.specs.OpenFiles.{CountsRefusal}
 use Rattle.gix_ref_packed.specs.declared.packed.buffer.Buffer.{Buffer}
 use Rattle.gix_ref_packed_text.specs.declared.raw.Reference.{Reference}
 use Rattle.gix_ref_listing.specs.CleanPrefixes.{IsRefusedPrefix}
-use Rattle.gix_ref_listing.specs.Items.{IsItem, IsRecordItem}
-use Rattle.gix_ref_listing.specs.Listings.{Listed, merge_left}
+use Rattle.gix_ref_listing.specs.Items.{IsItem, IsOfRecord}
+use Rattle.gix_ref_listing.specs.Listings.{Listed, IsNotLent, merge_left}
 use Rattle.gix_ref_listing.specs.OwedNames.{Text, IsDue}
 use Rattle.gix_ref_listing.specs.OwnRecords.{own_of}
 use Rattle.gix_ref_listing.specs.PrefixedRecords.{IsHeldFor}
@@ -87,6 +87,10 @@ module _ {F : Type 0} where
   abbrev pub AreYetIn : LooseThenPacked F Remaining → List Listed → Type 0
   AreYetIn it listed = AreYet (settings_of it.store.now) it.rest.merge listed
 
+  -- the next of these is not lent by an iterator: it is no record, or the store prohibits device names
+  abbrev pub IsNotLentIn : LooseThenPacked F Remaining → List Listed → Type 0
+  IsNotLentIn it listed = IsNotLent (settings_of it.store.now) listed
+
   -- the store of a platform
   abbrev pub platform_store : Platform F (Option Buffer) → Store F
   platform_store p = p.store.now
@@ -129,7 +133,7 @@ module _ {F : Type 0} where
     -- which its tag ends is what `next` gives.
     pub record LendsNext (s t : LooseThenPacked F Remaining) (own : OwnRecord) : Type 0 where
       pub gives : GivesRecord (settings_of s.store.now) s.rest.merge t.rest.merge own
-      pub next : (r : Reference) → IsRecordItem (own_of own) (Ok r) → NextItem s (Some (Ok r)) t
+      pub next : (r : Reference) → IsOfRecord (own_of own) r → NextItem s (Some (Ok r)) t
 
     -- These are the first items of a listing, in its order, and `rest` is yet to come. Each is made between two counts of faults,
     -- the first of which is `before`, and the last at most `now`.

@@ -82,8 +82,8 @@ module _ {F : Type 0} (means : F → Meaning) where
   abbrev pub LosesNothing : Mode → (old new : Store F) → List RefEdit → Type 0
   LosesNothing mode old new edits = LosesNothingBut old new (places_in mode old edits)
 
-module _ {F : Type 0} (honest : Type 0) (read : FileError → Type 0) (means : F → Meaning) (faults : F → FaultCounts)
-    (claims : Type 0) (meaning : ObjectId → Stored) (mode : Mode) where
+module _ {F : Type 0} (honest : Type 0) (read : FileError → Type 0) (means : F → Meaning)
+    (faults : F → FaultCounts) (claims : Type 0) (meaning : ObjectId → Stored) (mode : Mode) where
   -- A refusal. Where `packed-refs` is well formed, its error is the first cause that applies; `Packed` is returned for a
   -- `packed-refs` that is refused, and `PackedFind` where the record of an edit is asked for and cannot be read; a fault of files
   -- was counted, by them or by a reader; all is as before except for the locks that are named, and folders

@@ -73,12 +73,13 @@ impl<'p, F: Files> Iterator for LooseThenPacked<'p, F> {
 impl<'p, F: Files> LooseThenPacked<'p, F> {
     ghost use Rattle.std.specs.Prelude.{◌≡◌, ◌≤◌, ◌+◌, List, IfSome, IfNone};
     ghost use Rattle.std.specs.Option.{option_len};
-    ghost use Rattle.gix_ref_listing.specs.Listings.{Listed, IsNoRecord};
-    ghost use Rattle.gix_ref_store.specs.Listings.{AreYetIn, LendsNext, items_ahead};
+    ghost use Rattle.gix_ref_listing.specs.Listings.{Listed};
+    ghost use Rattle.gix_ref_store.specs.Listings.{AreYetIn, IsNotLentIn, LendsNext, items_ahead};
 
     /// The next item, where it is a record of `packed-refs`: the record is lent from the buffer, where `next` would make a
-    /// `Reference` of it. `None` where the next item is anything else, which then stays the next, and at the end. Takes no
-    /// memory, and reads no file. Not in gix-ref.
+    /// `Reference` of it. `None` where the next item is anything else, which then stays the next, and at the end. Where the store
+    /// prohibits the names of Windows devices it lends none, and `next` gives the record, or why it is not given. Takes no memory,
+    /// and reads no file. Not in gix-ref.
     ///
     /// ```text
     /// while let Some(own) = items.next_record() {
@@ -88,7 +89,7 @@ impl<'p, F: Files> LooseThenPacked<'p, F> {
     pub fn next_record(&mut self) -> Option<OwnRecord<'p>>
         ensures lends { IfSome result (LendsNext F.honest F.means F.faults self.old self.new) }
         ensures none { IfNone result ((listed : List Listed) → AreYetIn self.old listed →
-            IsNoRecord listed) }
+            IsNotLentIn self.old listed) }
         ensures same_store { self.new.store ≡ self.old.store }
         ensures stays { IfNone result (self.new ≡ self.old) }
         ensures left { option_len result + items_ahead self.new ≤ items_ahead self.old }
@@ -227,7 +228,7 @@ impl<F: Files> Store<F> {
     ghost use Rattle.gix_ref_listing.specs.declared.prefix.Error.TheVariants.{Memory};
     ghost use Rattle.gix_ref_store.specs.Lookup.{AreRecordsIn, CanBeOpened, LooksUp, settings_of};
     ghost use Rattle.std.specs.Option.{option_len};
-    ghost use Rattle.gix_ref_listing.specs.Listings.{Listed, IsNoRecord, merge_left};
+    ghost use Rattle.gix_ref_listing.specs.Listings.{Listed, IsNotLent, merge_left};
     ghost use Rattle.gix_ref_listing.specs.CleanPrefixes.{IsAcceptedPrefix, IsRefusedPrefix};
     ghost use Rattle.gix_ref_listing.specs.Steps.{AreYet, GivesNext, GivesRecord};
     ghost use Rattle.gix_ref_store.specs.Store.{files_of, IsSameStore};
@@ -255,7 +256,8 @@ impl<F: Files> Store<F> {
     fn lend_listed<'p>(&self, merge: &mut Merge<'p>) -> Option<OwnRecord<'p>>
         ensures gives { IfSome result (GivesRecord (settings_of self.now) merge.old merge.new) }
         ensures none { IfNone result ((listed : List Listed) →
-            AreYet (settings_of self.now) merge.old listed → IsNoRecord listed) }
+            AreYet (settings_of self.now) merge.old listed →
+            IsNotLent (settings_of self.now) listed) }
         ensures stays { IfNone result (merge.new ≡ merge.old) }
         ensures left { option_len result + merge_left merge.new ≤ merge_left merge.old }
     {
