@@ -77,7 +77,7 @@ module _ (settings : Settings) (view : View) (composed : AreComposed settings vi
 
     one_item : (before now : FaultCounts) (one : Listed) (item : Result Reference Error) → reads (listed_key one) ≡ found (listed_key one) → IsItemOf s found before now one item → IsItemOf s reads before now one item
     one_item before now one (Err e) same item = subst (λ r. IsReadingFault s before now (listed_key one) r e) (sym same) item
-    one_item before now one (Ok r) same (name, target) = (name, λ may. subst (λ n. reads n ≡ found n) (sym name) same ∙ target may)
+    one_item before now one (Ok r) same (name, target) = (name, subst (λ n. reads n ≡ found n) (sym name) same ∙ target)
 
     module _ {F : Type 0} (honest : Type 0) (h : honest) (means : F → Meaning) (faults : F → FaultCounts) (now : FaultCounts) where
       all_items : (items : List (Result Reference Error)) (before : FaultCounts) (ones : List Listed) → AllByRecursion IsNameItem ones → AllByRecursion (IsInStore settings view records prefix) ones →

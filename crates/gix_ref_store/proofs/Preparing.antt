@@ -25,7 +25,7 @@ use Rattle.gix_ref_transaction.specs.declared.prepare.hold.LockFailure.{LockFail
 use Rattle.gix_ref_transaction.specs.PrepareSteps.{puts_in, AreWholeLocks, effects_of, effects_on, files_at, ids_in, packed_ids, place_paths, places_of, seen_files, targets_of, updates}
 use Rattle.gix_ref_transaction.specs.declared.edit.Edit.{Edit}
 use Rattle.gix_ref_store.specs.ComposedEdits.{AreAskedAs}
-use Rattle.gix_ref_store.specs.Prepared.{HasGoodRecords, HaveParents, HoldsFrom, HoldsGiven, HoldsPacked, LosesNothing, PreparesFrom, PreparesGiven, RefusesFrom, RefusesGiven, SplitsFrom, disk_in, locks_in, tree_of}
+use Rattle.gix_ref_store.specs.Prepared.{HasGoodRecords, HaveParents, HoldsGiven, HoldsSplit, PreparesFrom, PreparesGiven, RefusesFrom, RefusesGiven, SplitsFrom, disk_in, locks_in, tree_of}
 use Rattle.gix_ref_store.specs.Store.{folders, kind_of, meaning_of}
 use Rattle.gix_ref_store.specs.declared.file.store.Store.{Store}
 
@@ -38,24 +38,24 @@ prepares honest means faults claims meaning mode old new given len packed held s
   split = updates held;
   splits = holds.splits;
   parents = λ h. ap parents_in over ∙ (same_parents ∙ (ap parents_in are ∙ holds.parents h));
-  put = subst (λ (l : List Edit). ArePut claims meaning (meaning_of old) mode (kind_of old) l) (sym over) (carried_puts (meaning_of old) mode (kind_of old) claims meaning held after same puts (holds.put));
+  put = subst (λ (l : List Edit). ArePut claims meaning (meaning_of old) mode (kind_of old) l) (sym over) (carried_puts (meaning_of old) mode (kind_of old) claims meaning held after same puts (holds.from.put));
   prepared = subst (λ (l : List Edit). PreparesFrom honest means faults mode old new (updates held) packed l) (sym over) (record {
     was = targets_of held;
-    held = holds.held;
-    lost = holds.lost;
-    whole = holds.whole;
-    packed = holds.packed;
+    held = holds.from.held;
+    lost = holds.from.lost;
+    whole = holds.from.whole;
+    packed = holds.from.packed;
     carried = subst (λ (l : List Edit). AreCarried (updates l) (targets_of l) (updates after)) are carried;
-    places = same_places ∙ (ap place_paths are ∙ holds.places);
-    effects = λ h good. same_effects ∙ (ap effects_of are ∙ holds.effects h good);
-    files = λ h good. same_files ∙ (ap seen_files are ∙ holds.files h good);
-    ids = λ h good. same_ids ∙ (ap ids_in are ∙ holds.ids h good);
-    read = λ h. subst (AreRecordIds (meaning_of old) (kind_of old) (view_of (tree_of means old)) (updates held)) (sym (same_ids ∙ ap ids_in are)) (holds.read h);
-    puts = have_their_puts old.dirs old.namespace (kind_of old) old.prohibit_windows_device_names mode claims meaning after (carried_puts (meaning_of old) mode (kind_of old) claims meaning held after same puts (holds.put));
+    places = same_places ∙ (ap place_paths are ∙ holds.from.places);
+    effects = λ h good. same_effects ∙ (ap effects_of are ∙ holds.from.effects h good);
+    files = λ h good. same_files ∙ (ap seen_files are ∙ holds.from.files h good);
+    ids = λ h good. same_ids ∙ (ap ids_in are ∙ holds.from.ids h good);
+    read = λ h. subst (AreRecordIds (meaning_of old) (kind_of old) (view_of (tree_of means old)) (updates held)) (sym (same_ids ∙ ap ids_in are)) (holds.from.read h);
+    puts = have_their_puts old.dirs old.namespace (kind_of old) old.prohibit_windows_device_names mode claims meaning after (carried_puts (meaning_of old) mode (kind_of old) claims meaning held after same puts (holds.from.put));
     can_be_put = carried_can (meaning_of old) mode (kind_of old) held after same puts
         (all_can_be_put old.dirs old.namespace (kind_of old) old.prohibit_windows_device_names mode claims meaning [] held
-        (references (folders old) (git_options (kind_of old) old.prohibit_windows_device_names) (folders_laid old.dirs old.namespace) (kind_of old) [] (updates held) holds.held.valid)
-        holds.held.valid holds.put);
+        (references (folders old) (git_options (kind_of old) old.prohibit_windows_device_names) (folders_laid old.dirs old.namespace) (kind_of old) [] (updates held) holds.from.held.valid)
+        holds.from.held.valid holds.from.put);
   });
 }
   where
@@ -75,32 +75,14 @@ module _ {F : Type 0} (honest : Type 0) (means : F → Meaning) (faults : F → 
   pub holds_given : (r : Result HeldLocks LockFailure) →
       IfOk r (λ held. SplitsFrom honest means faults old asked (updates held.edits.items)) →
       (honest → IfOk r (λ held. HaveParents honest means faults old asked held.edits.items)) →
-      IfOk r (λ held. HoldsFrom honest means faults mode old new (updates held.edits.items) (targets_of held.edits.items)) →
-      (honest → IfOk r (λ held. LosesNothing means mode old new (updates held.edits.items))) →
-      (honest → IfOk r (λ held. AreWholeLocks (disk_in means new) (locks_in means mode old (updates held.edits.items)))) →
-      IfOk r (λ held. HoldsPacked honest means faults mode old new (updates held.edits.items) held.packed) →
-      IfOk r (λ held. place_paths held.edits.items ≡ places_of (meaning_of old) (updates held.edits.items)) →
-      (honest → HasGoodRecords means old → IfOk r (λ held. effects_of held.edits.items ≡ effects_on (meaning_of old) mode (view_of (tree_of means old)) (updates held.edits.items))) →
-      (honest → HasGoodRecords means old → IfOk r (λ held. seen_files held.edits.items ≡ files_at (meaning_of old) (tree_of means old) (updates held.edits.items))) →
-      (honest → HasGoodRecords means old → IfOk r (λ held. ids_in held.edits.items ≡ packed_ids (meaning_of old) (tree_of means old) (updates held.edits.items))) →
-      (honest → IfOk r (λ held. AreRecordIds (meaning_of old) (kind_of old) (view_of (tree_of means old)) (updates held.edits.items) (ids_in held.edits.items))) →
-      IfOk r (λ held. ArePut claims meaning (meaning_of old) mode (kind_of old) held.edits.items) →
+      IfOk r (λ held. HoldsSplit honest means faults claims meaning mode old new (updates held.edits.items) held.packed held.edits.items) →
       IfOk r (λ held. HoldsGiven honest means faults claims meaning mode old new given held.packed held.edits.items)
-  holds_given (Ok held) splits parents holds lost whole packed places effects files ids read put = record {
+  holds_given (Ok held) splits parents from = record {
     splits = record { asked = asked; composed = composed; from = splits };
     parents = parents;
-    held = holds;
-    lost = lost;
-    whole = whole;
-    packed = packed;
-    places = places;
-    effects = effects;
-    files = files;
-    ids = ids;
-    read = read;
-    put = put;
+    from = from;
   }
-  holds_given (Err failure) splits parents holds lost whole packed places effects files ids read put = tt
+  holds_given (Err failure) splits parents from = tt
 
   -- and a refusal of the one is one of the other
   pub refuses_given : (read : FileError → Type 0) (r : Result HeldLocks LockFailure) →

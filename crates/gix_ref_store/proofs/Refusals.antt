@@ -9,14 +9,14 @@ use Rattle.gix_ref_files.specs.Files.{Meaning, Leaves, FaultCounts}
 use Rattle.gix_ref_edits.specs.DoubledNames.{NoneDoubled}
 use Rattle.gix_ref_edits.specs.declared.transaction.RefEdit.{RefEdit}
 use Rattle.gix_ref_transaction.specs.Causes.{IsPackedLocked, names_of, packed_taken}
-use Rattle.gix_ref_transaction.specs.Peels.{IsLockCause}
+use Rattle.gix_ref_transaction.specs.Peels.{ArePut, IsLockCause}
 use Rattle.gix_ref_transaction.specs.HeldLocks.{HoldAllLocks, AreRemovedAgain, HoldsPackedLock, IsHeldBack, OnlyTakes}
 use Rattle.gix_ref_transaction.specs.LeftLocks.{HasRoom}
 use Rattle.gix_ref_transaction.specs.OwnLocks.{AddsLocks, paths_of}
 use Rattle.gix_ref_transaction.specs.Causes.{AllValid, AreRecordIds, NoCause}
 use Rattle.gix_ref_lookup.specs.Lookups.{IsOpenable}
 use Rattle.gix_ref_transaction.specs.Parents.{parents_in}
-use Rattle.gix_ref_transaction.specs.PrepareSteps.{AreLockable, AreWholeLocks, ids_in, packed_ids, possible_locks, effects_of, effects_on, files_at, seen_files, HoldTexts, old_targets, place_paths, targets_of, updates}
+use Rattle.gix_ref_transaction.specs.PrepareSteps.{AreLockable, AreWholeLocks, ids_in, packed_ids, possible_locks, effects_of, effects_on, files_at, seen_files, HoldTexts, old_targets, place_paths, places_of, targets_of, updates}
 use Rattle.gix_ref_transaction.specs.declared.edit.Edit.{Edit}
 use Rattle.gix_ref_transaction.proofs.PackedLemmas.{parents_alike, places_alike, updates_alike}
 use Rattle.gix_ref_hash.specs.declared.hash.ObjectId.{ObjectId}
@@ -25,7 +25,7 @@ use Rattle.gix_ref_theory.specs.Edits.{Mode}
 use Rattle.gix_ref_theory.specs.OnRealTrees.{view_of}
 use Rattle.gix_ref_transaction.specs.declared.prepare.hold.HeldLocks.{HeldLocks}
 use Rattle.gix_ref_transaction.specs.declared.prepare.hold.LockFailure.{LockFailure}
-use Rattle.gix_ref_store.specs.Prepared.{HasGoodRecords, HoldsFrom, HoldsPacked, RefusesSplit, disk_in, locks_in, tree_of}
+use Rattle.gix_ref_store.specs.Prepared.{HasGoodRecords, HoldsFrom, HoldsPacked, HoldsSplit, LosesNothing, RefusesSplit, disk_in, locks_in, tree_of}
 use Rattle.gix_ref_store.specs.Store.{files_of, kind_of, meaning_of, IsSameStore}
 use Rattle.gix_ref_store.specs.declared.file.store.Store.{Store}
 
@@ -62,7 +62,7 @@ module _ {F : Type 0} (honest : Type 0) (means : F → Meaning) (faults : F → 
   held_asked (Ok h) held = updates_alike begun.items h.edits.items held.asked ∙ asked
   held_asked (Err failure) held = tt
 
-  pub held_places : (r : Result HeldLocks LockFailure) → IfOk r Held → (places : List Path) → place_paths begun.items ≡ places → IfOk r (λ h. place_paths h.edits.items ≡ places)
+  held_places : (r : Result HeldLocks LockFailure) → IfOk r Held → (places : List Path) → place_paths begun.items ≡ places → IfOk r (λ h. place_paths h.edits.items ≡ places)
   held_places (Ok h) held places are = places_alike begun.items h.edits.items held.asked ∙ are
   held_places (Err failure) held places are = tt
 
@@ -70,28 +70,28 @@ module _ {F : Type 0} (honest : Type 0) (means : F → Meaning) (faults : F → 
   held_parents (Ok h) held parents are = parents_alike begun.items h.edits.items held.asked ∙ are
   held_parents (Err failure) held parents are = tt
 
-  pub held_effects : (r : Result HeldLocks LockFailure) → IfOk r Held → honest → HasGoodRecords means old → IfOk r (λ h. effects_of h.edits.items ≡ effects_on (meaning_of old) mode (view_of (tree_of means old)) split)
+  held_effects : (r : Result HeldLocks LockFailure) → IfOk r Held → honest → HasGoodRecords means old → IfOk r (λ h. effects_of h.edits.items ≡ effects_on (meaning_of old) mode (view_of (tree_of means old)) split)
   held_effects (Ok h) held honestly good = ((held.taken honestly).settled good).what ∙ ap (effects_on (meaning_of old) mode (view_of (tree_of means old))) asked
   held_effects (Err failure) held honestly good = tt
 
-  pub held_files : (r : Result HeldLocks LockFailure) → IfOk r Held → honest → HasGoodRecords means old → IfOk r (λ h. seen_files h.edits.items ≡ files_at (meaning_of old) (tree_of means old) split)
+  held_files : (r : Result HeldLocks LockFailure) → IfOk r Held → honest → HasGoodRecords means old → IfOk r (λ h. seen_files h.edits.items ≡ files_at (meaning_of old) (tree_of means old) split)
   held_files (Ok h) held honestly good = ((held.taken honestly).settled good).files ∙ ap (files_at (meaning_of old) (tree_of means old)) asked
   held_files (Err failure) held honestly good = tt
 
-  pub held_ids : (r : Result HeldLocks LockFailure) → IfOk r Held → honest → HasGoodRecords means old → IfOk r (λ h. ids_in h.edits.items ≡ packed_ids (meaning_of old) (tree_of means old) split)
+  held_ids : (r : Result HeldLocks LockFailure) → IfOk r Held → honest → HasGoodRecords means old → IfOk r (λ h. ids_in h.edits.items ≡ packed_ids (meaning_of old) (tree_of means old) split)
   held_ids (Ok h) held honestly good = ((held.taken honestly).settled good).ids ∙ ap (packed_ids (meaning_of old) (tree_of means old)) asked
   held_ids (Err failure) held honestly good = tt
 
-  pub held_read : (r : Result HeldLocks LockFailure) → IfOk r (λ h. AreRecordIds (meaning_of old) (kind_of old) (view_of (tree_of means old)) (updates begun.items) (ids_in h.edits.items)) →
+  held_read : (r : Result HeldLocks LockFailure) → IfOk r (λ h. AreRecordIds (meaning_of old) (kind_of old) (view_of (tree_of means old)) (updates begun.items) (ids_in h.edits.items)) →
       IfOk r (λ h. AreRecordIds (meaning_of old) (kind_of old) (view_of (tree_of means old)) split (ids_in h.edits.items))
   held_read (Ok h) read = subst (λ (u : List RefEdit). AreRecordIds (meaning_of old) (kind_of old) (view_of (tree_of means old)) u (ids_in h.edits.items)) asked read
   held_read (Err failure) read = tt
 
-  pub held_whole : (r : Result HeldLocks LockFailure) → IfOk r Held → honest → IfOk r (λ h. AreWholeLocks (disk_in means new) (locks_in means mode old split))
+  held_whole : (r : Result HeldLocks LockFailure) → IfOk r Held → honest → IfOk r (λ h. AreWholeLocks (disk_in means new) (locks_in means mode old split))
   held_whole (Ok h) held honestly = subst (λ (u : List RefEdit). AreWholeLocks (disk_in means new) (locks_in means mode old u)) asked (held.taken honestly).whole
   held_whole (Err failure) held honestly = tt
 
-  pub held_split : (r : Result HeldLocks LockFailure) → IfOk r Held → IfOk r HeldPacked → (honest → IfOk r (λ h. IsOpenable (kind_of old) (view_of (tree_of means old) (meaning_of old).packed_path))) → IsSameStore old new → AllValid (meaning_of old) (kind_of old) [] split → NoneDoubled (names_of split) →
+  held_split : (r : Result HeldLocks LockFailure) → IfOk r Held → IfOk r HeldPacked → (honest → IfOk r (λ h. IsOpenable (kind_of old) (view_of (tree_of means old) (meaning_of old).packed_path))) → IsSameStore old new → AllValid (meaning_of old) (kind_of old) [] split → NoneDoubled (names_of split) →
       OnlyTakes honest means faults (locks_in means mode old (updates begun.items)) (files_of old) (files_of new) → IfOk r (λ h. HoldsFrom honest means faults mode old new split (targets_of h.edits.items))
   held_split (Err failure) held packed opened same valid single takes = tt
   held_split (Ok h) held packed opened same valid single takes = record {
@@ -113,12 +113,33 @@ module _ {F : Type 0} (honest : Type 0) (means : F → Meaning) (faults : F → 
   }
 
   -- the lock of `packed-refs`
-  pub held_packed : (r : Result HeldLocks LockFailure) → IfOk r HeldPacked → IfOk r (λ h. HoldsPacked honest means faults mode old new split h.packed)
+  held_packed : (r : Result HeldLocks LockFailure) → IfOk r HeldPacked → IfOk r (λ h. HoldsPacked honest means faults mode old new split h.packed)
   held_packed (Err failure) packed = tt
   held_packed (Ok h) packed = record {
     place = packed.place;
     due = λ honestly. packed.due honestly ∙ ap (packed_taken (meaning_of old) mode (tree_of means old)) asked;
     empty = packed.empty;
+  }
+
+  -- all that is said of what is held, at once
+  pub holds_split : (claims : Type 0) (meaning : ObjectId → Stored) (r : Result HeldLocks LockFailure) → IfOk r Held → IfOk r HeldPacked → (honest → IfOk r (λ h. IsOpenable (kind_of old) (view_of (tree_of means old) (meaning_of old).packed_path))) →
+      IsSameStore old new → AllValid (meaning_of old) (kind_of old) [] split → NoneDoubled (names_of split) → OnlyTakes honest means faults (locks_in means mode old (updates begun.items)) (files_of old) (files_of new) →
+      (honest → LosesNothing means mode old new split) → place_paths begun.items ≡ places_of (meaning_of old) split →
+      (honest → IfOk r (λ h. AreRecordIds (meaning_of old) (kind_of old) (view_of (tree_of means old)) (updates begun.items) (ids_in h.edits.items))) →
+      IfOk r (λ h. ArePut claims meaning (meaning_of old) mode (kind_of old) h.edits.items) →
+      IfOk r (λ h. HoldsSplit honest means faults claims meaning mode old new split h.packed h.edits.items)
+  holds_split claims meaning (Err failure) held packed opened same valid single takes lost places read put = tt
+  holds_split claims meaning (Ok h) held packed opened same valid single takes lost places read put = record {
+    held = held_split (Ok h) held packed opened same valid single takes;
+    lost = lost;
+    whole = held_whole (Ok h) held;
+    packed = held_packed (Ok h) packed;
+    places = held_places (Ok h) held (places_of (meaning_of old) split) places;
+    effects = held_effects (Ok h) held;
+    files = held_files (Ok h) held;
+    ids = held_ids (Ok h) held;
+    read = λ honestly. held_read (Ok h) (read honestly);
+    put = put;
   }
 
   -- and there is as much room as before

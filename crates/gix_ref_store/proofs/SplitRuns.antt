@@ -21,17 +21,18 @@ use Rattle.gix_ref_transaction.specs.Causes.{AllValid, AreRecordIds, IsAccepted,
 use Rattle.gix_ref_lookup.specs.Lookups.{IsOpenable}
 use Rattle.gix_ref_transaction.specs.Peels.{IsLockCause}
 use Rattle.gix_ref_transaction.specs.OwnLocks.{AddsLocks, is_in, times}
-use Rattle.gix_ref_transaction.specs.PrepareSteps.{packed_ids, AreLockable, effects_on, files_at, HoldTexts, old_targets, own_locks, own_places}
+use Rattle.gix_ref_transaction.specs.PrepareSteps.{packed_ids, ids_in, targets_of, AreLockable, AreWholeLocks, effects_on, files_at, HoldTexts, old_targets, own_locks, own_places}
 use Rattle.gix_ref_transaction.specs.SplitOutcomes.{IsNotSplit, IsSplitOf}
 use Rattle.gix_ref_transaction.specs.Splits.{AreDirect, IsSplitCause}
 use Rattle.gix_ref_files.specs.ReadOnly.{OnlyReads}
+use Rattle.gix_ref_transaction.specs.declared.edit.Edit.{Edit}
 use Rattle.gix_ref_transaction.specs.declared.prepare.error.Error.{Error}
 use Rattle.gix_ref_transaction.specs.declared.prepare.error.Error.TheVariants.{Memory}
 use Rattle.gix_ref_transaction.specs.declared.prepare.split.SplitEdits.{SplitEdits}
 use Rattle.gix_ref_files.proofs.ReadOnly.{reads_none}
 use Rattle.gix_ref_transaction.proofs.UnreadRecords.{no_find}
 use Rattle.gix_ref_transaction.proofs.PackedLemmas.{counted_later, counted_on, not_packed}
-use Rattle.gix_ref_store.specs.Prepared.{HasGoodRecords, HoldsFrom, HoldsPacked, KeepsAll, LosesNothing, RefusesFrom, RefusesSplit, SplitsFrom, disk_in, locks_in, places_in, tree_of}
+use Rattle.gix_ref_store.specs.Prepared.{HasGoodRecords, HoldsFrom, HoldsPacked, HoldsSplit, KeepsAll, LosesNothing, RefusesFrom, RefusesSplit, SplitsFrom, disk_in, locks_in, places_in, tree_of}
 use Rattle.gix_ref_store.specs.Store.{files_of, kind_of, meaning_of, with_files}
 use Rattle.gix_ref_store.specs.declared.file.store.Store.{Store}
 use Rattle.gix_ref_store.proofs.PreparedLosses.{kept_loses}
@@ -53,7 +54,7 @@ module _ {F : Type 0} (honest : Type 0) (means : F → Meaning) (faults : F → 
   good_mid : honest → HasGoodRecords means old → HasGoodRecords means mid
   good_mid h good = subst (λ (T : Tree). IsPackedWell (kind_of old) (view_of T (meaning_of old).packed_path)) (sym (same_tree h)) good
 
-  pub locks_same : honest → (edits : List RefEdit) → locks_in means mode mid edits ≡ locks_in means mode old edits
+  locks_same : honest → (edits : List RefEdit) → locks_in means mode mid edits ≡ locks_in means mode old edits
   locks_same h edits = ap (λ (T : Tree). own_locks (meaning_of old) mode T edits) (same_tree h)
 
   places_same : honest → (edits : List RefEdit) → places_in means mode mid edits ≡ places_in means mode old edits
@@ -79,25 +80,22 @@ module _ {F : Type 0} (honest : Type 0) (means : F → Meaning) (faults : F → 
       let places = places_in means mode old edits in
       passes_weaken (reads.passes h) (λ D is. subst (IsAsBefore places staying (disk_in means old)) (sym is) (as_before places staying (disk_in means old) stays))
 
-  pub loses_on : (h : honest) (new : Store F) (edits : List RefEdit) → LosesNothing means mode mid new edits → LosesNothing means mode old new edits
+  loses_on : (h : honest) (new : Store F) (edits : List RefEdit) → LosesNothing means mode mid new edits → LosesNothing means mode old new edits
   loses_on h new edits loses = kept_loses means mode old new edits (keeps_on h new edits loses.keeps)
 
-  pub effects_same : (h : honest) (edits : List RefEdit) → effects_on (meaning_of old) mode (view_of (tree_of means mid)) edits ≡ effects_on (meaning_of old) mode (view_of (tree_of means old)) edits
+  effects_same : (h : honest) (edits : List RefEdit) → effects_on (meaning_of old) mode (view_of (tree_of means mid)) edits ≡ effects_on (meaning_of old) mode (view_of (tree_of means old)) edits
   effects_same h edits = ap (λ (T : Tree). effects_on (meaning_of old) mode (view_of T) edits) (same_tree h)
 
-  pub files_same : (h : honest) (edits : List RefEdit) → files_at (meaning_of old) (tree_of means mid) edits ≡ files_at (meaning_of old) (tree_of means old) edits
+  files_same : (h : honest) (edits : List RefEdit) → files_at (meaning_of old) (tree_of means mid) edits ≡ files_at (meaning_of old) (tree_of means old) edits
   files_same h edits = ap (λ (T : Tree). files_at (meaning_of old) T edits) (same_tree h)
 
-  pub ids_same : (h : honest) (edits : List RefEdit) → packed_ids (meaning_of old) (tree_of means mid) edits ≡ packed_ids (meaning_of old) (tree_of means old) edits
+  ids_same : (h : honest) (edits : List RefEdit) → packed_ids (meaning_of old) (tree_of means mid) edits ≡ packed_ids (meaning_of old) (tree_of means old) edits
   ids_same h edits = ap (λ (T : Tree). packed_ids (meaning_of old) T edits) (same_tree h)
 
-  pub read_on : (h : honest) (edits : List RefEdit) (ids : List (Option ObjectId)) → AreRecordIds (meaning_of old) (kind_of old) (view_of (tree_of means mid)) edits ids → AreRecordIds (meaning_of old) (kind_of old) (view_of (tree_of means old)) edits ids
+  read_on : (h : honest) (edits : List RefEdit) (ids : List (Option ObjectId)) → AreRecordIds (meaning_of old) (kind_of old) (view_of (tree_of means mid)) edits ids → AreRecordIds (meaning_of old) (kind_of old) (view_of (tree_of means old)) edits ids
   read_on h edits ids are = subst (λ (T : Tree). AreRecordIds (meaning_of old) (kind_of old) (view_of T) edits ids) (same_tree h) are
 
-  pub good_on : honest → HasGoodRecords means old → HasGoodRecords means mid
-  good_on = good_mid
-
-  pub holds_on : (new : Store F) (split : List RefEdit) (was : List (Option TargetValue)) → HoldsFrom honest means faults mode mid new split was → HoldsFrom honest means faults mode old new split was
+  holds_on : (new : Store F) (split : List RefEdit) (was : List (Option TargetValue)) → HoldsFrom honest means faults mode mid new split was → HoldsFrom honest means faults mode old new split was
   holds_on new split was held = record {
     accepted = λ h good. subst (λ (T : Tree). IsAccepted (meaning_of old) mode (kind_of old) T split) (same_tree h) (held.accepted h (good_mid h good));
     found = λ h good. subst (λ (T : Tree). was ≡ old_targets (meaning_of old) T split) (same_tree h) (held.found h (good_mid h good));
@@ -111,11 +109,27 @@ module _ {F : Type 0} (honest : Type 0) (means : F → Meaning) (faults : F → 
     same = record { dirs = held.same.dirs; namespace = held.same.namespace; of_kind = held.same.of_kind; reflogs = held.same.reflogs; composes = held.same.composes; prohibits = held.same.prohibits; threshold = held.same.threshold };
   }
 
-  pub packed_on : (new : Store F) (split : List RefEdit) (packed : Option Path) → HoldsPacked honest means faults mode mid new split packed → HoldsPacked honest means faults mode old new split packed
+  packed_on : (new : Store F) (split : List RefEdit) (packed : Option Path) → HoldsPacked honest means faults mode mid new split packed → HoldsPacked honest means faults mode old new split packed
   packed_on new split packed holds = record {
     place = holds.place;
     due = λ h. holds.due h ∙ ap (λ (T : Tree). packed_taken (meaning_of old) mode T split) (same_tree h);
     empty = holds.empty;
+  }
+
+  -- what is held of the split list
+  pub split_on : (claims : Type 0) (meaning : ObjectId → Stored) (new : Store F) (split : List RefEdit) (packed : Option Path) (edits : List Edit) →
+      HoldsSplit honest means faults claims meaning mode mid new split packed edits → HoldsSplit honest means faults claims meaning mode old new split packed edits
+  split_on claims meaning new split packed edits holds = record {
+    held = holds_on new split (targets_of edits) holds.held;
+    lost = λ h. loses_on h new split (holds.lost h);
+    whole = λ h. subst (AreWholeLocks (disk_in means new)) (locks_same h split) (holds.whole h);
+    packed = packed_on new split packed holds.packed;
+    places = holds.places;
+    effects = λ h good. holds.effects h (good_mid h good) ∙ effects_same h split;
+    files = λ h good. holds.files h (good_mid h good) ∙ files_same h split;
+    ids = λ h good. holds.ids h (good_mid h good) ∙ ids_same h split;
+    read = λ h. read_on h split (ids_in edits) (holds.read h);
+    put = holds.put;
   }
 
   -- a refusal of the split list is one of the edits that were given

@@ -228,28 +228,33 @@ module _ {F : Type 0} (honest : Type 0) (means : F → Meaning) (faults : F → 
   HaveParents old asked edits = parents_in edits
       ≡ split_parents (name_led_to (meaning_of old) (view_of (tree_of means old))) (values_of asked)
 
-  -- The edits of a split list as they are held: each with what was found of it, its place, its parent, what becomes of its loose
-  -- file, and the id of its record.
+  -- The edits of a split list as they are held: each with what was found of it, its place, what becomes of its loose file, the id
+  -- of its record, and what it puts into `packed-refs`, whose lock is held where it is due.
+  pub record HoldsSplit (claims : Type 0) (meaning : ObjectId → Stored) (mode : Mode)
+      (old new : Store F) (split : List RefEdit) (packed_place : Option Path)
+      (edits : List Edit) : Type 0 where
+    pub held : HoldsFrom mode old new split (targets_of edits)
+    pub lost : honest → LosesNothing means mode old new split
+    pub whole : honest → AreWholeLocks (disk_in means new) (locks_in means mode old split)
+    pub packed : HoldsPacked mode old new split packed_place
+    pub places : place_paths edits ≡ places_of (meaning_of old) split
+    pub effects : honest → HasGoodRecords means old →
+        effects_of edits ≡ effects_on (meaning_of old) mode (view_of (tree_of means old)) split
+    pub files : honest → HasGoodRecords means old →
+        seen_files edits ≡ files_at (meaning_of old) (tree_of means old) split
+    pub ids : honest → HasGoodRecords means old →
+        ids_in edits ≡ packed_ids (meaning_of old) (tree_of means old) split
+    pub read : honest → AreRecordIds (meaning_of old) (kind_of old) (view_of (tree_of means old))
+        split (ids_in edits)
+    pub put : ArePut claims meaning (meaning_of old) mode (kind_of old) edits
+
+  -- The edits of the split list of given edits, held, each with its parent.
   pub record HoldsGiven (claims : Type 0) (meaning : ObjectId → Stored) (mode : Mode)
       (old new : Store F) (given : List RefEdit) (packed_place : Option Path)
       (edits : List Edit) : Type 0 where
     pub splits : SplitsGiven old given (updates edits)
     pub parents : honest → HaveParents old splits.asked edits
-    pub held : HoldsFrom mode old new (updates edits) (targets_of edits)
-    pub lost : honest → LosesNothing means mode old new (updates edits)
-    pub whole : honest → AreWholeLocks (disk_in means new) (locks_in means mode old (updates edits))
-    pub packed : HoldsPacked mode old new (updates edits) packed_place
-    pub places : place_paths edits ≡ places_of (meaning_of old) (updates edits)
-    pub effects : honest → HasGoodRecords means old →
-        effects_of
-        edits ≡ effects_on (meaning_of old) mode (view_of (tree_of means old)) (updates edits)
-    pub files : honest → HasGoodRecords means old →
-        seen_files edits ≡ files_at (meaning_of old) (tree_of means old) (updates edits)
-    pub ids : honest → HasGoodRecords means old →
-        ids_in edits ≡ packed_ids (meaning_of old) (tree_of means old) (updates edits)
-    pub read : honest → AreRecordIds (meaning_of old) (kind_of old) (view_of (tree_of means old))
-        (updates edits) (ids_in edits)
-    pub put : ArePut claims meaning (meaning_of old) mode (kind_of old) edits
+    pub from : HoldsSplit claims meaning mode old new (updates edits) packed_place edits
 
   -- A transaction that is prepared from given edits: their split list is.
   pub record PreparesGiven (claims : Type 0) (meaning : ObjectId → Stored) (mode : Mode)

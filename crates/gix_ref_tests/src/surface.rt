@@ -89,6 +89,7 @@ fn types_of_formats() {
 #[test]
 fn types_of_files_and_the_store() {
     named::<files::FileError>();
+    named::<files::Faults>();
     named::<files::Node>();
     named::<files::Create>();
     named::<files::Rename>();

@@ -7,7 +7,9 @@ use gix_ref::name::{FullName, FullNameRef, PartialNameRef};
 use gix_ref::namespace::expand;
 use gix_ref::object::Never;
 use gix_ref::target::Target;
-use gix_ref::transaction::{Change, LogChange, PreviousValue, RefEdit};
+use gix_ref::theorems::read_back::error::Error;
+use gix_ref::theorems::read_back::make::make;
+use gix_ref::transaction::{PreviousValue, RefEdit};
 use std::alloc::Global;
 use std::test::Fail;
 
@@ -31,15 +33,9 @@ fn merely_partial(alloc: Global) -> Result<FullName, Fail> {
 #[test]
 fn a_symbolic_target_is_a_full_name(rt: HostRuntime) -> Result<(), Fail> {
     let alloc = rt.alloc();
-    let edit = RefEdit {
-        change: Change::Update {
-            log: LogChange::new_in(alloc),
-            expected: PreviousValue::Any,
-            new: Target::Symbolic(merely_partial(alloc)?),
-        },
-        name: FullNameRef::try_from("HEAD")?.to_owned(alloc)?,
-        deref: false,
-    };
+    let name = FullNameRef::try_from("HEAD")?.to_owned(alloc)?;
+    let new = Target::Symbolic(merely_partial(alloc)?);
+    let edit = RefEdit::update(name, new, PreviousValue::Any, Vec::new(alloc));
     let edits = vec![in alloc; edit]?;
     let mut store = store(alloc)?;
     match store.transaction().prepare(alloc, edits) {
@@ -50,6 +46,32 @@ fn a_symbolic_target_is_a_full_name(rt: HostRuntime) -> Result<(), Fail> {
         }
     }
     assert_eq!(rt; store.into_files().calls(), 0, "no file is touched");
+    Ok(())
+}
+
+#[test]
+fn a_deletion_in_one_call(rt: HostRuntime) -> Result<(), Fail> {
+    let alloc = rt.alloc();
+    let mut store = store(alloc)?;
+    let name = FullNameRef::try_from("refs/heads/a")?.to_owned(alloc)?;
+    let edits = vec![in alloc; RefEdit::delete(name, PreviousValue::MustExist)]?;
+    match make(
+        alloc,
+        &mut store,
+        PackedRefs::<Never>::DeletionsOnly,
+        edits,
+        None,
+    ) {
+        Err(Error::Prepare(refused)) => {
+            assert!(rt;
+                matches!(
+                    refused.error,
+                    prepare::Error::DeleteReferenceMustExist { .. }
+                )
+            );
+        }
+        Err(Error::Commit(_)) | Ok(_) => panic!(rt; "there is no such reference"),
+    }
     Ok(())
 }
 

@@ -4,7 +4,7 @@ use crate::dice::Dice;
 use crate::edits::{random_edit, random_name};
 use crate::files::{Held, copied, get, put, text};
 use crate::made::{Edit, To, given, is_target, store};
-use crate::names::{KNOWN, Setting, place};
+use crate::names::{KNOWN, Setting, has_device, place};
 use crate::random::{
     Answer, Want, answered, compare, holds, is_same, lost, paths, random_who, wanted,
 };
@@ -116,7 +116,7 @@ fn sought(rt: &impl Abort, alloc: Global, kept: &Kept, name: &'static str) -> Op
     found(rt, alloc, kept, name)
 }
 
-/// Looks a name up: it is found as in one of these two stores.
+/// Looks a name up: it is found as in one of these two stores, and refused where it is that of a device and the store prohibits these.
 fn compare_lookup(
     rt: &impl Abort,
     alloc: Global,
@@ -129,7 +129,13 @@ fn compare_lookup(
     let reference = match store.find(alloc, partial) {
         Ok(reference) => Some(reference),
         Err(existing::Error::NotFound { name: _name }) => None,
-        Err(error) => panic!(rt; "{name}: {error:?}"),
+        Err(error) => {
+            assert!(rt;
+                before.setting.prohibits && has_device(name),
+                "{name}: {error:?}"
+            );
+            return false;
+        }
     };
     let target = reference.as_ref().map(|reference| &reference.target);
     assert!(rt;

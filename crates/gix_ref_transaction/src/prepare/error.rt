@@ -26,7 +26,7 @@ pub enum Error {
     /// The new target of an edit is the name of a reference, and no full name.
     #[error("the name of a new symbolic target is no full name")]
     TargetNotFull,
-    /// An id of an edit, new or expected, is not of the store's kind; or, in its turn after the records, the object at the end of the
+    /// An id of an edit, new or expected, is not of the store's kind; or, in its turn behind the records, the object at the end of the
     /// tags of one that is put into `packed-refs` is not.
     #[error("an id of an edit is of another kind than those of the store")]
     OtherHashKind,
@@ -90,7 +90,7 @@ pub enum Error {
     /// A call of files failed.
     #[error("{0}")]
     Io(FileError),
-    /// An allocation was refused.
+    /// A growth of memory was refused.
     #[error("out of memory")]
     Memory,
 }

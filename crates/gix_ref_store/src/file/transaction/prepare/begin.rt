@@ -4,15 +4,14 @@ ghost use Rattle.gix_ref_packed.specs.OpenFiles.{HasReadFault};
 ghost use Rattle.gix_ref_theory.specs.OnRealTrees.{view_of};
 ghost use Rattle.gix_ref_transaction.specs.LeftLocks.{HasRoom};
 ghost use Rattle.gix_ref_transaction.specs.OwnLocks.{paths_of};
-ghost use Rattle.gix_ref_store.specs.Prepared.{RefusesFrom, RefusesGiven, RefusesSplit, HoldsFrom, HoldsGiven, SplitsFrom, HasGoodRecords, HoldsPacked, LosesNothing, locks_in, tree_of, disk_in};
+ghost use Rattle.gix_ref_store.specs.Prepared.{RefusesFrom, RefusesGiven, RefusesSplit, HaveParents, HoldsSplit, HoldsGiven, SplitsFrom, LosesNothing, tree_of};
 ghost use Rattle.gix_ref_store.specs.Store.{files_of, kind_of, meaning_of, with_files};
 ghost use Rattle.gix_ref_transaction.specs.Packing.{OfFinder, ends_of, mode_in};
-ghost use Rattle.gix_ref_transaction.specs.Peels.{ArePut};
 ghost use Rattle.gix_ref_transaction.specs.Parents.{parents_in, split_parents};
 ghost use Rattle.gix_ref_transaction.specs.Splits.{name_led_to, values_of, IsSplitCause};
 ghost use Rattle.gix_ref_files.specs.ReadOnly.{OnlyReads};
-ghost use Rattle.gix_ref_transaction.specs.PrepareSteps.{setting_of, effects_of, effects_on, files_at, ids_in, packed_ids, seen_files, targets_of, updates, AreWholeLocks, place_paths, places_of};
-ghost use Rattle.gix_ref_transaction.specs.Causes.{AllValid, AreRecordIds, IsCounted};
+ghost use Rattle.gix_ref_transaction.specs.PrepareSteps.{setting_of, updates, place_paths, places_of};
+ghost use Rattle.gix_ref_transaction.specs.Causes.{AllValid, IsCounted};
 
 use crate::file::settings::settings;
 use crate::file::store::Store;
@@ -76,33 +75,13 @@ impl<F: Files> Store<F> {
             (ends_of T.meaning packed_refs.now) (mode_in packed_refs.now)
             self.old self.new split.edits.items failure.error (paths_of failure.locks_left.items)) }
         ensures asked { IfOk result (λ held. updates held.edits.items ≡ split.edits.items) }
-        ensures held { IfOk result (λ held. HoldsFrom F.honest F.means F.faults
-            (mode_in packed_refs.now) self.old self.new
-            split.edits.items (targets_of held.edits.items)) }
-        ensures effects { F.honest → HasGoodRecords F.means self.old →
-            IfOk result (λ held. effects_of held.edits.items ≡ effects_on (meaning_of self.old)
-            (mode_in packed_refs.now) (view_of (tree_of F.means self.old)) split.edits.items) }
-        ensures files { F.honest → HasGoodRecords F.means self.old →
-            IfOk result (λ held. seen_files held.edits.items
-            ≡ files_at (meaning_of self.old) (tree_of F.means self.old) split.edits.items) }
-        ensures ids { F.honest → HasGoodRecords F.means self.old →
-            IfOk result (λ held. ids_in held.edits.items
-            ≡ packed_ids (meaning_of self.old) (tree_of F.means self.old) split.edits.items) }
-        ensures read { F.honest → IfOk result (λ held. AreRecordIds (meaning_of self.old)
-            (kind_of self.old) (view_of (tree_of F.means self.old)) split.edits.items
-            (ids_in held.edits.items)) }
+        ensures parents { IfOk result (λ held. parents_in held.edits.items ≡ split.parents.items) }
+        ensures held { IfOk result (λ held. HoldsSplit F.honest F.means F.faults
+            (OfFinder T.claims packed_refs.now) (ends_of T.meaning packed_refs.now)
+            (mode_in packed_refs.now) self.old self.new split.edits.items held.packed
+            held.edits.items) }
         ensures lost { F.honest →
             LosesNothing F.means (mode_in packed_refs.now) self.old self.new split.edits.items }
-        ensures whole { F.honest → IfOk result (λ held. AreWholeLocks (disk_in F.means self.new)
-            (locks_in F.means (mode_in packed_refs.now) self.old split.edits.items)) }
-        ensures places { IfOk result (λ held. place_paths held.edits.items
-            ≡ places_of (meaning_of self.old) split.edits.items) }
-        ensures parents { IfOk result (λ held. parents_in held.edits.items ≡ split.parents.items) }
-        ensures packed { IfOk result (λ held. HoldsPacked F.honest F.means
-            F.faults (mode_in packed_refs.now) self.old self.new split.edits.items held.packed) }
-        ensures put { IfOk result (λ held. ArePut (OfFinder T.claims packed_refs.now)
-            (ends_of T.meaning packed_refs.now) (meaning_of self.old) (mode_in packed_refs.now)
-            (kind_of self.old) held.edits.items) }
         ensures room { IfOk result (λ held. HasRoom held.edits held.remains) }
     {
         let settings = settings!(self);
@@ -162,35 +141,13 @@ impl<F: Files> Store<F> {
             self.old self.new edits.items failure.error (paths_of failure.locks_left.items)) }
         ensures splits { IfOk result (λ held.
             SplitsFrom F.honest F.means F.faults self.old edits.items (updates held.edits.items)) }
-        ensures held { IfOk result (λ held. HoldsFrom F.honest F.means F.faults
-            (mode_in packed_refs.now) self.old self.new
-            (updates held.edits.items) (targets_of held.edits.items)) }
-        ensures effects { F.honest → HasGoodRecords F.means self.old → IfOk
-            result (λ held. effects_of held.edits.items ≡ effects_on (meaning_of self.old) (mode_in
-            packed_refs.now) (view_of (tree_of F.means self.old)) (updates held.edits.items)) }
-        ensures files { F.honest → HasGoodRecords F.means self.old →
-            IfOk result (λ held. seen_files held.edits.items ≡ files_at (meaning_of self.old)
-            (tree_of F.means self.old) (updates held.edits.items)) }
-        ensures ids { F.honest → HasGoodRecords F.means self.old →
-            IfOk result (λ held. ids_in held.edits.items ≡ packed_ids (meaning_of self.old)
-            (tree_of F.means self.old) (updates held.edits.items)) }
-        ensures read { F.honest → IfOk result (λ held. AreRecordIds (meaning_of self.old)
-            (kind_of self.old) (view_of (tree_of F.means self.old)) (updates held.edits.items)
-            (ids_in held.edits.items)) }
-        ensures lost { F.honest → IfOk result (λ held. LosesNothing
-            F.means (mode_in packed_refs.now) self.old self.new (updates held.edits.items)) }
-        ensures whole { F.honest → IfOk result (λ held. AreWholeLocks (disk_in F.means self.new)
-            (locks_in F.means (mode_in packed_refs.now) self.old (updates held.edits.items))) }
-        ensures places { IfOk result (λ held. place_paths held.edits.items
-            ≡ places_of (meaning_of self.old) (updates held.edits.items)) }
-        ensures parents { F.honest → IfOk result (λ held. parents_in held.edits.items
-            ≡ split_parents (name_led_to (meaning_of self.old) (view_of (tree_of F.means self.old)))
-            (values_of edits.items)) }
-        ensures packed { IfOk result (λ held. HoldsPacked F.honest F.means F.faults
-            (mode_in packed_refs.now) self.old self.new (updates held.edits.items) held.packed) }
-        ensures put { IfOk result (λ held. ArePut (OfFinder T.claims packed_refs.now)
-            (ends_of T.meaning packed_refs.now) (meaning_of self.old) (mode_in packed_refs.now)
-            (kind_of self.old) held.edits.items) }
+        ensures parents { F.honest →
+            IfOk result (λ held. HaveParents F.honest F.means F.faults self.old edits.items
+            held.edits.items) }
+        ensures held { IfOk result (λ held. HoldsSplit F.honest F.means F.faults
+            (OfFinder T.claims packed_refs.now) (ends_of T.meaning packed_refs.now)
+            (mode_in packed_refs.now) self.old self.new (updates held.edits.items) held.packed
+            held.edits.items) }
         ensures room { IfOk result (λ held. HasRoom held.edits held.remains) }
     {
         match self.split(alloc, edits) {

@@ -11,11 +11,11 @@ use Rattle.gix_ref_transaction.specs.Splits.{IsSplitCause}
 use Rattle.gix_ref_transaction.specs.declared.prepare.hold.HeldLocks.{HeldLocks}
 use Rattle.gix_ref_transaction.specs.declared.prepare.hold.LockFailure.{LockFailure}
 use Rattle.gix_ref_transaction.proofs.PackedLemmas.{if_err, if_ok}
-use Rattle.gix_ref_store.specs.Prepared.{HasGoodRecords, HoldsFrom, HoldsPacked, locks_in, LosesNothing, RefusesFrom, RefusesSplit, SplitsFrom, disk_in, tree_of}
+use Rattle.gix_ref_store.specs.Prepared.{HoldsSplit, LosesNothing, RefusesFrom, RefusesSplit, SplitsFrom, tree_of}
 use Rattle.gix_ref_store.specs.Store.{files_of, kind_of, meaning_of, with_files}
 use Rattle.gix_ref_store.specs.declared.file.store.Store.{Store}
 use Rattle.gix_ref_store.proofs.Refusals.{if_asked, if_asked_of}
-use Rattle.gix_ref_store.proofs.SplitRuns.{effects_same, files_same, ids_same, good_on, holds_on, locks_same, loses_on, packed_on, read_on, refused_before, refused_on}
+use Rattle.gix_ref_store.proofs.SplitRuns.{refused_before, refused_on, split_on}
 use Rattle.gix_ref_store.proofs.file.store.Store.check_and_lock.Goals as goal
 
 pub lock_split-requires : goal.lock_split-requires
@@ -30,104 +30,6 @@ returns-in-Ok-clause-splits g c =
     let new = c.lock_split.new.self in
     if_asked split c.lock_split.result c.lock_split.ensures.asked (λ (held : HeldLocks) (u : List RefEdit). SplitsFrom F.honest F.means F.faults old c.args.edits.items u)
     (λ held. c.in-Ok.ensures.splits)
-
-pub returns-in-Ok-clause-held : goal.returns-in-Ok-clause-held
-returns-in-Ok-clause-held g c =
-    let F = g.F.Files in
-    let old = c.args.self.now in
-    let split = c.in-Ok.split.edits.items in
-    let new = c.lock_split.new.self in
-    if_asked_of split c.lock_split.result c.lock_split.ensures.asked (λ (held : HeldLocks) (u : List RefEdit). HoldsFrom F.honest F.means F.faults (mode_in c.args.packed_refs.now) old new u (targets_of held.edits.items))
-    (λ held. HoldsFrom F.honest F.means F.faults (mode_in c.args.packed_refs.now) c.split.new.self new split (targets_of held.edits.items))
-    (λ held from. holds_on F.honest F.means F.faults (mode_in c.args.packed_refs.now) old (files_of c.split.new.self) c.in-Ok.ensures.reads new split (targets_of held.edits.items)
-    (subst (λ (st : Store g.row.F.Denot). HoldsFrom F.honest F.means F.faults (mode_in c.args.packed_refs.now) st new split (targets_of held.edits.items)) c.in-Ok.ensures.same from))
-    c.lock_split.ensures.held
-
-pub returns-in-Ok-clause-effects : goal.returns-in-Ok-clause-effects
-returns-in-Ok-clause-effects g c h good =
-    let F = g.F.Files in
-    let old = c.args.self.now in
-    let split = c.in-Ok.split.edits.items in
-    let new = c.lock_split.new.self in
-    let files = files_of c.split.new.self in
-    let reads = c.in-Ok.ensures.reads in
-    let found = subst (λ (st : Store g.row.F.Denot). F.honest → HasGoodRecords F.means st → IfOk c.lock_split.result (λ held. effects_of held.edits.items ≡ effects_on (meaning_of st) (mode_in c.args.packed_refs.now) (view_of (tree_of F.means st)) split)) c.in-Ok.ensures.same c.lock_split.ensures.effects in
-    if_asked_of split c.lock_split.result c.lock_split.ensures.asked (λ (held : HeldLocks) (u : List RefEdit). effects_of held.edits.items ≡ effects_on (meaning_of old) (mode_in c.args.packed_refs.now) (view_of (tree_of F.means old)) u)
-    (λ held. effects_of held.edits.items ≡ effects_on (meaning_of old) (mode_in c.args.packed_refs.now) (view_of (tree_of F.means (with_files old files))) split)
-    (λ held is. is ∙ effects_same F.honest F.means F.faults (mode_in c.args.packed_refs.now) old files reads h split)
-    (found h (good_on F.honest F.means F.faults (mode_in c.args.packed_refs.now) old files reads h good))
-
-pub returns-in-Ok-clause-files : goal.returns-in-Ok-clause-files
-returns-in-Ok-clause-files g c h good =
-    let F = g.F.Files in
-    let old = c.args.self.now in
-    let split = c.in-Ok.split.edits.items in
-    let new = c.lock_split.new.self in
-    let files = files_of c.split.new.self in
-    let reads = c.in-Ok.ensures.reads in
-    let found = subst (λ (st : Store g.row.F.Denot). F.honest → HasGoodRecords F.means st → IfOk c.lock_split.result (λ held. seen_files held.edits.items ≡ files_at (meaning_of st) (tree_of F.means st) split)) c.in-Ok.ensures.same c.lock_split.ensures.files in
-    if_asked_of split c.lock_split.result c.lock_split.ensures.asked (λ (held : HeldLocks) (u : List RefEdit). seen_files held.edits.items ≡ files_at (meaning_of old) (tree_of F.means old) u)
-    (λ held. seen_files held.edits.items ≡ files_at (meaning_of old) (tree_of F.means (with_files old files)) split)
-    (λ held is. is ∙ files_same F.honest F.means F.faults (mode_in c.args.packed_refs.now) old files reads h split)
-    (found h (good_on F.honest F.means F.faults (mode_in c.args.packed_refs.now) old files reads h good))
-
-pub returns-in-Ok-clause-ids : goal.returns-in-Ok-clause-ids
-returns-in-Ok-clause-ids g c h good =
-    let F = g.F.Files in
-    let old = c.args.self.now in
-    let split = c.in-Ok.split.edits.items in
-    let new = c.lock_split.new.self in
-    let files = files_of c.split.new.self in
-    let reads = c.in-Ok.ensures.reads in
-    let found = subst (λ (st : Store g.row.F.Denot). F.honest → HasGoodRecords F.means st → IfOk c.lock_split.result (λ held. ids_in held.edits.items ≡ packed_ids (meaning_of st) (tree_of F.means st) split)) c.in-Ok.ensures.same c.lock_split.ensures.ids in
-    if_asked_of split c.lock_split.result c.lock_split.ensures.asked (λ (held : HeldLocks) (u : List RefEdit). ids_in held.edits.items ≡ packed_ids (meaning_of old) (tree_of F.means old) u)
-    (λ held. ids_in held.edits.items ≡ packed_ids (meaning_of old) (tree_of F.means (with_files old files)) split)
-    (λ held is. is ∙ ids_same F.honest F.means F.faults (mode_in c.args.packed_refs.now) old files reads h split)
-    (found h (good_on F.honest F.means F.faults (mode_in c.args.packed_refs.now) old files reads h good))
-
-pub returns-in-Ok-clause-read : goal.returns-in-Ok-clause-read
-returns-in-Ok-clause-read g c h =
-    let F = g.F.Files in
-    let old = c.args.self.now in
-    let split = c.in-Ok.split.edits.items in
-    let files = files_of c.split.new.self in
-    let read = subst (λ (st : Store g.row.F.Denot). F.honest → IfOk c.lock_split.result (λ held. AreRecordIds (meaning_of st) (kind_of st) (view_of (tree_of F.means st)) split (ids_in held.edits.items))) c.in-Ok.ensures.same c.lock_split.ensures.read in
-    if_asked_of split c.lock_split.result c.lock_split.ensures.asked (λ (held : HeldLocks) (u : List RefEdit). AreRecordIds (meaning_of old) (kind_of old) (view_of (tree_of F.means old)) u (ids_in held.edits.items))
-    (λ held. AreRecordIds (meaning_of old) (kind_of old) (view_of (tree_of F.means (with_files old files))) split (ids_in held.edits.items))
-    (λ held is. read_on F.honest F.means F.faults (mode_in c.args.packed_refs.now) old files c.in-Ok.ensures.reads h split (ids_in held.edits.items) is)
-    (read h)
-
-pub returns-in-Ok-clause-lost : goal.returns-in-Ok-clause-lost
-returns-in-Ok-clause-lost g c h =
-    let F = g.F.Files in
-    let old = c.args.self.now in
-    let split = c.in-Ok.split.edits.items in
-    let new = c.lock_split.new.self in
-    if_asked split c.lock_split.result c.lock_split.ensures.asked (λ (held : HeldLocks) (u : List RefEdit). LosesNothing F.means (mode_in c.args.packed_refs.now) old new u)
-    (λ held. loses_on F.honest F.means F.faults (mode_in c.args.packed_refs.now) old (files_of c.split.new.self) c.in-Ok.ensures.reads h new split
-    (subst (λ (st : Store g.row.F.Denot). LosesNothing F.means (mode_in c.args.packed_refs.now) st new split) c.in-Ok.ensures.same (c.lock_split.ensures.lost h)))
-
-pub returns-in-Ok-clause-whole : goal.returns-in-Ok-clause-whole
-returns-in-Ok-clause-whole g c h =
-    let F = g.F.Files in
-    let old = c.args.self.now in
-    let split = c.in-Ok.split.edits.items in
-    let new = c.lock_split.new.self in
-    if_asked_of split c.lock_split.result c.lock_split.ensures.asked (λ (held : HeldLocks) (u : List RefEdit). AreWholeLocks (disk_in F.means new) (locks_in F.means (mode_in c.args.packed_refs.now) old u))
-    (λ held. AreWholeLocks (disk_in F.means new) (locks_in F.means (mode_in c.args.packed_refs.now) c.split.new.self split))
-    (λ held whole. subst (AreWholeLocks (disk_in F.means new)) (locks_same F.honest F.means F.faults (mode_in c.args.packed_refs.now) old (files_of c.split.new.self) c.in-Ok.ensures.reads h split)
-    (subst (λ (st : Store g.row.F.Denot). AreWholeLocks (disk_in F.means new) (locks_in F.means (mode_in c.args.packed_refs.now) st split)) c.in-Ok.ensures.same whole))
-    (c.lock_split.ensures.whole h)
-
-pub returns-in-Ok-clause-places : goal.returns-in-Ok-clause-places
-returns-in-Ok-clause-places g c =
-    let F = g.F.Files in
-    let old = c.args.self.now in
-    let split = c.in-Ok.split.edits.items in
-    let new = c.lock_split.new.self in
-    if_asked_of split c.lock_split.result c.lock_split.ensures.asked (λ (held : HeldLocks) (u : List RefEdit). place_paths held.edits.items ≡ places_of (meaning_of old) u)
-    (λ held. place_paths held.edits.items ≡ places_of (meaning_of old) split) (λ held are. are)
-    (subst (λ (st : Store g.row.F.Denot). IfOk c.lock_split.result (λ held. place_paths held.edits.items ≡ places_of (meaning_of st) split)) c.in-Ok.ensures.same c.lock_split.ensures.places)
 
 pub returns-in-Ok-clause-refused : goal.returns-in-Ok-clause-refused
 returns-in-Ok-clause-refused g c =
@@ -159,23 +61,22 @@ returns-in-Err-clause-refused g c =
     (λ h. subst (IsSplitCause (meaning_of old) (kind_of old) (tree_of F.means old) given) (sym is) (c.in-Err.ensures.refused h))
     (subst (IsCounted (F.faults (files_of old)) (F.faults files)) (sym is) c.in-Err.ensures.counted))
 
-pub returns-in-Ok-clause-packed : goal.returns-in-Ok-clause-packed
-returns-in-Ok-clause-packed g c =
-    let F = g.F.Files in
-    let old = c.args.self.now in
-    let split = c.in-Ok.split.edits.items in
-    let new = c.lock_split.new.self in
-    if_asked_of split c.lock_split.result c.lock_split.ensures.asked (λ (held : HeldLocks) (u : List RefEdit). HoldsPacked F.honest F.means F.faults (mode_in c.args.packed_refs.now) old new u held.packed)
-    (λ held. HoldsPacked F.honest F.means F.faults (mode_in c.args.packed_refs.now) c.split.new.self new split held.packed)
-    (λ held from. packed_on F.honest F.means F.faults (mode_in c.args.packed_refs.now) old (files_of c.split.new.self) c.in-Ok.ensures.reads new split held.packed
-    (subst (λ (st : Store g.row.F.Denot). HoldsPacked F.honest F.means F.faults (mode_in c.args.packed_refs.now) st new split held.packed) c.in-Ok.ensures.same from))
-    c.lock_split.ensures.packed
-
 pub returns-in-Ok-clause-parents : goal.returns-in-Ok-clause-parents
 returns-in-Ok-clause-parents g c h =
     let parents = c.in-Ok.ensures.parents h in
     if_ok c.lock_split.result (λ (held : HeldLocks) same. same ∙ parents) c.lock_split.ensures.parents
 
-pub returns-in-Ok-clause-put : goal.returns-in-Ok-clause-put
-returns-in-Ok-clause-put g c =
-    subst (λ (st : Store g.row.F.Denot). IfOk c.lock_split.result (λ held. ArePut (OfFinder g.T.Find.claims c.args.packed_refs.now) (ends_of g.T.Find.meaning c.args.packed_refs.now) (meaning_of st) (mode_in c.args.packed_refs.now) (kind_of st) held.edits.items)) c.in-Ok.ensures.same c.lock_split.ensures.put
+pub returns-in-Ok-clause-held : goal.returns-in-Ok-clause-held
+returns-in-Ok-clause-held g c =
+    let F = g.F.Files in
+    let old = c.args.self.now in
+    let split = c.in-Ok.split.edits.items in
+    let new = c.lock_split.new.self in
+    let mode = mode_in c.args.packed_refs.now in
+    let claims = OfFinder g.T.Find.claims c.args.packed_refs.now in
+    let meaning = ends_of g.T.Find.meaning c.args.packed_refs.now in
+    if_asked_of split c.lock_split.result c.lock_split.ensures.asked (λ (held : HeldLocks) (u : List RefEdit). HoldsSplit F.honest F.means F.faults claims meaning mode old new u held.packed held.edits.items)
+    (λ held. HoldsSplit F.honest F.means F.faults claims meaning mode c.split.new.self new split held.packed held.edits.items)
+    (λ held from. split_on F.honest F.means F.faults mode old (files_of c.split.new.self) c.in-Ok.ensures.reads claims meaning new split held.packed held.edits.items
+    (subst (λ (st : Store g.row.F.Denot). HoldsSplit F.honest F.means F.faults claims meaning mode st new split held.packed held.edits.items) c.in-Ok.ensures.same from))
+    c.lock_split.ensures.held

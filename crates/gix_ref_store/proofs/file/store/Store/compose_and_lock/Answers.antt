@@ -12,7 +12,7 @@ returns-in-Ok-clause-held g c =
     let F = g.F.Files in
     let e = c.check_and_lock.ensures in
     holds_given F.honest F.means F.faults (OfFinder g.T.Find.claims c.args.packed_refs.now) (ends_of g.T.Find.meaning c.args.packed_refs.now) (mode_in c.args.packed_refs.now) c.args.self.now c.check_and_lock.new.self c.args.edits.items c.in-Ok.asked.items c.in-Ok.ensures c.check_and_lock.result
-    e.splits e.parents e.held e.lost e.whole e.packed e.places e.effects e.files e.ids e.read e.put
+    e.splits e.parents e.held
 
 pub returns-in-Ok-clause-refused : goal.returns-in-Ok-clause-refused
 returns-in-Ok-clause-refused g c =

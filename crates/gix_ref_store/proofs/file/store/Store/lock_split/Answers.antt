@@ -11,7 +11,7 @@ use Rattle.gix_ref_theory.proofs.LockDisks.{as_before}
 use Rattle.gix_ref_store.specs.Prepared.{disk_in, places_in}
 use Rattle.gix_ref_store.specs.Store.{meaning_of, with_files}
 use Rattle.gix_ref_store.proofs.PreparedLosses.{kept_loses, untouched_loses}
-use Rattle.gix_ref_store.proofs.Refusals.{refused_split, held_asked, held_parents, held_places, held_read, held_room, held_effects, held_files, held_ids, held_packed, held_split, held_whole}
+use Rattle.gix_ref_store.proofs.Refusals.{refused_split, held_asked, held_parents, held_room, holds_split}
 use Rattle.gix_ref_lookup.proofs.Laying.{folders_laid}
 use Rattle.gix_ref_store.proofs.file.store.Store.lock_split.Goals as goal
 
@@ -38,12 +38,6 @@ returns-in-Ok-clause-asked g c =
     let F = g.F.Files in
     let e = c.lock_edits.ensures in
     held_asked F.honest F.means F.faults (mode_in c.args.packed_refs.now) c.args.self.now (with_files c.args.self.now c.lock_edits.new.files) c.in-Ok.edits c.in-Ok.remains c.args.split.edits.items c.in-Ok.ensures.asked c.lock_edits.result e.held
-
-pub returns-in-Ok-clause-places : goal.returns-in-Ok-clause-places
-returns-in-Ok-clause-places g c =
-    let F = g.F.Files in
-    let e = c.lock_edits.ensures in
-    held_places F.honest F.means F.faults (mode_in c.args.packed_refs.now) c.args.self.now (with_files c.args.self.now c.lock_edits.new.files) c.in-Ok.edits c.in-Ok.remains c.args.split.edits.items c.in-Ok.ensures.asked c.lock_edits.result e.held _ c.in-Ok.ensures.places
 
 pub returns-in-Ok-clause-parents : goal.returns-in-Ok-clause-parents
 returns-in-Ok-clause-parents g c =
@@ -78,42 +72,7 @@ pub returns-in-Ok-clause-held : goal.returns-in-Ok-clause-held
 returns-in-Ok-clause-held g c =
     let F = g.F.Files in
     let e = c.lock_edits.ensures in
-    held_split F.honest F.means F.faults (mode_in c.args.packed_refs.now) c.args.self.now (with_files c.args.self.now c.lock_edits.new.files) c.in-Ok.edits c.in-Ok.remains c.args.split.edits.items c.in-Ok.ensures.asked c.lock_edits.result e.held e.packed e.opened
+    holds_split F.honest F.means F.faults (mode_in c.args.packed_refs.now) c.args.self.now (with_files c.args.self.now c.lock_edits.new.files) c.in-Ok.edits c.in-Ok.remains c.args.split.edits.items c.in-Ok.ensures.asked
+    (OfFinder g.T.Find.claims c.args.packed_refs.now) (ends_of g.T.Find.meaning c.args.packed_refs.now) c.lock_edits.result e.held e.packed e.opened
     (record { dirs = refl; namespace = refl; of_kind = refl; reflogs = refl; composes = refl; prohibits = refl; threshold = refl })
-    c.requires.valid c.in_default.ensures.single e.takes
-
-pub returns-in-Ok-clause-effects : goal.returns-in-Ok-clause-effects
-returns-in-Ok-clause-effects g c h good =
-    let F = g.F.Files in
-    let e = c.lock_edits.ensures in
-    held_effects F.honest F.means F.faults (mode_in c.args.packed_refs.now) c.args.self.now (with_files c.args.self.now c.lock_edits.new.files) c.in-Ok.edits c.in-Ok.remains c.args.split.edits.items c.in-Ok.ensures.asked c.lock_edits.result e.held h good
-
-pub returns-in-Ok-clause-packed : goal.returns-in-Ok-clause-packed
-returns-in-Ok-clause-packed g c =
-    let F = g.F.Files in
-    let e = c.lock_edits.ensures in
-    held_packed F.honest F.means F.faults (mode_in c.args.packed_refs.now) c.args.self.now (with_files c.args.self.now c.lock_edits.new.files) c.in-Ok.edits c.in-Ok.remains c.args.split.edits.items c.in-Ok.ensures.asked c.lock_edits.result e.packed
-
-pub returns-in-Ok-clause-files : goal.returns-in-Ok-clause-files
-returns-in-Ok-clause-files g c h good =
-    let F = g.F.Files in
-    let e = c.lock_edits.ensures in
-    held_files F.honest F.means F.faults (mode_in c.args.packed_refs.now) c.args.self.now (with_files c.args.self.now c.lock_edits.new.files) c.in-Ok.edits c.in-Ok.remains c.args.split.edits.items c.in-Ok.ensures.asked c.lock_edits.result e.held h good
-
-pub returns-in-Ok-clause-ids : goal.returns-in-Ok-clause-ids
-returns-in-Ok-clause-ids g c h good =
-    let F = g.F.Files in
-    let e = c.lock_edits.ensures in
-    held_ids F.honest F.means F.faults (mode_in c.args.packed_refs.now) c.args.self.now (with_files c.args.self.now c.lock_edits.new.files) c.in-Ok.edits c.in-Ok.remains c.args.split.edits.items c.in-Ok.ensures.asked c.lock_edits.result e.held h good
-
-pub returns-in-Ok-clause-whole : goal.returns-in-Ok-clause-whole
-returns-in-Ok-clause-whole g c h =
-    let F = g.F.Files in
-    let e = c.lock_edits.ensures in
-    held_whole F.honest F.means F.faults (mode_in c.args.packed_refs.now) c.args.self.now (with_files c.args.self.now c.lock_edits.new.files) c.in-Ok.edits c.in-Ok.remains c.args.split.edits.items c.in-Ok.ensures.asked c.lock_edits.result e.held h
-
-pub returns-in-Ok-clause-read : goal.returns-in-Ok-clause-read
-returns-in-Ok-clause-read g c h =
-    let F = g.F.Files in
-    let e = c.lock_edits.ensures in
-    held_read F.honest F.means F.faults (mode_in c.args.packed_refs.now) c.args.self.now (with_files c.args.self.now c.lock_edits.new.files) c.in-Ok.edits c.in-Ok.remains c.args.split.edits.items c.in-Ok.ensures.asked c.lock_edits.result (e.read h)
+    c.requires.valid c.in_default.ensures.single e.takes (returns-in-Ok-clause-lost g c) c.in-Ok.ensures.places e.read e.put
