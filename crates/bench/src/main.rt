@@ -2,9 +2,35 @@
 //! prints the number of hits, and on standard error the nanoseconds that this took. The work of the modes that end in
 //! `-make` is to write the files that the others read; `tiny` does a little of each.
 //!
-//! The modes `find-hit`, `find-miss` and `open-find` look up names in a repository, `list` and `list-prefix` list its references,
-//! `log10` and `logall` read a reflog, and `update`, `update-synced`, `update-many`, `prepare-many`, `pack-many`,
-//! `pack-many-beside` and `delete-many` make transactions; they print `MODE TURNS NANOSECONDS HITS`.
+//! ```text
+//! bench packed-make FOLDER 10000             makes FOLDER/packed-refs of so many records
+//! bench packed-make-unsorted FOLDER 10000    the same, the last name first, without a header
+//! bench packed-find FOLDER 1000              opens it, and searches so many times in memory
+//! bench packed-file FOLDER 1000              searches so many times in the file, which it opens each time
+//! bench packed-list FOLDER 20                reads all records so many times
+//! bench packed-open FOLDER 20                opens it so many times
+//! bench log-make FOLDER 10000                makes FOLDER/log of so many lines
+//! bench log-forward FOLDER 20                reads it so many times, oldest first
+//! bench log-backward FOLDER 20               and newest first
+//! bench log-newest FOLDER 20                 and ten lines from its end
+//! bench find-hit FOLDER 1000                 looks names up in a repository, with its packed-refs held in memory
+//! bench find-miss FOLDER 1000                looks the same names up with `x` after them
+//! bench open-find FOLDER 1000                opens the store for each lookup
+//! bench list FOLDER 1                        lists all references, and reads `packed-refs` anew each time
+//! bench list-prefix FOLDER 1000              lists those of the prefix in FOLDER/peers-prefix.txt
+//! bench log10 FOLDER 1000                    reads the ten newest lines of the reflog of refs/heads/main
+//! bench logall FOLDER 1                      reads all its lines, newest first
+//! bench update FOLDER 1000                   makes one transaction a turn, of refs/heads/main with a log line, without syncs
+//! bench update-synced FOLDER 1000            the same, on a disk that syncs
+//! bench update-many FOLDER 1000              makes one transaction of so many updates, each of another reference, without syncs
+//! bench prepare-many FOLDER 1000             prepares it, and gives it up
+//! bench delete-many FOLDER 1000              makes one transaction of so many deletions
+//! bench pack-many FOLDER 1000                makes one of so many updates that go into `packed-refs` alone, without log lines
+//! bench pack-many-beside FOLDER 1000         makes one that writes their loose files too
+//! ```
+//!
+//! The modes from `find-hit` on print `MODE TURNS NANOSECONDS HITS`; lookups take their names from the lines of
+//! `FOLDER/peers-names.txt`, updates their ids from those of `FOLDER/peers-ids.txt`.
 #![tactic(auto)]
 
 mod listings;

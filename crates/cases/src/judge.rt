@@ -9,6 +9,7 @@
 //!
 //! After all verbs, what may come of the last one if it is disturbed: `sweep` has these lines.
 use crate::formats::format_verb;
+use crate::locks::lock_verb;
 use crate::names::name_verb;
 use crate::read_back::{make_and_read, transact_packed};
 use crate::texts::{Texts, number, shown, split};
@@ -37,6 +38,8 @@ pub enum Family {
     Format,
     /// Lookups, listings and logs: `reads`.
     Read,
+    /// Lock files: `locks`.
+    Lock,
 }
 
 /// The kinds of lines.
@@ -122,6 +125,7 @@ fn family_of(word: &str) -> Option<Family> {
         "run" => Some(Family::Run),
         "make" | "make-then-find" | "make-then-list" | "make-then-read" => Some(Family::Make),
         "packed-commit" | "packed-rollback" => Some(Family::PackedTransaction),
+        "locks" | "remove-locks" => Some(Family::Lock),
         _ if is_of_names(word) => Some(Family::Name),
         _ if is_of_formats(word) => Some(Family::Format),
         _ if is_of_reads(word) => Some(Family::Read),
@@ -156,6 +160,7 @@ pub fn play(world: &mut World, texts: &Texts, family: Family, line: &str) -> Res
         Family::Name => name_verb(world, texts, word, rest),
         Family::Format => format_verb(world, texts, word, rest),
         Family::Read => reads::read(world, texts, word, rest),
+        Family::Lock => lock_verb(world, word),
     }
 }
 

@@ -10,6 +10,7 @@ mod edits;
 mod formats;
 mod judge;
 mod later;
+mod locks;
 mod names;
 mod objects;
 mod read_back;

@@ -21,9 +21,7 @@ fn main(rt: HostRuntime) -> Result<()> {
         ..Options::default()
     };
     let files = Disk::new(rt.clone()?);
-    let Ok(mut store) = Store::at_opts(files, b"git".to_vec(alloc)?, Kind::Sha1, options) else {
-        bail!("`git` is not a clean path")
-    };
+    let mut store = Store::at_opts(files, b"git".to_vec(alloc)?, Kind::Sha1, options)?;
 
     // This name gets this id, if there is no other value before.
     let (new, expected) = (Target::Object(id), PreviousValue::MustNotExist);

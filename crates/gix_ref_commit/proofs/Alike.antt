@@ -99,7 +99,7 @@ plan_edits_are (e ∷ given) (p ∷ ran) ((found, is), rest) =
     ap (λ (x : plan.Edit). record { name = x.name; change = x.change; and_reference = x.and_reference; line = None; peeled = peeled_in p.put } ∷ plan_edits ran) (planned_one e p.update found is)
     ∙ ap (λ (l : List plan.Edit). edit_peeled e (peeled_in p.put) ∷ l) (plan_edits_are given ran rest)
 
--- Of edits that are alike but for their logs.
+-- Of edits that are alike except for their logs.
 abbrev Rest : Type 0
 Rest = ButLog
 

@@ -1,4 +1,4 @@
--- A plan whose steps are each behind the removals of the folders in their way.
+-- A plan whose steps are each after the removals of the folders in their way.
 use Rattle.std.proofs.Common.{◌≡◌, ◌⊎◌, inl, inr, ⊎_elim, suc, List, [], ◌∷◌, ◌++◌, Bool, refl, sym, ◌∙◌, ap, subst, arith, Some, None, append_assoc}
 use Rattle.std.specs.List.{All}
 use Rattle.std.proofs.lemmas.List.{map-append, append-nil}
@@ -115,7 +115,7 @@ module _ (W : Entry → List Path → Type 0) where
   Ways (fs ∷ folders) [] = Unit {0}
   Ways (fs ∷ folders) (e ∷ plan) = W e fs × Ways folders plan
 
-  -- A step of the steps of a commit: that of the plan, right behind the removals of what is in its way, or one of these removals.
+  -- A step of the steps of a commit: that of the plan, right after the removals of what is in its way, or one of these removals.
   pub record IsCutOf (plan before : List Entry) (x : Entry) : Type 0 where
     pub seen : List Entry
     pub step : Entry
@@ -125,7 +125,7 @@ module _ (W : Entry → List Path → Type 0) where
     pub renames : (lock : Path) → HasRename lock seen → HasRename lock before
     pub what : ((x ≡ step) × ((front : List Entry) × (fs : List Path) × (before ≡ front ++ removals step.1 fs) × W step fs × ((ways : List (List Path)) × (front ≡ cleared ways seen)))) ⊎ IsRemoval x
 
-  -- behind a step and its removals
+  -- after a step and its removals
   module _ (fs : List Path) (e : Entry) (plan before : List Entry) (x : Entry) where
     at_step : before ≡ removals e.1 fs → e ≡ x → W e fs → IsCutOf (e ∷ plan) before x
     at_step front same way = record {

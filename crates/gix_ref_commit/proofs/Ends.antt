@@ -147,7 +147,7 @@ module _ (dirs : Dirs) (namespace : Option Namespace) (kind : Kind) (prohibits :
     pub stopped : (T : Tree) → IsLeftBy (bare_steps all_entries) D.tree T → IsOldOrNewTree s mode locked edits before T
     stopped T left = trees.left_well s (placing.laws dirs namespace kind prohibits) mode locked edits before D.tree T (bare_steps all_entries) it_runs left
 
-    -- and behind it, where nothing but own locks and folders changes
+    -- and after it, where nothing but own locks and folders changes
     pub left_then : (T U : Tree) → IsOldOrNewTree s mode locked edits before T → IsSameButLocks locked (view_of U) (view_of T) → IsOldOrNewTree s mode locked edits before U
     left_then T U well alike =
         let laws' = placing.laws dirs namespace kind prohibits in

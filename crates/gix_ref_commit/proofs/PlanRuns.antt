@@ -47,7 +47,7 @@ cut_at (p ∷ plan) (suc k) lt =
     let c = cut_at plan k (omega (arith, lt)) in
     record { before = p ∷ c.before; at = c.at; rest = c.rest; is = ap (λ (l : List (Planned About)). p ∷ l) c.is; number = ap suc c.number; there = c.there }
 
--- a run that ended behind some steps
+-- a run that ended after some steps
 ends_behind : (xs : List Step) (x : Step) (rest : List Step) (k : ℕ) (cause : Cause) (S T : Tree) → length xs ≡ k → EndsAt (xs ++ x ∷ rest) k cause S T → (mid : Tree) × IsAfter xs S mid × EndsBy x cause mid T
 ends_behind [] x rest zero cause S T is ends = (S, refl, ends)
 ends_behind [] x rest (suc k) cause S T is ends = absurd (omega (arith, is))

@@ -1,4 +1,4 @@
--- A folder that is there behind the removals of all that was below it: a file was written below it since.
+-- A folder that is there after the removals of all that was below it: a file was written below it since.
 use Rattle.std.proofs.Common.{◌≡◌, ◌⊎◌, inl, inr, ⊎_elim, ℕ, zero, suc, ◌+◌, ◌<◌, ◌≤◌, List, [], ◌∷◌, ◌++◌, length, length-append, true, false, Option, Some, None, IsSome, refl, sym, ◌∙◌, ap, subst, arith, append_assoc, All, AllPairs, Contains, get_or}
 use Rattle.std.specs.Prelude.{bytes_eq, codes}
 use Rattle.std.proofs.lemmas.List.{append-nil, get_or-append-add, get_or_at}
@@ -118,7 +118,7 @@ line_done p bytes S T (inr (free, is)) =
       λ q other. ap (λ (R : Tree). R q) is ∙ (put_other made p q (more (made p) bytes) other ∙ put_other S p q (Some (File [])) other),
     )
 
--- What the updates of a plan do, up to a step: a line comes right behind the folders that lead to its log, and only locks are renamed.
+-- What the updates of a plan do, up to a step: a line comes right after the folders that lead to its log, and only locks are renamed.
 abbrev pub IsGrowth : Option Path → Step → Option Path → Type 0
 IsGrowth pend step next =
     ((p : Path) × (bytes : List ℕ) × (step ≡ Line p bytes) × ((pend ≡ None) ⊎ (pend ≡ Some p)) × (next ≡ None))
@@ -471,7 +471,7 @@ module _ (dirs : Dirs) (edits : List Edit) (packed : Option Path) (rewrite : Rew
       (λ (after : IsInSecond U (L ++ (P ++ R)) seen x later). absurd (about_at IsNoWrite after.0 x later (subst (AllAbout IsNoWrite) after.2 late) write))
       (either_list U (L ++ (P ++ R)) seen x later cut)
 
--- A step that writes at a path, behind the removals of what was in its way: a folder is there.
+-- A step that writes at a path, after the removals of what was in its way: a folder is there.
 module _ (path : Path) (first mid : Tree) (for_step : About) (fs : List Path) (ways : List (List Path)) (seen : List Entry) (end next : Option Path) (step : Step)
     (grows : GrowsTo None seen end) (one : IsGrowth end step next) (writes : written_at step ≡ Some path) (after : IsAfter (bare_steps (cleared ways seen ++ removals for_step fs)) first mid) (folder : is_folder (mid path) ≡ true) where
   inner : (p : Path) → Some p ≡ Some path → p ≡ path

@@ -126,7 +126,7 @@ ClearsNothing folders = (plan : List Entry) → cleared folders plan ≡ plan
 abbrev pub folder_lists : List EmptyDirs → List (List Path)
 folder_lists ways = map (λ (way : EmptyDirs). paths_of way.folders.items) ways
 
--- the steps of a commit, each behind the removals of the folders that are in its way
+-- the steps of a commit, each after the removals of the folders that are in its way
 abbrev pub commit_entries : Dirs → List Edit → Option Path → Rewrite → List EmptyDirs → List Entry
 commit_entries dirs edits packed rewrite ways =
     cleared (folder_lists ways) (planned_entries dirs edits packed rewrite)
@@ -177,7 +177,7 @@ FoldersGo dirs paths before T =
     (q : Path) → (T q ≡ before q) ⊎ ((before q ≡ Some Folder) × (T q ≡ None) × IsAbove dirs paths q
     × (IsIn q (roots_of dirs) → ⊥))
 
--- All that was done is that such folders were removed: a disk that was as the one at the beginning, but for own locks, stays so.
+-- All that was done is that such folders were removed: a disk that was as the one at the beginning, except for own locks, stays so.
 abbrev pub OnlyFolders : Dirs → (old new : Meaning) → Type 0
 OnlyFolders dirs old new =
     (locked staying : List Path) (first : Disk) →

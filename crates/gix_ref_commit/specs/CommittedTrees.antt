@@ -11,13 +11,13 @@ use Rattle.gix_ref_transaction.specs.OwnLocks.{is_in}
 use Rattle.gix_ref_transaction.specs.PrepareSteps.{own_places}
 use Rattle.gix_ref_commit.specs.LogEffects.{Extra, with_extras}
 
--- In T every reference reads as before or as edited, and every file is as before or as the commit makes it, but for the locks of a
+-- In T every reference reads as before or as edited, and every file is as before or as the commit makes it, except for the locks of a
 -- transaction that began with the tree `before`.
 abbrev pub IsOldOrNew : Store → Mode → List RefEdit → List Extra → (before T : Tree) → Type 0
 IsOldOrNew s mode edits extras before T = IsOldOrNewTree s mode (own_places s mode before edits)
     (with_extras edits extras) before T
 
--- From the tree `before` the locks were taken, the edits are committed in T, but for these locks that stay.
+-- From the tree `before` the locks were taken, the edits are committed in T, except for these locks that stay.
 abbrev pub AreCommitted : Store → Mode → List RefEdit → List Extra → (before : Tree)
     (left : List Path) → Tree → Type 0
 AreCommitted s mode edits extras before left T =

@@ -73,10 +73,10 @@ pub record LeavesUndecided (honest : Type 0) (settings : Settings) (edits : List
 -- Nothing is written but the lock of `packed-refs`, where that was empty.
 pub record OnlyFillsPacked {F : Type 0} (honest : Type 0) (means : F → Meaning)
     (faults : F → FaultCounts) (packed : Option Path) (old new : F) : Type 0 where
-  -- every stop leaves the tree as it was, but for some text in that lock
+  -- every stop leaves the tree as it was, except for some text in that lock
   pub leaves : honest → IsPackedLockEmpty packed (means old).tree →
       Leaves (means old) (means new) (FillsPacked packed (means old).tree)
-  -- every disk that is found is as it was, but for that lock
+  -- every disk that is found is as it was, except for that lock
   pub passes : honest → IsPackedLockEmpty packed (means old).tree →
       OnlyLocks (map lock_of (packed_places packed)) (means old) (means new)
   -- no fault is forgotten

@@ -51,7 +51,7 @@ pub enum Error {
     PreprocessingFailed {
         source: SplitError<Infallible>,
     },
-    /// A growth of memory was refused. Nothing but locks has changed.
+    /// An allocation was refused. Nothing but locks has changed.
     #[error("out of memory")]
     Memory,
 }

@@ -20,7 +20,7 @@ use gix_ref_lookup::folders::{Dirs, rest_below};
 use gix_ref_transaction::edit::Edit;
 use std::alloc::{AllocError, Global};
 
-/// The folders that are removed before a step, each behind those in it.
+/// The folders that are removed before a step, each after those in it.
 #[derive(Drop)]
 pub struct EmptyDirs {
     pub folders: Vec<Vec<u8>>,
@@ -178,7 +178,7 @@ fn walk<F: Files>(
     Err(FileError::Memory)
 }
 
-/// The folder at a path and those in it, each behind those in it, if nothing else is there; else none.
+/// The folder at a path and those in it, each after those in it, if nothing else is there; else none.
 fn folders_at<F: Files>(
     alloc: Global,
     files: &mut F,
@@ -336,7 +336,7 @@ pub fn find_empty_dirs_in_the_way<F: Files>(
     Ok(ways)
 }
 
-/// Adds the removals of these folders, about what the step behind them is about.
+/// Adds the removals of these folders, about what the step after them is about.
 fn add_removals<'p>(
     steps: &mut Vec<Planned<'p, About>>,
     folders: &'p [Vec<u8>],
@@ -367,7 +367,7 @@ fn none_in_way(ways: &[EmptyDirs]) -> bool
     true
 }
 
-/// A new list of the steps of a plan, each behind the removals of the folders that are in its way.
+/// A new list of the steps of a plan, each after the removals of the folders that are in its way.
 fn with_removals<'p>(
     alloc: Global,
     plan: &[Planned<'p, About>],
@@ -386,7 +386,7 @@ fn with_removals<'p>(
     Ok(steps)
 }
 
-/// The steps of a plan, each behind the removals of the folders that are in its way. Where there is no such folder it is the plan itself,
+/// The steps of a plan, each after the removals of the folders that are in its way. Where there is no such folder it is the plan itself,
 /// and takes no memory.
 pub fn clear<'p>(
     alloc: Global,

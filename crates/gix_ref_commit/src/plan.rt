@@ -1,6 +1,6 @@
 //! The plan of a commit: a list of steps that borrow their paths and texts from the edits. Logs and renames of updates come first,
 //! then the logs of deletions, then `packed-refs`, then the loose files of deletions: so no deletion shows before the updates, and
-//! no old record shows behind a loose file that is gone.
+//! no old record shows in place of a loose file that is gone.
 ghost use Rattle.std.specs.Prelude.{◌≡◌, OnOk, IfOk, ◌++◌};
 ghost use Rattle.gix_ref_commit.specs.Entries.{entry_of, entries, folders_entry, line_entry, rename_entry, log_removal_entry, removal_entry, packed_entry, each, update_entries, planned_entries};
 

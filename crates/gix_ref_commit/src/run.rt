@@ -38,7 +38,7 @@ fn step_of_end(plan: &[Planned<'_, About>], ended: Ended) -> Unfinished
     }
 }
 
-/// Plans the steps of a commit, each behind the removals of the folders that are in its way, and runs them, up to the first that fails or
+/// Plans the steps of a commit, each after the removals of the folders that are in its way, and runs them, up to the first that fails or
 /// finds something in its way. Takes memory for the plan alone, before the first step. (`commit` of `git update-ref --stdin`)
 pub fn run_plan<F: Files>(
     alloc: Global,

@@ -6,7 +6,7 @@ ghost use Rattle.gix_ref_commit.specs.Cleared.{FoldersGo, LosesNoMore, OnlyFolde
 
 use crate::folders::leads_to_store;
 use gix_ref_files::files::Files;
-use gix_ref_hash::bytes::split_component;
+use gix_ref_hash::bytes::{cut_last, split_component};
 use gix_ref_lookup::folders::Dirs;
 use gix_ref_transaction::edit::{Edit, Effect, LogEffect};
 use std::alloc::{AllocError, Global};
@@ -128,8 +128,29 @@ fn remove_above<F: Files>(files: &mut F, dirs: &Dirs, path: &[u8])
     }
 }
 
+/// The folder that a path is in: what is before its last slash, and nothing where it has none.
+fn folder_of(path: &[u8]) -> &[u8] {
+    match cut_last(path, b'/') {
+        Some((folder, _)) => folder,
+        None => b"",
+    }
+}
+
+/// Removes the empty folders above a path, unless it is in the folder that was tried last.
+fn remove_above_next<F: Files>(files: &mut F, dirs: &Dirs, path: &[u8], tried: &[u8])
+    ensures leaves { F.honest → AtEveryStop F.means files.old files.new
+        (FoldersGo dirs.now (path.now ∷ [])) }
+    ensures passes { F.honest → OnlyFolders dirs.now (F.means files.old) (F.means files.new) }
+    ensures loses { F.honest → OnEveryDisk F.means files.old files.new LosesNoMore }
+    ensures no_fewer { NoFewer (F.faults files.old) (F.faults files.new) }
+{
+    if folder_of(path) != tried {
+        remove_above(files, dirs, path);
+    }
+}
+
 /// Removes the empty folders above these paths, up to `logs`, or to `refs` and one component more. A fault is not reported. Takes no
-/// memory. One call of files for each folder that is tried. (`git update-ref -d`)
+/// memory. One call of files for each folder that is tried; paths of one folder that follow one another try it once. (`git update-ref -d`)
 pub fn remove_empty_folders<F: Files>(files: &mut F, dirs: &Dirs, paths: &[Vec<u8>])
     ensures leaves { F.honest → AtEveryStop F.means files.old files.new
         (FoldersGo dirs.now (paths_of paths.now)) }
@@ -137,7 +158,9 @@ pub fn remove_empty_folders<F: Files>(files: &mut F, dirs: &Dirs, paths: &[Vec<u
     ensures loses { F.honest → OnEveryDisk F.means files.old files.new LosesNoMore }
     ensures no_fewer { NoFewer (F.faults files.old) (F.faults files.new) }
 {
+    let mut tried = b"".as_slice();
     for path in paths {
-        remove_above(files, dirs, path);
+        remove_above_next(files, dirs, path, tried);
+        tried = folder_of(path);
     }
 }

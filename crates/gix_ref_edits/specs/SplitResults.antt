@@ -19,7 +19,7 @@ pub record IsSplit (find : List ℕ → Option (List ℕ)) (edits split : List E
   pub places : parents ≡ parent_places find 0 (first_levels find edits 5)
 
 -- The entries became those of the split list, by these calls of the finder and of the maker: the entries as given, and
--- behind them those that were made, each with its edit of the split list.
+-- after them those that were made, each with its edit of the split list.
 pub record HasSplits {F E M T : Type 0}
     (step : F → PartialNameRef → Result (Option Target) E → F → Type 0)
     (makes : M → ℕ → RefEdit → T → M → Type 0) (edit_of : T → RefEdit) (with_edit : T → RefEdit → T)

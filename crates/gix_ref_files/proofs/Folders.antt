@@ -57,7 +57,7 @@ pub with_folders_tree : (D : Disk) (fs : List Path) → (with_folders_on D fs).t
 with_folders_tree D [] = refl
 with_folders_tree D (f ∷ fs) = with_folders_tree (with_folder_on D f) fs ∙ ap (λ (T : Tree). with_folders T fs) (with_folder_tree D f)
 
--- where no file is, none is behind a folder that is made
+-- where no file is, none is after a folder that is made
 pub no_file_after : (D : Disk) (f : Path) (fs : List Path) → list_any (λ g. is_file (D.tree g)) fs ≡ false → list_any (λ g. is_file ((with_folder_on D f).tree g)) fs ≡ false
 no_file_after D f fs none = subst (λ (T : Tree). list_any (λ g. is_file (T g)) fs ≡ false) (sym (with_folder_tree D f)) (none_later D.tree f fs none)
 

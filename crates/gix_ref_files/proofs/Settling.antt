@@ -123,7 +123,7 @@ made_settled D p q file none settled = record {
 pub settled_with_folder : (D : Disk) (p q : Path) (file : Option (List ℕ)) → is_file (D.tree p) ≡ false → IsSettledAt D file q → IsSettledAt (with_folder_on D p) file q
 settled_with_folder D p q file none settled = by_folder D p (λ (E : Disk). IsSettledAt E file q) settled (made_settled D p q file none settled)
 
--- A front of a path: the path goes on behind it with a slash.
+-- A front of a path: the path goes on after it with a slash.
 
 pub front_splits : (q f : Path) → IsIn f (fronts q) → (rest : List ℕ) × (q ≡ f ++ 47 ∷ rest)
 front_splits [] f is = absurd is

@@ -14,7 +14,7 @@ pub record DiskItem : Type 0 where
 pub record Unsynced : Type 0 where
   -- so many bytes of the file at a path are synced, and all of them where it has fewer
   pub synced : Path → ℕ
-  -- what the entry at a path was at the last sync of its folder and since, the newest first, but for what it is now
+  -- what the entry at a path was at the last sync of its folder and since, the newest first, except for what it is now
   pub past : Path → List DiskItem
 
 -- A disk: what is at each path, and what of it is not synced.

@@ -69,17 +69,17 @@ abbrev pub SettlesPath : List Path → Path → List Sync → Type 0
 SettlesPath staying p [] = ⊥
 SettlesPath staying p (s ∷ syncs) = Settles staying p (s ∷ syncs)
 
--- A removal is settled by the sync of the path's own folder: a file that is gone is so whether or not the folders above are there.
-abbrev pub SettlesRemoval : Path → List Sync → Type 0
-SettlesRemoval p [] = ⊥
-SettlesRemoval p (OfFile f ∷ syncs) = ⊥
-SettlesRemoval p (OfFolder f ∷ syncs) = folder_of p ≡ f
-
 -- the same after the sync of the file
 abbrev pub SettlesFile : List Path → Path → List Sync → Type 0
 SettlesFile staying p [] = ⊥
 SettlesFile staying p (OfFolder f ∷ syncs) = ⊥
 SettlesFile staying p (OfFile f ∷ syncs) = (f ≡ p) × SettlesPath staying p syncs
+
+-- A removal is settled by the sync of the path's own folder: a file that is gone is so whether or not the folders above are there.
+abbrev pub SettlesRemoval : Path → List Sync → Type 0
+SettlesRemoval p [] = ⊥
+SettlesRemoval p (OfFile f ∷ syncs) = ⊥
+SettlesRemoval p (OfFolder f ∷ syncs) = folder_of p ≡ f
 
 -- the sync of a folder, if there is one: the folder of a name alone is empty
 abbrev pub sync_of_folder : Path → List Sync

@@ -14,7 +14,7 @@ EveryStopIsALoss = (D : Disk) → IsShaped D.tree → Lost D D.tree
 abbrev pub EveryLossIsShaped : Type 0
 EveryLossIsShaped = (D : Disk) (T : Tree) → Lost D T → IsShaped T
 
--- On a settled disk a loss of power leaves the files that are there, but for locks.
+-- On a settled disk a loss of power leaves the files that are there, except for locks.
 abbrev pub SettledLosesNothing : Type 0
 SettledLosesNothing = (D : Disk) (T : Tree) → IsAllSettled D → Lost D T → (q : Path) →
     ((p : Path) → q ≢ lock_of p) → file_of (T q) ≡ file_of (D.tree q)

@@ -11,7 +11,7 @@ use std::alloc::{AllocError, Global};
 use std::fs::{DirEntry, File, OpenOptions};
 use std::io::{ErrorKind, Read, Write};
 use std::os::unix::fs::FileExt;
-use std::{fs, io};
+use std::{fmt, fs, io};
 
 /// The disk. A path is one of the system's, so a relative one begins at the working folder. Symbolic links are
 /// followed, but a listing leaves them out, as it does all that is neither a file nor a folder. As `std::fs`.
@@ -42,6 +42,12 @@ pub struct Disk {
 struct MadeFile {
     path: Vec<u8>,
     file: File,
+}
+
+impl fmt::Debug for Disk {
+    fn fmt<W: fmt::Write>(&self, f: &mut fmt::Formatter<W>) -> fmt::Result {
+        f.write_str("Disk")
+    }
 }
 
 /// A file of the disk that is open for reading. As `File`.

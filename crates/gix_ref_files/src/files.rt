@@ -23,7 +23,7 @@ pub enum FileError {
     /// A path or a name that is not UTF-8, on a device that takes only such. Counted.
     #[error("a name that is not UTF-8")]
     NotUtf8,
-    /// A growth of the caller's memory was refused. Not counted, and returned only by calls that take an allocator.
+    /// An allocation of the caller was refused. Not counted, and returned only by calls that take an allocator.
     #[error("out of memory")]
     Memory,
 }
@@ -105,7 +105,7 @@ pub trait ReadAt {
 
 /// A small file system. As the functions of `std::fs`.
 ///
-/// A call that takes an allocator returns `Memory` where a growth was refused; no other call does. A `Device` fault
+/// A call that takes an allocator returns `Memory` where an allocation was refused; no other call does. A `Device` fault
 /// comes where the device fails, and where the tree allows no other result, as for a file to be made in a folder
 /// that is not there. It and `NotUtf8` count one fault.
 ///

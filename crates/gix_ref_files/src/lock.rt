@@ -213,7 +213,7 @@ fn file_at(alloc: Global, path: &[u8]) -> Result<LockFile, AllocError>
 
 impl Lock {
     /// Takes the lock of a path: makes the folders that lead there, and then the file with `.lock` after the path.
-    /// `Memory` where a growth was refused, before anything was done. After another error folders may have been made. As
+    /// `Memory` where an allocation was refused, before anything was done. After another error folders may have been made. As
     /// `File::acquire_to_update_resource` of gix-lock, with `Fail::Immediately`.
     ///
     /// ```text

@@ -6,7 +6,7 @@ use Rattle.gix_ref_follow.specs.Following.{At, HitsByName, ChainOfSteps, IsStep,
 use Rattle.gix_ref_follow.specs.Following.EndOfChain.{Reached, Dangling, Circular, TooDeep}
 use Rattle.gix_ref_follow.proofs.Steps.{follow_on, follow_object, follow_symbolic, follow_back, follow_none}
 
--- behind a chain, what is left of the steps decides
+-- after a chain, what is left of the steps decides
 behind : (find : HitsByName) (steps left all : ℕ) (start end : At) (reached : List (List ℕ)) → steps + left ≡ all → ChainOfSteps find steps start reached end →
     follow find all [] start ≡ follow find left reached end
 behind find zero left all start end reached count chain =

@@ -108,7 +108,7 @@ pub follow_object : (find : HitsByName) (steps : ℕ) (reached : List (List ℕ)
 unfolding follow
 follow_object find steps reached at id is = ap (step_from find reached (λ next. follow find steps (reached ++ next.name ∷ []) next) at) is
 
--- what is left behind a symbolic target, by what its lookup finds
+-- what is left after a symbolic target, by what its lookup finds
 pub follow_symbolic : (find : HitsByName) (steps : ℕ) (reached : List (List ℕ)) (at : At) (name : List ℕ) (hit : Option Hit) → at.target ≡ symbolic_name name → find name ≡ hit →
     follow find (suc steps) reached at ≡ step_by reached (λ next. follow find steps (reached ++ next.name ∷ []) next) at name hit
 unfolding follow

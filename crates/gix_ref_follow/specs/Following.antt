@@ -10,7 +10,7 @@ use Rattle.gix_ref_theory.specs.Lookups.{Hit}
 use Rattle.gix_ref_theory.specs.Readings.{Reading}
 use Rattle.gix_ref_theory.specs.Readings.Reading.{Is, Fault, Absent}
 
--- A reference as a value: its name, its target, and the object behind its tags, where that is known.
+-- A reference as a value: its name, its target, and the object at the end of its tags, where that is known.
 pub record At : Type 0 where
   pub name : List ℕ
   pub target : TargetValue

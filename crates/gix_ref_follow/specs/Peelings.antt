@@ -30,12 +30,12 @@ pub data Peeling : Type 0 where
 abbrev pub peeled_to : At → ObjectId → At
 peeled_to at id = record { name = at.name; target = object_id id; peeled = Some id }
 
--- behind the tags of a reference
+-- after the tags of a reference
 abbrev pub by_tags : At → tags.Peeled → Peeling
 by_tags at (End id) = Done (peeled_to at id) id
 by_tags at other = NotPeeled at other
 
--- behind a following: at most 1,000 tags
+-- after a following: at most 1,000 tags
 abbrev pub by_ending : (ObjectId → Stored) → EndOfChain → Peeling
 by_ending meaning (Reached at id) = by_tags at (tags.peel meaning 1000 id)
 by_ending meaning other = NotFollowed other

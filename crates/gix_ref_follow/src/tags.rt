@@ -40,7 +40,7 @@ fn refused(error: PeelError, name: &FullName) -> Error
     }
 }
 
-/// Peels the tags of the object of a reference, which then points to the object behind them.
+/// Peels the tags of the object of a reference, which then points to the object at their end.
 fn peel_tags<T: Find>(
     reference: &mut Reference,
     alloc: Global,

@@ -4,7 +4,7 @@ use gix_ref_object::object::{Data, Find, FindError, Kind};
 use std::alloc::Global;
 use std::cell::Cell;
 
-/// What a finder has behind its tags.
+/// What a finder has after its tags.
 #[derive(Clone, Copy, Debug, PartialEq, Eq)]
 pub enum Last {
     /// A commit.

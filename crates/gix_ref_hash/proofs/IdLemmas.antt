@@ -30,7 +30,7 @@ digits_are_text V bytes out (Err e) is h =
     let plain : IsAscii lower_digits = IsAscii-from_all lower_digits (All-weaker (λ b. nat_lt b 128 ≡ true) (λ b. b < 128) (λ b h. ltb-true b 128 h) lower_digits (AllPass-from_list_all (λ b. nat_lt b 128) lower_digits refl)) in
     absurd (h.0 (subst IsUtf8 (sym is) (IsUtf8-from_ascii (encode_lower bytes) (IsAscii-encode_with lower_digits bytes plain))))
 
--- what is behind a run of bytes at the front, of which at most k are looked at
+-- what is after a run of bytes at the front, of which at most k are looked at
 run_whole : (p : ℕ → Bool) (k : ℕ) (text : List ℕ) → text ≡ take_while p (take k text) ++ (drop (prefix_len p (take k text)) (take k text) ++ drop k text)
 run_whole p k text =
     let m = prefix_len p (take k text) in

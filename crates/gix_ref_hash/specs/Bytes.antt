@@ -1,10 +1,15 @@
 -- Texts as lists of bytes: fronts, components, cuts at a byte, longest fronts and line ends.
-use Rattle.std.specs.Prelude.{◌≡◌, ◌≢◌, ℕ, ◌<◌, ◌==◌, nat_eq, nat_lt, Bool, true, false, not, ◌||◌, ◌⊎◌, List, [], ◌∷◌, ◌++◌, length, drop, slice_index, if◌then◌else◌}
+use Rattle.std.specs.Prelude.{◌≡◌, ◌≢◌, ℕ, ◌<◌, ◌==◌, nat_eq, nat_lt, Bool, true, false, not, ◌||◌, ◌⊎◌, List, [], ◌∷◌, ◌++◌, length, drop, slice_index, if◌then◌else◌, encode_utf8_all}
+use Rattle.bstr.specs.Utf8.{lossy_chars}
 use Rattle.std.specs.List.{AllPass, starts_with, slice_split}
 
 -- the text begins with `front`
 abbrev pub BeginsWith : List ℕ → List ℕ → Type 0
 BeginsWith text front = (rest : List ℕ) × (text ≡ front ++ rest)
+
+-- what is shown of bytes: themselves where they are UTF-8, else with U+FFFD for each piece that is not
+abbrev pub shown : List ℕ → List ℕ
+shown bytes = encode_utf8_all (lossy_chars bytes)
 
 -- the text without a front that it may have
 unfoldable pub without_front : List ℕ → List ℕ → List ℕ

@@ -222,8 +222,14 @@ pub fn are_hex(text: &[u8]) -> bool
     }
 }
 
-/// The hex digits of an id of the kind at the front of the text, and what follows them.
-fn id_of_kind(text: &[u8], kind: Kind) -> Option<(&[u8], &[u8])>
+/// The hex digits of an id of the kind at the front of the text, of either case, and what follows them; `None` where the text
+/// does not begin with that many digits. As `hex_hash`, which moves its input on.
+///
+/// ```text
+/// let text = b"1111111111111111111111111111111111111111 refs/heads/a".as_slice();
+/// split_id(text, Kind::Sha1) // the 40 digits, and ` refs/heads/a`
+/// ```
+pub fn split_id(text: &[u8], kind: Kind) -> Option<(&[u8], &[u8])>
     ensures { MatchOption result ((digits rest : List ℕ) → IsHexOf kind digits → text.now
         ≡ digits ++ rest → ⊥) (λ p. IsHexOf kind p.0.now × (text.now ≡ p.0.now ++ p.1.now)) }
 {
@@ -252,7 +258,7 @@ pub fn hex_hash<'a>(input: &mut &'a [u8], kind: Kind) -> Option<&'a [u8]>
         input.old.now ≡ digits ++ rest → ⊥) }
     ensures left { IfNone result (input.new ≡ input.old) }
 {
-    let (digits, rest) = id_of_kind(input, kind)?;
+    let (digits, rest) = split_id(input, kind)?;
     *input = rest;
     Some(digits)
 }

@@ -78,7 +78,7 @@ entries_there root T folder path entries is listing = λ k d below not_folder.
     let tells = listing.there k d below in
     subst (λ p. IsSome (file_of (T p))) (sym (path_below root.path.now folder path (entry_name entry) is)) (a_file (T (path ++ 47 ∷ entry_name entry)) entry.is_folder tells.0 tells.1 not_folder)
 
--- a name has a byte behind a folder, and what is before a slash there is a component
+-- a name has a byte after a folder, and what is before a slash there is a component
 behind_folder : (folder rest : List ℕ) → IsFolderPath folder → IsPartialName (folder ++ rest) → IsPath rest
 behind_folder folder rest path valid =
     let whole = (rules_of (folder ++ rest) valid).0 in

@@ -32,7 +32,7 @@ use Rattle.gix_ref_listing.specs.declared.own_records.OwnRecord.{OwnRecord}
 use Rattle.gix_ref_listing.specs.declared.own_records.OwnRecords.{OwnRecords}
 use Rattle.std.proofs.lemmas.Map.Lookups.{exact_bytes}
 
--- one of a list is its first, or is behind it
+-- one of a list is its first, or is after it
 pub first_or_behind : {A : Type 0} (x r : A) (xs : List A) → Contains (x ∷ xs) r → (r ≡ x) ⊎ Contains xs r
 first_or_behind x r xs (zero, lt, at) = inl (sym at)
 first_or_behind x r xs (suc k, lt, at) = inr (k, omega (arith, lt), at)

@@ -94,7 +94,7 @@ slash_free c (x ∷ front) rest none h =
     (λ other. slash_free (c ++ x ∷ []) front rest (no_byte_in c x none other) (subst IsPath (sym (append_assoc c (x ∷ []) (front ++ 47 ∷ rest))) h))
     (cases_eq x 47)
 
--- what is behind a slash of a path is a path
+-- what is after a slash of a path is a path
 pub behind_slash : (front rest : List ℕ) → IsPath (front ++ 47 ∷ rest) → IsPath rest
 behind_slash front rest h = slash_free [] front rest no_slash_yet h
 
@@ -102,7 +102,7 @@ x_name : IsPartialName (codes "x")
 unfolding partial_error
 x_name = refl
 
--- a component of a name, behind a folder, may stand before other components
+-- a component of a name, after a folder, may stand before other components
 pub leads : (folder c rest : List ℕ) → IsFolderPath folder → NoByte 47 c → IsPartialName (folder ++ (c ++ 47 ∷ rest)) → IsPartialName (c ++ codes "/x")
 leads folder c rest path none valid =
     let whole = (rules_of (folder ++ (c ++ 47 ∷ rest)) valid).0 in

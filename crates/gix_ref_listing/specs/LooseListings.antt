@@ -22,7 +22,7 @@ IsFront settings front =
     let f = folders_of settings.dirs.now settings.namespace.now in
     (front ≡ front_in settings f.common) ⊎ (front ≡ front_in settings f.git)
 
--- A valid name with the prefix whose own place is behind this front.
+-- A valid name with the prefix whose own place is after this front.
 pub record IsPlaced (settings : Settings) (prefix front name : List ℕ) : Type 0 where
   pub valid : IsPartialName name
   pub begins : BeginsWith name prefix

@@ -7,7 +7,7 @@ ghost use Rattle.gix_ref_packed_text.specs.Windows.{AreFound};
 ghost use Rattle.gix_ref_theory.specs.OnRealTrees.{contents};
 ghost use Rattle.gix_ref_theory.specs.Readings.{reading_by};
 ghost use Rattle.gix_ref_theory.specs.Readings.Reading.{Absent};
-ghost use Rattle.gix_ref_lookup.specs.Lookups.{meaning_in, packed_refs_in, ArePackedRecords, OfKey};
+ghost use Rattle.gix_ref_lookup.specs.Lookups.{ArePackedRecordsWith, OfKey, meaning_in, packed_refs_in};
 ghost use Rattle.gix_ref_lookup.specs.Looks.{OnlyLooks};
 ghost use Rattle.gix_ref_listing.specs.GoneFiles.{HitsNow, IsAskedAgain, IsGone, IsPackedAgain, IsPackedUnread};
 
@@ -75,9 +75,9 @@ fn find_key<F: Files>(
     settings: Settings<'_>,
     key: FullNameRef<'_>,
 ) -> Result<Option<Found>, find::Error>
-    ensures found { F.honest → (records : List Record) → ArePackedRecords settings.entry.kind
-        (packed_refs_in settings.entry (F.means files.old)) records →
-        IfOk result (AreFound (record_named (full_ref_bytes key.entry) records)) }
+    ensures found { F.honest → (records : List Record) → ArePackedRecordsWith settings.entry
+        (F.means files.old) records → IfOk result (AreFound
+        (record_named (full_ref_bytes key.entry) records)) }
     ensures hit { F.honest → IfOk result (λ found. IfSome found (HitsNow settings.entry.kind
         (packed_refs_in settings.entry (F.means files.old)) (full_ref_bytes key.entry))) }
     ensures no_fault { OnOk result (F.faults files.new ≡ F.faults files.old) }
@@ -97,10 +97,10 @@ fn find_record<F: Files>(
     settings: Settings<'_>,
     name: FullNameRef<'_>,
 ) -> Result<Option<Found>, find::Error>
-    ensures none { F.honest → (records : List Record) → ArePackedRecords settings.entry.kind
-        (packed_refs_in settings.entry (F.means files.old)) records →
-        IfOk result (λ found. IfNone found (reading_by (meaning_in settings.entry)
-        ((meaning_in settings.entry).key (full_ref_bytes name.entry)) None records ≡ Absent)) }
+    ensures none { F.honest → (records : List Record) → ArePackedRecordsWith settings.entry
+        (F.means files.old) records → IfOk result (λ found. IfNone found (reading_by
+        (meaning_in settings.entry) ((meaning_in settings.entry).key (full_ref_bytes name.entry))
+        None records ≡ Absent)) }
     ensures hit { F.honest → IfOk result (λ found. IfSome found
         (λ found. OfKey (meaning_in settings.entry) (full_ref_bytes name.entry)
         (λ key. HitsNow settings.entry.kind (packed_refs_in settings.entry (F.means files.old))

@@ -1,5 +1,39 @@
 //! Listings: the names of a store that have a loose file or a record in `packed-refs`, in ascending order
 //! (`git for-each-ref`).
+//!
+//! # What is proved
+//!
+//! - a walk finds each file whose name is valid, has the prefix, and has its own place in the folder; or it found a folder above
+//!   it that could not be listed: `walk::Root::walk`, clause `finds`; of both folders of a store `store_walk::walk_store`
+//! - what it finds is there; a folder that could not be listed is found with a fault that was counted: the same, clauses `there`,
+//!   `files` (`IsFileOrMet`)
+//! - it ends, and nothing changes: the same, clause `looks`
+//! - the records that a listing gives are those whose own key is their name: `own_records::OwnRecords`
+//! - what a walk found before and the records of a buffer that was opened since, merged, are the listing: ascending, each loose
+//!   reference as a loose one, each packed one, and nothing else: `list::walk`, clause `walks` (`IsWalkOf`),
+//!   `list::merge_walked`, `list::list`, clause `lists` (`IsListing` in `WholeListings.antt`)
+//! - an item is the target of its file, or why it has none, with its fault counted, or the ids of its record; a record is given
+//!   only where the store prohibits nothing at the place of its name, and the fault in its stead is that its place has the name
+//!   of a device, or no memory: `item::next_item` (`IsItem` in `Items.antt`)
+//! - where the file is gone, which it never is in honest files that no other program changes, the item is what the name reads:
+//!   the target of the file at its own place, or the ids of a record of its key that begins a line; `NotFound` only where a
+//!   well-formed `packed-refs` has none: the same (`IsGoneItem` in `GoneFiles.antt`)
+//! - which prefixes have no listing: `prefix::check_prefix`
+//! - the listing of pseudo references: ascending, each file of such a name directly in the git folder, unless it could not be
+//!   listed, and nothing else: `pseudo::list_pseudo`, clause `lists` (`IsPseudoListing` in `PseudoListings.antt`)
+//! - whether a store is as `git init` makes it: `true` and `false` are right, and nothing is said only where `HEAD` is read as
+//!   nothing or a fault came: `pristine::is_pristine`, clauses `says`, `looks` (`IsPristine`, `IsInUse` in `PristineStores.antt`)
+//! - the records of a prefix that are read from a well-formed `packed-refs` are those of the prefix in it; a buffer of all
+//!   records holds those of each prefix; of any `packed-refs` whose names ascend each record of the prefix is read:
+//!   `prefixed_records::open_prefixed`, clauses `holds`, `asked`, `laws::whole_buffers_hold_prefixes`
+//! - over any text whose names ascend, whatever its other lines are: each name that is due by a record of the text is given, or a
+//!   fault is: `list::merge_walked`, `list::list`, clause `owes` (`OwesNames` in `OwedNames.antt`), `item::next_item` (`pays` of
+//!   `GivesNext`)
+//!
+//! Where names are composed, a file whose name on disk is not composed is listed under its composed name; that it is listed is
+//! only tested. Over a `packed-refs` that is not well formed the end of a listing is proved, that it changes nothing, that an
+//! item in which a fault of files is counted is a fault, and that it lacks no name in silence (the last line of the table). Which
+//! line a fault is about, and what comes after the first one, is tested.
 #![tactic(auto)]
 
 pub mod error;

@@ -9,7 +9,7 @@ ghost use Rattle.gix_ref_packed.specs.Buffers.{HoldsRecords, IsRefusedBytes, IsR
 ghost use Rattle.gix_ref_packed_text.specs.Prefixes.{NamesAscend};
 ghost use Rattle.gix_ref_packed.specs.FilePrefixes.{HoldsAsked};
 ghost use Rattle.gix_ref_packed.specs.OpenFiles.{CountsRefusal, packed_file_kind, packed_file_text};
-ghost use Rattle.gix_ref_lookup.specs.Lookups.{ArePackedRecords, meaning_in, packed_refs_in};
+ghost use Rattle.gix_ref_lookup.specs.Lookups.{ArePackedRecordsWith, meaning_in, packed_refs_in};
 ghost use Rattle.gix_ref_listing.specs.PrefixedRecords.{HoldsAskedOf, IsHeldFor, of_part};
 ghost use Rattle.gix_ref_listing.specs.WholeListings.{HoldsFor, key_in};
 
@@ -67,9 +67,9 @@ pub fn open_prefixed<F: Files>(
     settings: Settings<'_>,
     prefix: &[u8],
 ) -> Result<Option<Buffer>, Error>
-    ensures holds { F.honest → (records : List Record) → ArePackedRecords settings.entry.kind
-        (packed_refs_in settings.entry (F.means files.old)) records →
-        IfOk result (λ found. IsHeldFor (key_in settings.entry prefix.now) found records) }
+    ensures holds { F.honest → (records : List Record) → ArePackedRecordsWith settings.entry
+        (F.means files.old) records → IfOk result (λ found. IsHeldFor
+        (key_in settings.entry prefix.now) found records) }
     ensures asked { F.honest → IfOk result (HoldsAskedOf settings.entry.kind
         (packed_refs_in settings.entry (F.means files.old)) (key_in settings.entry prefix.now)) }
     ensures there { F.honest → IfOk result (λ found. is_some found

@@ -32,7 +32,7 @@ pub struct Root<'a> {
     pub settings: Settings<'a>,
 }
 
-/// Two texts, one behind the other.
+/// Two texts, one after the other.
 pub(crate) fn joined(alloc: Global, front: &[u8], end: &[u8]) -> Result<Vec<u8>, AllocError>
     ensures { IfOk result (λ text. text.items ≡ front.now ++ end.now) }
 {
@@ -42,7 +42,7 @@ pub(crate) fn joined(alloc: Global, front: &[u8], end: &[u8]) -> Result<Vec<u8>,
     Ok(text)
 }
 
-/// Whether a text is these two, one behind the other.
+/// Whether a text is these two, one after the other.
 fn is_joined(text: &[u8], front: &[u8], end: &[u8]) -> bool
     ensures { IsTrue result ↔ (text.now ≡ front.now ++ end.now) }
 {

@@ -19,7 +19,7 @@ use Rattle.gix_ref_hash.proofs.IdDigits.{id_text, no_byte_in_id}
 by : (A : Type 0) → A → A
 by A a = a
 
--- the ids of a SHA-1, each with a space behind it
+-- the ids of a SHA-1, each with a space after it
 pub two_ids : (text : List ℕ) → 82 ≤ length text → get_or text 40 0 ≡ 32 → get_or text 81 0 ≡ 32 → list_all is_hex_digit (take 40 text) ≡ true → list_all is_hex_digit (take 40 (drop 41 text)) ≡ true
     → (ids : List ℕ) × IdFront text (take 40 text) ids × IdFront ids (take 40 (drop 41 text)) (drop 82 text)
 two_ids text room first second previous new =

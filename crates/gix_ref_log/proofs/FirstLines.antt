@@ -1,4 +1,4 @@
--- The first line of a log, and the lines behind it.
+-- The first line of a log, and the lines after it.
 use Rattle.std.proofs.Common.{◌≡◌, ℕ, ◌<◌, true, false, List, [], ◌∷◌, ◌++◌, length, map, sym, ◌∙◌, ap, inr, arith}
 use Rattle.std.proofs.lemmas.List.{append_assoc, append-nil, length-append}
 use Rattle.bstr.specs.Text.{lines_of, without_terminator, no_cr}

@@ -10,7 +10,7 @@ use Rattle.gix_ref_log.specs.LogStages.{NoFeed, tail_of, text_of_line}
 by : (A : Type 0) → A → A
 by A a = a
 
--- two lists of which the second has one more line behind
+-- two lists of which the second has one more line after
 older_stand : (room n : ℕ) (p : List ℕ) (ps : List (List ℕ)) → 0 < length ps
     → backward room n (p ∷ ps) ≡ cond (nat_le (len_without_feed p + 1) room) (Text n (without_terminator p) ∷ backward room (n + 1) ps) (TooSmall ∷ [])
 older_stand room n p [] some = absurd (omega arith)
@@ -89,7 +89,7 @@ lone room n v ends none some =
     ∙ ap (λ (k : ℕ). cond (nat_le k room) (Text n (without_terminator w) ∷ []) (TooSmall ∷ [])) (bytes_is v ends none)
     ∙ ap (λ (t : List ℕ). cond (nat_le (length v) room) (Text n t ∷ []) (TooSmall ∷ [])) (text_is v ends none)
 
--- no line feed in two lists, one behind the other
+-- no line feed in two lists, one after the other
 none_both : (a v : List ℕ) → NoFeed a → NoFeed v → NoFeed (a ++ v)
 none_both a v f g k l =
     let long = length-append a v in

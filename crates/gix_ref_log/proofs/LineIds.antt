@@ -15,7 +15,7 @@ id_cuts text id rest h = record { whole = h.1; none = no_byte_in_id 32 id refl h
 pub same_id : (text p i q j : List ℕ) → IdFront text p i → IdFront text q j → (p ≡ q) × (i ≡ j)
 same_id text p i q j f g = same_cut 32 text p i q j (id_cuts text p i f) (id_cuts text q j g)
 
--- the space behind the id
+-- the space after the id
 space_at : (text id rest : List ℕ) → text ≡ id ++ 32 ∷ rest → (length id < length text) × (slice_index text (length id) ≡ 32)
 space_at text id rest whole =
     let long = length-append id (32 ∷ rest) in

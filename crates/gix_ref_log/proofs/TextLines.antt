@@ -15,7 +15,7 @@ longer : (text id rest more : List ℕ) → IdFront text id rest → IdFront (te
 longer text id rest more h = (h.0, ap (λ (t : List ℕ). t ++ more) h.1 ∙ append_assoc id (32 ∷ rest) more)
 
 module _ (text line rest : List ℕ) (l : LogLine) where
-  -- a line is one also with lines behind it
+  -- a line is one also with lines after it
   with_more : Cuts 10 text line rest → IsLine line l → IsLine text l
   with_more cut w =
       let none : NoByte 10 w.rest = none_in_rest 10 line l.previous w.ids l.new w.rest cut.none w.previous w.new in

@@ -6,7 +6,7 @@ use Rattle.gix_ref_hash.specs.Ids.{IsIdText}
 abbrev pub IdFront : List ℕ → List ℕ → List ℕ → Type 0
 IdFront text id rest = IsIdText id × (text ≡ id ++ 32 ∷ rest)
 
--- where the space behind the id has to be: at 40 where one is there, else at 64
+-- where the space after the id has to be: at 40 where one is there, else at 64
 abbrev pub IsIdPlace : List ℕ → ℕ → Type 0
 IsIdPlace text place =
     ((place ≡ 40) × (40 < length text) × (slice_index text 40 ≡ 32))

@@ -23,7 +23,7 @@ abbrev pub CutsOrAll : ℕ → List ℕ → List ℕ → List ℕ → Type 0
 CutsOrAll b text before after = Cuts b text before after
     ⊎ (NoByte b text × (before ≡ text) × (after ≡ []))
 
--- The text of a line: an id, a space, an id, a space; then, up to LF or the end, a signature, and behind the first tab
+-- The text of a line: an id, a space, an id, a space; then, up to LF or the end, a signature, and after the first tab
 -- the message.
 pub record IsLine (text : List ℕ) (l : LogLine) : Type 0 where
   pub ids : List ℕ
@@ -63,7 +63,7 @@ pub record IsOwned (l : LogLine) (line : Line) : Type 0 where
 abbrev pub IsReadAs : List ℕ → Line → Type 0
 IsReadAs text line = (l : LogLine) × IsLine text l × IsOwned l line
 
--- the ids in lower case, each with a space behind it, and the signature
+-- the ids in lower case, each with a space after it, and the signature
 abbrev pub head_text : ObjectId → ObjectId → Who → List ℕ
 head_text previous new who = encode_lower (id_bytes previous) ++ 32
     ∷ (encode_lower (id_bytes new) ++ 32 ∷ signature_text who)

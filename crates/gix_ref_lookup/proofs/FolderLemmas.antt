@@ -135,7 +135,7 @@ laid_below git common rest worktree differ is named = (to, from)
     from (inr (inl r)) = named.1 (r.0, r.1, cancel_below common rest (codes "worktrees/" ++ r.0) (sym is ∙ r.2))
     from (inr (inr a)) = absurd (a.left_outside (rest, is))
 
--- the rest behind the folder begins with a slash, or the path does not lie in the folder
+-- the rest after the folder begins with a slash, or the path does not lie in the folder
 pub rest_in : (path folder rest : Path) (o : Option (Bor Path)) → path ≡ folder ++ rest →
     MatchOption o ((tail : Path) → rest ≢ codes "/" ++ tail) (λ tail. rest ≡ codes "/" ++ tail.now) →
     MatchOption o (LiesIn path folder → ⊥) (λ tail. path ≡ below folder tail.now)

@@ -136,7 +136,7 @@ none_first s view rs name names none = by (reading_among s view rs name) refl no
     by Fault is none = absurd (cc)
     by (Is target) is none = absurd (cc)
 
--- the rest fails behind candidates that are absent
+-- the rest fails after candidates that are absent
 pub fails_behind : {R : Type 0} {G : Ghosts R} (honest : Type 0) (settings : Settings) (T : Tree) (r : Asked R G) (Fails : List ℕ → Type 0) (names tail : List (List ℕ)) →
     (honest → (rs : List Record) → AreAsked settings.kind (packed_refs_at settings T) r rs → first_hit (meaning_in settings) (view_of T) rs names ≡ None) →
     FailsAt (IsPassed honest settings T r) Fails tail → FailsAt (IsPassed honest settings T r) Fails (names ++ tail)

@@ -272,7 +272,7 @@ pub at_ok : {A E : Type 0} (P : Type 0) (r : Result A E) → P → OnOk r P
 at_ok P (Ok x) p = p
 at_ok P (Err e) p = tt
 
--- a text that is refused, but for want of memory, holds no target
+-- a text that is refused, except for want of memory, holds no target
 pub refused_none : (kind : Kind) (text : List ℕ) (error : Error) → CannotDecode kind text error → (error ≡ Memory → ⊥) → target_in kind text ≡ None
 refused_none kind text error refused memory = by (target_in kind text) refl
   where

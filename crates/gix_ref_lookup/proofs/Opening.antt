@@ -78,7 +78,7 @@ not_packed_wider honest honest' fault fault' unreadable unreadable' refused refu
 not_packed_wider honest honest' fault fault' unreadable unreadable' refused refused' (ReadFileContents e path) h f u r why = absurd why
 not_packed_wider honest honest' fault fault' unreadable unreadable' refused refused' (ReferenceCreation e path) h f u r why = absurd why
 
--- behind some of the records of a text there is a record, or nothing
+-- after some of the records of a text there is a record, or nothing
 not_stuck : (kind : Kind) (text rest : List ℕ) (before rs : List Record) → Fronts kind text before rest → Records kind text rs → rest ≢ [] → NoRecord kind rest → ⊥
 not_stuck kind text rest [] [] fronts are some bad = some (sym fronts ∙ are)
 not_stuck kind text rest [] (r ∷ rs) fronts are some bad = bad r are.0 (subst (λ (t : List ℕ). Takes kind t r are.0) fronts are.1)
@@ -89,7 +89,7 @@ not_stuck kind text rest (b ∷ before) (r ∷ rs) fronts are some bad =
     let same = same_record kind text b fronts.0 r are.0 fronts.1 are.1 in
     not_stuck kind fronts.0 rest before rs fronts.2 (subst (λ (t : List ℕ). Records kind t rs) (sym same.1) are.2) some bad
 
--- a well-formed text is opened, but for a fault or want of memory
+-- a well-formed text is opened, except for a fault or want of memory
 opens_bytes : (kind : Kind) (bytes : List ℕ) (h : Option Header) (rs : List Record) (error : OpenError) → PackedText kind bytes h rs → IsRefusedBytes kind bytes error →
     IsFaultOrMemory (of_opening error)
 opens_bytes kind bytes h rs (Io fault) text refused = tt

@@ -12,7 +12,7 @@ abbrev pub is_clean_component : List ℕ → Bool
 is_clean_component c = not (is_empty c) && not (bytes_eq c (codes "."))
     && not (bytes_eq c (codes ".."))
 
--- A clean path: no NUL, and clean components behind one leading slash. So it is not empty, and has no slash at its end.
+-- A clean path: no NUL, and clean components after one leading slash. So it is not empty, and has no slash at its end.
 abbrev pub is_clean : Path → Bool
 is_clean path = list_all (λ b. not (b == 0)) path
     && list_all is_clean_component (components (without_front (codes "/") path))

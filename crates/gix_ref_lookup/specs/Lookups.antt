@@ -131,7 +131,28 @@ pub record OfSearched {R : Type 0} {G : Ghosts R} (kind : Kind) (file : Option (
 
 -- On any text of `packed-refs`: no record is found, since no text is searched, or one that does not consist of malformed lines alone.
 abbrev pub FindsNone : {R : Type 0} {G : Ghosts R} → Kind → Option (List ℕ) → Records R G → Type 0
-FindsNone kind file records = SearchesNone file records ⊎ OfSearched kind file records IsNotMalformed
+FindsNone kind file records =
+    SearchesNone file records ⊎ OfSearched kind file records IsNotMalformed
+
+-- The same of the `packed-refs` that these files have for a store with these settings.
+module _ (settings : Settings) (files : Meaning) where
+  abbrev pub ArePackedRecordsWith : List Record → Type 0
+  ArePackedRecordsWith records =
+      ArePackedRecords settings.kind (packed_refs_in settings files) records
+
+  abbrev pub IsOpenableWith : Type 0
+  IsOpenableWith = IsOpenable settings.kind (packed_refs_in settings files)
+
+  abbrev pub AreAskedWith : {R : Type 0} {G : Ghosts R} → Records R G → List Record → Type 0
+  AreAskedWith asked records = AreAsked settings.kind (packed_refs_in settings files) asked records
+
+  abbrev pub AreStillAskedWith : {R : Type 0} {G : Ghosts R} → (old new : Records R G) → Type 0
+  AreStillAskedWith old new =
+      AreStillAsked settings.kind (packed_refs_in settings files) old new
+
+  abbrev pub IsSearchedWith : {R : Type 0} {G : Ghosts R} → Records R G → Kind → List ℕ → Type 0
+  IsSearchedWith asked of_kind text =
+      IsSearched settings.kind (packed_refs_in settings files) asked of_kind text
 
 -- the error of a lookup where opening has this one
 abbrev pub of_opening : OpenError → Error

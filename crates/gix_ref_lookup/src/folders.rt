@@ -56,7 +56,7 @@ fn is_clean_part(component: &[u8]) -> bool
     !component.is_empty() && component != b".".as_slice() && component != b"..".as_slice()
 }
 
-/// The path behind one leading slash.
+/// The path after one leading slash.
 fn relative(path: &[u8]) -> &[u8]
     ensures { result.now ≡ without_front (codes "/") path.now }
 {
@@ -87,7 +87,7 @@ fn are_clean_parts(path: &[u8]) -> bool
     is_clean_part(rest)
 }
 
-/// Whether a path is clean: not empty, no NUL, no empty component but for one leading slash, no component `.` or `..`,
+/// Whether a path is clean: not empty, no NUL, no empty component except for one leading slash, no component `.` or `..`,
 /// and no slash at its end.
 ///
 /// ```text

@@ -1,6 +1,6 @@
 //! Loose references: a file for each, with the id of an object or the name of another reference.
-ghost use Rattle.std.specs.Prelude.{◌≡◌, ◌↔◌, IsTrue, ◌++◌, ℕ, List, IfOk, IfErr, OnOk, MatchResult, MatchOption, Some};
-ghost use Rattle.gix_ref_hash.specs.Ids.{IsHexOf, IsWhole};
+ghost use Rattle.std.specs.Prelude.{◌≡◌, ◌↔◌, IsTrue, ℕ, List, IfOk, IfErr, OnOk, MatchResult, MatchOption, Some};
+ghost use Rattle.gix_ref_hash.specs.Ids.{IsWhole};
 ghost use Rattle.gix_ref_hash.specs.declared.hash.Kind.{Kind};
 ghost use Rattle.gix_ref_name.specs.Names.{full_bytes};
 ghost use Rattle.gix_ref_target.specs.Targets.{target_value, target_kind};
@@ -12,7 +12,7 @@ mod error;
 
 pub use error::Error;
 use gix_ref_hash::bytes::{after_spaces, strip_front, up_to_line_end};
-use gix_ref_hash::hash::{Kind, ObjectId, hex_hash, is_hex};
+use gix_ref_hash::hash::{Kind, ObjectId, id_of_digits, is_hex, split_id};
 use gix_ref_name::name::{FullName, FullNameRef};
 use gix_ref_packed::raw;
 use gix_ref_target::target::{self, Target};
@@ -128,28 +128,16 @@ fn symbolic_path(text: &[u8]) -> Option<&[u8]>
     Some(up_to_line_end(after_spaces(rest)))
 }
 
-/// The digits of an id at the front of the text, and what follows them.
-fn digits_of(text: &[u8], kind: Kind) -> Option<(&[u8], &[u8])>
-    ensures { MatchOption result ((digits rest : List ℕ) → IsHexOf kind digits → text.now
-        ≡ digits ++ rest → ⊥) (λ p. IsHexOf kind p.0.now × (text.now ≡ p.0.now ++ p.1.now)) }
-{
-    let mut rest = text;
-    match hex_hash(&mut rest, kind) {
-        Some(digits) => Some((digits, rest)),
-        None => None,
-    }
-}
-
 /// The id at the front of the text, where no further hex digit follows it.
 fn object_id(text: &[u8], kind: Kind) -> Option<ObjectId>
     ensures { MatchOption result ((id : _) → HoldsId kind text.now id → ⊥) (HoldsId kind text.now) }
 {
-    let Some((digits, rest)) = digits_of(text, kind) else {
+    let Some((digits, rest)) = split_id(text, kind) else {
         return None;
     };
     match rest.first() {
         Some(byte) if is_hex(*byte) => None,
-        _ => ObjectId::from_hex(digits),
+        _ => Some(id_of_digits(digits)),
     }
 }
 

@@ -178,7 +178,7 @@ fills_more Good A B C old mid new first second wider = record {
   synced = λ s. second.synced (first.synced s);
 }
 
--- one change behind others
+-- one change after others
 pub named_snoc : (changes : List Change) (change : Change) (q : Path) → IsNamedByChange (changes ++ change ∷ []) q → IsNamedByChange changes q ⊎ Names change q
 named_snoc [] change q (inl here) = inr here
 named_snoc [] change q (inr none) = absurd none

@@ -52,7 +52,8 @@ content_after (SyncFolder path) q content = content
 -- the same of several changes
 abbrev pub contents_after : List Change → Path → Option Content → Option Content
 contents_after [] q content = content
-contents_after (change ∷ changes) q content = contents_after changes q (content_after change q content)
+contents_after (change ∷ changes) q content =
+    contents_after changes q (content_after change q content)
 
 -- the tree after a change
 abbrev pub changed : Change → Tree → Tree

@@ -25,6 +25,7 @@ use listing::list_now;
 use power::left_by_loss;
 pub use reader::MemoryReader;
 use std::alloc::Global;
+use std::fmt;
 use std::io::ErrorKind;
 use turns::{Plan, Turn, Turns};
 
@@ -40,6 +41,12 @@ pub struct Memory {
     changes: Vec<Change>,
     turns: Turns,
     ghost shaped: { IsShaped (after_changes changes.items no_tree) },
+}
+
+impl fmt::Debug for Memory {
+    fn fmt<W: fmt::Write>(&self, f: &mut fmt::Formatter<W>) -> fmt::Result {
+        f.write_str("Memory")
+    }
 }
 
 impl Memory {
@@ -80,7 +87,7 @@ impl Memory {
 
     /// Puts a file with these bytes at a path, in place of a file that is there, and makes the folders that lead
     /// to it, all of it synced; false, and nothing changed, where a folder is at the path or a file in it. It is no call of files,
-    /// so it is not counted, and no plan has it fail. `Memory` where a growth was refused; then nothing has changed. As
+    /// so it is not counted, and no plan has it fail. `Memory` where an allocation was refused; then nothing has changed. As
     /// `fs::write` after `fs::create_dir_all`.
     ///
     /// ```text
@@ -154,7 +161,7 @@ impl Memory {
         self.turns.plan = Plan::StopsAt(self.turns.calls.saturating_add(k), n);
     }
 
-    /// Loses power, between calls or after a stop, and starts again as `restart` does. `Memory` where a growth was refused; then
+    /// Loses power, between calls or after a stop, and starts again as `restart` does. `Memory` where an allocation was refused; then
     /// nothing has changed.
     ///
     /// Entries of folders that are unsynced, and ends of files that are, are numbered from 0 in the order of their first

@@ -137,7 +137,7 @@ pub named_behind : (p front : List ℕ) → IsPartialName p → Contains (lookup
 named_behind p front valid among = All-contains (NamedBehind p) (lookup_prefixes p) front (all_fronts p valid) among
 
 -- ---- a path before a name
--- the text up to its first slash, and what is behind that
+-- the text up to its first slash, and what is after that
 first_slash : (text : List ℕ) → (list_all (λ c. not (eqb c 47)) text ≡ true) ⊎ ((c n : List ℕ) × (list_all (λ c. not (eqb c 47)) c ≡ true) × (text ≡ c ++ 47 ∷ n))
 first_slash [] = inl refl
 first_slash (x ∷ text) = go (eqb x 47) refl (first_slash text)
@@ -148,7 +148,7 @@ first_slash (x ∷ text) = go (eqb x 47) refl (first_slash text)
     go false other (inr (c, n, none, whole)) =
         inr (x ∷ c, n, ap (λ v. not v && list_all (λ c. not (eqb c 47)) c) other ∙ none, ap (λ t. x ∷ t) whole)
 
--- a partial name behind a path and a slash is one; `k` bounds the length of the path
+-- a partial name after a path and a slash is one; `k` bounds the length of the path
 behind_path : (k : ℕ) (c n : List ℕ) → length c ≤ k → IsPath c → IsPartialName n → IsPartialName (c ++ 47 ∷ n)
 behind_path k [] n short path valid = let some = path.some in absurd (cc)
 behind_path Prim.Native.Nat.zero (x ∷ c) n short path valid = absurd (omega arith)
@@ -213,7 +213,7 @@ or_move false false true false true z = refl
 or_move false false true false false z = refl
 or_move false false false x y z = refl
 
--- the test of a name with a path behind it
+-- the test of a name with a path after it
 pub rooted-behind : (p n : List ℕ) → is_full_ref_path (p ++ 47 ∷ n) ≡ (is_full_ref_path p || ((pointwise nat_eq p (codes "refs") || pointwise nat_eq p (codes "main-worktree")) || pointwise nat_eq p (codes "worktrees")))
 rooted-behind p n =
     ap (λ v. (v || starts_with nat_eq (p ++ 47 ∷ n) (codes "main-worktree/")) || starts_with nat_eq (p ++ 47 ∷ n) (codes "worktrees/")) (starts-behind (codes "refs") p n refl)

@@ -12,7 +12,7 @@ use Rattle.gix_ref_hash.proofs.ByteLemmas.{apart, no_byte}
 use Rattle.gix_ref_name.proofs.FrontLemmas.{begins_true}
 use Rattle.gix_ref_name.proofs.PartialNames.{IsComponent, behind_component, cut}
 
--- a partial name behind the text is one
+-- a partial name after the text is one
 abbrev pub KeepsNames : List ℕ → Type 0
 KeepsNames bytes = (n : List ℕ) → IsPartialName n → IsPartialName (bytes ++ n)
 

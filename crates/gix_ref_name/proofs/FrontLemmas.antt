@@ -65,7 +65,7 @@ stripped-none p s never = ap (λ v. cond (is_none (partial_error v)) v s) (witho
     go true = refl
     go false = refl
 
--- what is behind a front, moved to the start
+-- what is after a front, moved to the start
 pub moved_front : (p s r : List ℕ) → s ≡ p ++ r → take (length r) (drop (length p) s ++ take (length p) s) ≡ r
 moved_front p s r e =
     ap (λ v. take (length r) (v ++ take (length p) s)) (ap (drop (length p)) e ∙ drop_at p r (length p) refl) ∙ take_at r (take (length p) s) (length r) refl

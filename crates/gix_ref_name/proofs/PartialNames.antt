@@ -107,7 +107,7 @@ pub none_or : (a b : Bool) → a ≡ false → b ≡ false → (a || b) ≡ fals
 none_or true b h k = absurd (cc)
 none_or false b h k = k
 
--- no byte of a kind in front, none behind
+-- no byte of a kind in front, none after
 find-append : (p : ℕ → Bool) (c n : List ℕ) → find p (c ++ n) ≡ None → (find p c ≡ None) × (find p n ≡ None)
 find-append p [] n h = (refl, h)
 find-append p (x ∷ c) n h = go (p x) refl (find-append p c n)
@@ -140,7 +140,7 @@ last-append [] y n z = refl
 last-append (x ∷ []) y n z = last-cons x y n z
 last-append (x ∷ w ∷ c) y n z = last-cons x w (c ++ y ∷ n) z ∙ last-append (w ∷ c) y n z
 
--- behind a slash, of what is not empty
+-- after a slash, of what is not empty
 last-behind : (c n : List ℕ) (z : ℕ) → is_empty n ≡ false → ends_with nat_eq (c ++ 47 ∷ n) (z ∷ []) ≡ ends_with nat_eq n (z ∷ [])
 last-behind c [] z some = absurd (cc)
 last-behind c (y ∷ n) z some = last-append c 47 (y ∷ n) z ∙ last-cons 47 y n z
@@ -174,7 +174,7 @@ pair-append a b (x ∷ y ∷ c) n no_a no_b =
 no_slash_sym : (x : ℕ) → eqb x 47 ≡ false → eqb 47 x ≡ false
 no_slash_sym x other = ne_eqb 47 x (λ same. let yes : eqb x 47 ≡ true = eq-eqb x 47 (sym same) in absurd cc)
 
--- two slashes are behind what has none
+-- two slashes are after what has none
 slashes-append : (c n : List ℕ) → All (IsApart 47) c → occurs (codes "//") (c ++ 47 ∷ n) ≡ occurs (codes "//") (47 ∷ n)
 slashes-append [] n h = refl
 slashes-append (x ∷ c) n h =
@@ -184,7 +184,7 @@ slashes-append (x ∷ c) n h =
 pub cut : (c n : List ℕ) → NoByte 47 c → components (c ++ 47 ∷ n) ≡ c ∷ components n
 cut c n none = slice_split_at is_slash c 47 n (apart 47 c none) refl
 
--- the first component of a path and what is behind it
+-- the first component of a path and what is after it
 pub first_component : (c n : List ℕ) → NoByte 47 c → IsPath (c ++ 47 ∷ n) → IsComponent c × IsPath n
 first_component c n none p =
     let valid = find-append is_invalid c (47 ∷ n) p.valid in
@@ -239,7 +239,7 @@ last_component c none p =
       portion = p.portion;
     }
 
--- a partial name behind a component and a slash is one
+-- a partial name after a component and a slash is one
 pub behind_component : (c n : List ℕ) → IsComponent c → IsPartialName n → IsPartialName (c ++ 47 ∷ n)
 behind_component c n h name =
     let p = (rules_of n name).0 in

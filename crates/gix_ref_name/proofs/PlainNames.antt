@@ -112,7 +112,7 @@ behind_longer : (x : ℕ) (cs : List (List ℕ)) → behind_front (onto_first x 
 behind_longer x [] = refl
 behind_longer x (c ∷ more) = refl
 
--- the parts of a text behind its first byte
+-- the parts of a text after its first byte
 components-cons : (x : ℕ) (n : List ℕ) (v : Bool) → eqb x 47 ≡ v → components (x ∷ n) ≡ cond v ([] ∷ components n) (onto_first x (components n))
 components-cons x n v is = ap (λ t. cond t ([] ∷ components n) (onto_first x (components n))) is
 

@@ -72,7 +72,7 @@ open_none n s =
     let none : 0 ≡ s - s = omega arith in
     subst (λ (k : ℕ). NoSlash (take k (drop s n))) none (All-nil (λ b. (eqb b 47) ≡ false))
 
--- the search for a byte of a kind goes on behind one that is not of it
+-- the search for a byte of a kind goes on after one that is not of it
 pub find_step : (p : ℕ → Bool) (n : List ℕ) (i : ℕ) (all : Option ℕ) → i < length n → p (get_or n i 0) ≡ false → find p (drop i n) ≡ all → find p (drop (i + 1) n) ≡ all
 find_step p n i all within other was =
     sym (ap (find p) (drop_more n i 0 within) ∙ ap (λ v. cond v (Some (get_or n i 0)) (find p (drop (i + 1) n))) other) ∙ was

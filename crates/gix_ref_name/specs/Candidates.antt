@@ -22,7 +22,7 @@ lookup_prefixes p =
     else if is_full_ref_path p then [] ∷ codes "tags/" ∷ codes "heads/" ∷ codes "remotes/" ∷ []
     else codes "refs/" ∷ codes "refs/tags/" ∷ codes "refs/heads/" ∷ codes "refs/remotes/" ∷ []
 
--- each front with the name behind it
+-- each front with the name after it
 abbrev pub candidates : List ℕ → List (List ℕ)
 candidates p = map (λ front. front ++ p) (lookup_prefixes p)
 

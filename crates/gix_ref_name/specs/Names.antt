@@ -1,7 +1,6 @@
 -- The bytes of the four types of names, and what a conversion into each returns. Clauses of other crates speak of a
 -- name through these words.
-use Rattle.std.specs.Prelude.{◌≡◌, ◌⊎◌, ℕ, ◌∷◌, ◌++◌, List, Option, Some, None, Result, MatchResult, encode_utf8_all}
-use Rattle.bstr.specs.Utf8.{lossy_chars}
+use Rattle.std.specs.Prelude.{◌≡◌, ◌⊎◌, ℕ, ◌∷◌, ◌++◌, List, Option, Some, None, Result, MatchResult}
 use Rattle.gix_ref_hash.specs.Bytes.{NoByte}
 use Rattle.gix_ref_name.specs.declared.name.error.Error.{Error}
 use Rattle.gix_ref_name.specs.declared.name.FullNameRef.{FullNameRef}
@@ -27,11 +26,7 @@ abbrev pub Converts : {N : Type 0} → (List ℕ → Option Error) → (N → Li
 Converts rules bytes text r = MatchResult r (λ n. (bytes n ≡ text) × (rules text ≡ None))
     (λ e. rules text ≡ Some e)
 
--- what is shown of bytes: themselves where they are UTF-8, else with U+FFFD for each piece that is not
-abbrev pub shown : List ℕ → List ℕ
-shown bytes = encode_utf8_all (lossy_chars bytes)
-
--- all behind the last slash, or the whole name where it has none
+-- all after the last slash, or the whole name where it has none
 pub record IsLastComponent (n c : List ℕ) : Type 0 where
   pub none : NoByte 47 c
   pub behind : (n ≡ c) ⊎ ((folder : List ℕ) × (n ≡ folder ++ 47 ∷ c))

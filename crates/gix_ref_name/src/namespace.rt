@@ -11,7 +11,7 @@ pub use expansion::expand;
 use std::alloc::{AllocError, Global};
 
 /// The text in front of the names of a namespace: it begins with `refs/namespaces/`, ends with a slash, and a valid
-/// name behind it makes a valid name. As gix-ref's `Namespace`.
+/// name after it makes a valid name. As gix-ref's `Namespace`.
 #[derive(Debug, PartialEq, Eq, PartialOrd, Ord, Hash, Drop)]
 pub struct Namespace {
     bytes: Vec<u8>,

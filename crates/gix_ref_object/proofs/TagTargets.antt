@@ -57,7 +57,7 @@ unfolding target_of_kind
 no_front kind bytes never =
     sym (ap (λ (b : Bool). if b && starts_with nat_eq (drop (2 * kind_len kind) (drop 7 bytes)) (10 ∷ []) then id_of_hex kind (take (2 * kind_len kind) (drop 7 bytes)) else None) (front_is bytes (starts_with nat_eq bytes (codes "object ")) refl never))
 
--- behind `object `
+-- after `object `
 behind_front : (kind : Kind) (bytes rest : List ℕ) (b : Bool) → bytes ≡ codes "object " ++ rest → starts_with nat_eq (drop (2 * kind_len kind) rest) (10 ∷ []) ≡ b → target_of_kind kind bytes ≡ (if b then id_of_hex kind (take (2 * kind_len kind) rest) else None)
 unfolding target_of_kind
 behind_front kind bytes rest b whole line =

@@ -56,7 +56,7 @@ abbrev pub onward : ObjectId → (ObjectId → Peeled) → Option ObjectId → P
 onward id more None = BadTag id
 onward id more (Some target) = more target
 
--- at one object; `more` goes on behind a tag
+-- at one object; `more` goes on after a tag
 abbrev pub step : ObjectId → (ObjectId → Peeled) → Stored → Peeled
 step id more Absent = Missing id
 step id more Faulty = Failed
@@ -68,7 +68,7 @@ unfoldable pub walk : (ObjectId → Stored) → (objects : ℕ) → ObjectId →
 walk meaning zero id = TooLong
 walk meaning (suc n) id = step id (walk meaning n) (meaning id)
 
--- over at most `tags` tags, and the object behind them
+-- over at most `tags` tags, and the object at their end
 abbrev pub peel : (ObjectId → Stored) → (tags : ℕ) → ObjectId → Peeled
 peel meaning tags id = walk meaning (suc tags) id
 

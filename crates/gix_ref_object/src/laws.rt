@@ -5,7 +5,7 @@ ghost use Rattle.gix_ref_object.specs.Peeling.Peeled.{End, TooLong};
 ghost use Rattle.gix_ref_object.specs.Objects.{Stored};
 ghost use Rattle.gix_ref_hash.specs.declared.hash.ObjectId.{ObjectId};
 
-/// Where a chain of tags ends, of which so many are followed: tags up to that number lead to the object behind them,
+/// Where a chain of tags ends, of which so many are followed: tags up to that number lead to the object at their end,
 /// and one more is too many, as is a tag that names itself.
 pub fn ends_of_chains()
     ensures end { (meaning : ObjectId → Stored) (tags n : ℕ) (id end : ObjectId) → n ≤ tags →

@@ -86,7 +86,7 @@ fn next_of<T: Find>(
     }
 }
 
-/// The object behind the tags that begin at this id: the id itself where its object is no tag (`git rev-parse ID^{}`).
+/// The object at the end of the tags that begin at this id: the id itself where its object is no tag (`git rev-parse ID^{}`).
 /// It follows 1,000 tags at the most, over one buffer, which grows to the largest object. As the loop of gix-ref's
 /// `ReferenceExt::peel_to_id`.
 ///
@@ -95,7 +95,7 @@ fn next_of<T: Find>(
 /// tag that names itself, `Find` for an object that could not be read, and `Memory` where there was no memory for one.
 ///
 /// ```text
-/// let commit = peel_to_end(alloc, &objects, tag_id)?; // the object behind the tag
+/// let commit = peel_to_end(alloc, &objects, tag_id)?; // the object at the end of the tags
 /// ```
 pub fn peel_to_end<T: Find>(alloc: Global, finder: &T, id: ObjectId) -> Result<ObjectId, PeelError>
     ensures { T.claims finder.now → PeelsTo (peel (T.meaning finder.now) 1000 id) result }

@@ -51,7 +51,7 @@ none_owed s t step order r owed =
     other_ends s other.0 other.1 other.2 other.3 order r owed)
     step.0
 
--- behind its first record names ascend as before
+-- after its first record names ascend as before
 later_order : (s t : Iter) (x : Reference) → GivesPackedItem (unread s) (Some (Ok x)) (unread t) → IsInOrder s → IsInOrder t
 later_order s t x step order = record {
   ascend = subst (λ (k : Kind). NamesAscend k (unread t).text) (sym step.3.0) (behind_ascends (unread s).kind (unread s).text (record_of x) (unread t).text step.0 order.ascend);

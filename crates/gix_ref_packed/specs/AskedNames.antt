@@ -10,7 +10,7 @@ abbrev pub key_alone : Option (List ℕ) → List (List ℕ)
 key_alone None = []
 key_alone (Some key) = key ∷ []
 
--- the name behind each of the four fronts
+-- the name after each of the four fronts
 abbrev pub four_names : List ℕ → List (List ℕ)
 four_names p =
     (codes "refs/" ++ p) ∷ (codes "refs/tags/" ++ p) ∷ (codes "refs/heads/" ++ p)

@@ -46,7 +46,7 @@ pub record FindsInFile (kind : Kind) (text name : List ℕ)
   -- among ascending records it is the record of the name, or `None` where no record has it
   pub records : (rs : List Record) → Records kind text rs → Ascending rs →
       MatchResult result (AreFound (record_named name rs)) IsReadFault
-  -- so it is where ids and names are not checked, but for a record of the name that cannot be read
+  -- so it is where ids and names are not checked, except for a record of the name that cannot be read
   pub forms : (rs : List Record) → Forms kind text rs → Ascending rs →
       MatchResult result (AreFound (record_named name rs))
       (IsFaultOr (IsUnreadable kind (record_named name rs)))

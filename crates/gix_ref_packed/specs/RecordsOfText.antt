@@ -35,7 +35,7 @@ text_lines (b ∷ rest) =
     else if b == 13 then (if begins_lf rest then text_lines rest else None)
     else option_and_then (longer b) (text_lines rest)
 
--- the lines behind the header, which a text that begins with `#` has
+-- the lines after the header, which a text that begins with `#` has
 abbrev pub behind_header : List (List ℕ) → Option (List (List ℕ))
 behind_header [] = Some []
 behind_header (line ∷ more) =

@@ -29,7 +29,7 @@ pub record Finds {E : Type 0} (kind : Kind) (text name : List ℕ)
   -- among ascending records it is the record of the name, or `None` where no record has it
   pub records : (rs : List Record) → Records kind text rs → Ascending rs →
       MatchResult result (λ found. option_map record_of found ≡ record_named name rs) (λ _. ⊥)
-  -- so it is where ids and names are not checked, but for a record of the name that cannot be read
+  -- so it is where ids and names are not checked, except for a record of the name that cannot be read
   pub forms : (rs : List Record) → Forms kind text rs → Ascending rs →
       MatchResult result (λ found. option_map record_of found ≡ record_named name rs)
       (λ _. IsUnreadable kind (record_named name rs))

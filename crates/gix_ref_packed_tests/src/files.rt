@@ -38,7 +38,7 @@ fn names_in_a_file(rt: HostRuntime) -> Result<(), Fail> {
     Ok(())
 }
 
-/// A line of so many bytes behind its space, among others.
+/// A line of so many bytes after its space, among others.
 fn with_a_long_line(rt: &impl Abort, alloc: Global, len: usize) -> Vec<u8> {
     let mut text = sorted(
         rt,

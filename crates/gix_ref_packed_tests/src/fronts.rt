@@ -75,7 +75,7 @@ fn every_front(rt: HostRuntime) {
 /// What a line of a listing is: the number of a record among those of the text, or the number of a bad line.
 type Item = Result<usize, u64>;
 
-/// The items of a front of the text behind a header of one line, by its lines one after the other. A record ends with its LF, and
+/// The items of a front of the text after a header of one line, by its lines one after the other. A record ends with its LF, and
 /// goes with a peeled line that does; without that its line is bad too.
 fn slow_items(rt: &impl Abort, alloc: Global, front: &[u8]) -> Vec<Item> {
     let mut items: Vec<Item> = Vec::new(alloc);
@@ -172,7 +172,7 @@ fn every_front_is_listed(rt: HostRuntime) {
     }
 }
 
-/// The text behind records that fill more than two windows of a search in a file.
+/// The text after records that fill more than two windows of a search in a file.
 fn behind_many(rt: &impl Abort, alloc: Global, text: &[u8]) -> Vec<u8> {
     let mut whole = sorted(rt, alloc, b"");
     for number in 0..40u32 {

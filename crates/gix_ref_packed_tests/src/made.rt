@@ -28,7 +28,7 @@ pub fn copied(rt: &impl Abort, alloc: Global, text: &[u8]) -> Vec<u8> {
     text.to_vec(alloc).expect(rt, "memory")
 }
 
-/// The text behind the header that says sorted.
+/// The text after the header that says sorted.
 pub fn sorted(rt: &impl Abort, alloc: Global, text: &[u8]) -> Vec<u8> {
     let mut whole = copied(rt, alloc, SORTED);
     whole.extend_from_slice(text).expect(rt, "memory");

@@ -23,7 +23,7 @@ const BAD_TAGS: &[u8] = b"2222222222222222222222222222222222222222 refs/tags/v1\
 xyz\n\
 4444444444444444444444444444444444444444 refs/tags/v2\n";
 
-/// A hundred branches, the tags, and a hundred names behind them. The lines of the tags begin with line 102.
+/// A hundred branches, the tags, and a hundred names after them. The lines of the tags begin with line 102.
 fn among_others(rt: &impl Abort, alloc: Global, tags: &[u8]) -> Vec<u8> {
     let mut text = sorted(rt, alloc, b"");
     for i in 0..100 {

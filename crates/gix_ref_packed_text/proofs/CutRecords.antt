@@ -17,7 +17,7 @@ use Rattle.gix_ref_packed_text.proofs.RecordBytes.{line_front, lines_taken}
 use Rattle.gix_ref_packed_text.proofs.RecordPlaces.{NoLf, to_lf, hex_no_lf, one_no_lf}
 use Rattle.gix_ref_packed_text.proofs.LineBounds.{inside_text}
 
--- a line behind the first begins behind its LF
+-- a line after the first begins after its LF
 behind_lf : (t g rest : List ℕ) → NoLf g → t ≡ g ++ 10 ∷ rest → (q : ℕ) → 0 < q → BeginsLine t q → length g + 1 ≤ q
 behind_lf t g rest none whole q some begins = ⊎_elim
     (λ (inside : q - 1 < length g).
@@ -64,7 +64,7 @@ no_name_there k t object rest name f at =
     let hex : is_hex_digit (get_or object (n - 1) 0) ≡ true = f.id.digits (n - 1) 0 last in
     let bad : is_hex_digit 32 ≡ true = subst (λ (b : ℕ). is_hex_digit b ≡ true) (sym digit ∙ space) hex in cc
 
--- a name that begins a line behind the front of a record begins behind the record
+-- a name that begins a line after the front of a record begins after the record
 pub name_behind : (k : Kind) (t : List ℕ) (r : Record) (rest : List ℕ) → Takes k t r rest → (q : ℕ) (name : List ℕ) → 0 < q → NameAtLine k t q name → length t ≤ q + length rest
 name_behind k t r rest f q name some at =
     let first = first_line k t r rest f in

@@ -58,7 +58,7 @@ no_caret k text p r at caret =
     let same : p + 0 ≡ p = omega arith in
     no_caret_first (drop p text) form.no_caret (get_or-drop p text 0 0 ∙ ap (λ i. get_or text i 0) same ∙ caret)
 
--- a line that begins in the line of a byte, and not behind that byte, is that line
+-- a line that begins in the line of a byte, and not after that byte, is that line
 in_line : (text : List ℕ) (line o p : ℕ) → LineOf text line o → BeginsLine text p → p ≤ o → p ≤ line
 in_line text line o p at begins near = ⊎_elim
     (λ (late : line < p). absurd (at.within (p - 1) (omega arith) (omega arith) (begins (omega arith))))

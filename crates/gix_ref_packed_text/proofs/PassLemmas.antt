@@ -44,7 +44,7 @@ passes_join k a b c rs ss p q =
       shorter = omega arith;
     }
 
--- a line that is no record behind records that are passed is one of the whole
+-- a line that is no record after records that are passed is one of the whole
 pub stuck_behind : (k : Kind) (a b : Ahead) (rs : List Record) (e : Error) → PassesRecords k a rs b → IsStuckAt k b.line b.rest.now e → IsStuckAt k a.line a.rest.now e
 stuck_behind k a b rs Memory p s = tt
 stuck_behind k a b rs (Iteration line) p s =
@@ -60,7 +60,7 @@ stuck_behind k a b rs (Iteration line) p s =
       number = omega arith;
     }
 
--- these records go on behind those that are passed, up to a place
+-- these records go on after those that are passed, up to a place
 pub record IsStill (k : Kind) (passed : List Record) (rest : List ℕ) (rs : List Record) (mid : List ℕ) : Type 0 where
   pub more : List Record
   pub whole : rs ≡ passed ++ more

@@ -117,7 +117,7 @@ or_false : (x : Bool) → (x || false) ≡ x
 or_false true = refl
 or_false false = refl
 
--- after all edits the records behind them are copied
+-- after all edits the records after them are copied
 pub all_applied : (k : Kind) (edits : List RecordEdit) (a : Ahead) (old : List ℕ) (place : ℕ) (b : Ahead) (mid : List ℕ) (alters : Bool) (c : Ahead) (new : List ℕ) → drop place edits ≡ [] →
     InTurn k edits a old place b mid alters → CopiesUntil k 0 b mid new c → Merges k edits a.rest.now old new alters
 all_applied k edits a old place b mid alters c new none was copies =

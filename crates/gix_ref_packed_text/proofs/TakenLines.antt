@@ -1,4 +1,4 @@
--- What is left of a text behind its first record, whatever its other lines are.
+-- What is left of a text after its first record, whatever its other lines are.
 use Rattle.std.proofs.Common.{◌≡◌, ◌⊎◌, inl, inr, ⊎_elim, ℕ, true, nat_eq, ◌+◌, ◌-◌, ◌<◌, ◌≤◌, List, [], ◌∷◌, ◌++◌, length, drop, get_or, refl, sym, ◌∙◌, ap, subst, arith}
 use Rattle.std.specs.List.{starts_with}
 use Rattle.std.proofs.Math.Seq.{drop-append-add}
@@ -19,7 +19,7 @@ drop_zero : (t : List ℕ) → drop 0 t ≡ t
 drop_zero [] = refl
 drop_zero (b ∷ t) = refl
 
--- lines of the rest are lines of the text, and those of the text behind its front are lines of the rest
+-- lines of the rest are lines of the text, and those of the text after its front are lines of the rest
 module _ (text f rest : List ℕ) (whole : text ≡ f ++ rest) (begins : BeginsLine text (length f)) where
   moved : (i : ℕ) → get_or text (length f + i) 0 ≡ get_or rest i 0
   moved i = ap (λ t. get_or t (length f + i) 0) whole ∙ get_or-append-add f rest i 0

@@ -66,7 +66,7 @@ record_line_in_part k t part d n r f is fits =
       record { after = l.0 ++ rest; whole = same ∙ append_assoc d (32 ∷ l.0) rest; len = f.len; line = l.2 rest },
     )
 
--- a newline byte with one byte more behind it shows where the line ends
+-- a newline byte with one byte more after it shows where the line ends
 pub newline_far : (k : Kind) (t part d n r : List ℕ) (len end : ℕ) → RecordLine k t d n r → part ≡ take (length part) t → len ≡ 2 * kind_len k → end + 1 < length (drop (len + 1) part) → ((get_or (drop (len + 1) part) end 0 == 10) || (get_or (drop (len + 1) part) end 0 == 13)) ≡ true → length d + length n + 3 ≤ length part
 newline_far k t part d n r len end f is sized within newline = ⊎_elim
     (λ (short : length part < length d + length n + 3).
@@ -111,7 +111,7 @@ name_wider k t part d n r f is =
     regroup : (a b c e : List ℕ) → (a ++ 32 ∷ (b ++ c)) ++ e ≡ a ++ 32 ∷ (b ++ (c ++ e))
     regroup a b c e = simp append_assoc
 
--- ---- what is behind a place of a window
+-- ---- what is after a place of a window
 
 pub part_is : (t w : List ℕ) (from s : ℕ) → IsWindow t from w → s ≤ length w → drop s w ≡ take (length (drop s w)) (drop (from + s) t)
 part_is t w from s is low =

@@ -32,7 +32,7 @@ abbrev pub says_sorted : Option Header → Bool
 says_sorted None = false
 says_sorted (Some h) = h.sorted
 
--- the number of the first line behind the header, from 1
+-- the number of the first line after the header, from 1
 abbrev pub line_behind : Option Header → ℕ
 line_behind None = 1
 line_behind (Some h) = 2
@@ -55,7 +55,7 @@ Fronts kind text [] rest = text ≡ rest
 Fronts kind text (r ∷ rs) rest = (after : List ℕ) × Takes kind text r after
     × Fronts kind after rs rest
 
--- behind some records, in the line of that number, no record begins; the first line has the number `first`
+-- after some records, in the line of that number, no record begins; the first line has the number `first`
 pub record StuckAt (kind : Kind) (first : ℕ) (text : List ℕ) (line : ℕ) : Type 0 where
   pub before : List Record
   pub rest : List ℕ

@@ -21,7 +21,7 @@ pub record LineOf (text : List ℕ) (start offset : ℕ) : Type 0 where
   pub begins : BeginsLine text start
   pub within : (i : ℕ) → start ≤ i → i < offset → slice_index text i ≢ 10
 
--- no line begins behind the offset and before the end
+-- no line begins after the offset and before the end
 abbrev pub SameLine : List ℕ → ℕ → ℕ → Type 0
 SameLine text offset end = (i : ℕ) → offset ≤ i → i + 1 < end → slice_index text i ≢ 10
 

@@ -9,7 +9,7 @@ pub enum Error {
     /// This line of the file, from 1, is no record.
     #[error("line {line_number} of packed-refs is no record")]
     Iteration { line_number: u64 },
-    /// A growth was refused.
+    /// An allocation was refused.
     #[error("there was no memory for packed-refs")]
     Memory,
 }

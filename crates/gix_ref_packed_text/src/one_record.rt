@@ -11,7 +11,7 @@ ghost use Rattle.gix_ref_packed_text.specs.Views.{record_of};
 use crate::packed::Reference;
 use crate::packed::decode::take_record;
 use gix_ref_hash::bytes::{cut, strip_front};
-use gix_ref_hash::hash::{Kind, hex_hash};
+use gix_ref_hash::hash::{Kind, split_id};
 use gix_ref_name::name::FullNameRef;
 
 /// How many lines the record has.
@@ -47,11 +47,10 @@ fn after_one_line(text: &[u8], kind: Kind) -> Option<&[u8]>
     ensures { IfSome result (λ after. (r : Record) × Takes kind text.now r after.now
         × (lines_of r ≡ 1)) }
 {
-    let mut behind = text;
-    let Some(_) = hex_hash(&mut behind, kind) else {
+    let Some((_, rest)) = split_id(text, kind) else {
         return None;
     };
-    let Some(line) = strip_front(behind, b" ") else {
+    let Some(line) = strip_front(rest, b" ") else {
         return None;
     };
     let Some((name, after)) = cut(line, b'\n') else {

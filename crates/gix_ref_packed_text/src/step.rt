@@ -80,7 +80,7 @@ fn apply<'a>(
     }
 }
 
-/// Applies all edits, and copies the records behind them. Returns whether any altered the records.
+/// Applies all edits, and copies the records after them. Returns whether any altered the records.
 pub fn apply_all(
     text: &mut Vec<u8>,
     records: Ahead<'_>,

@@ -23,7 +23,7 @@ fn has_cr(run: &[u8]) -> bool
     }
 }
 
-/// Adds a run of bytes to a text, but for each CR, line by line.
+/// Adds a run of bytes to a text, except for each CR, line by line.
 fn push_lines(text: &mut Vec<u8>, run: &[u8]) -> Result<(), AllocError>
     ensures { OnOk result (text.new.items ≡ text.old.items ++ without_cr run.now) }
 {
@@ -36,7 +36,7 @@ fn push_lines(text: &mut Vec<u8>, run: &[u8]) -> Result<(), AllocError>
     Ok(())
 }
 
-/// Adds a run of bytes to a text, but for each CR: so each CRLF becomes LF.
+/// Adds a run of bytes to a text, except for each CR: so each CRLF becomes LF.
 pub fn push_run(text: &mut Vec<u8>, run: &[u8]) -> Result<(), AllocError>
     ensures { OnOk result (text.new.items ≡ text.old.items ++ without_cr run.now) }
 {

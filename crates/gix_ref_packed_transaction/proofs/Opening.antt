@@ -38,7 +38,7 @@ pub made_of : (kind : Kind) (changes : List ChangeValue) (rs : List Record) → 
 made_of kind changes rs none (Ok w) is memory = subst (λ (xs : List Record). IsChanged kind changes xs w) (sym none) is
 made_of kind changes rs none (Err e) is memory = subst IsRepackFault (sym memory) tt
 
--- a well-formed file is opened, but for a fault or want of memory
+-- a well-formed file is opened, except for a fault or want of memory
 pub sound : (kind : Kind) (content : Option Content) (rs : List Record) (error : OpenError) → ArePackedRecords kind (file_of content) rs → IsRefusedFile kind content error → IsRepackFault (repack_of_opening error)
 sound kind content rs error are refused = by error (opens_sound kind content rs error are refused)
   where

@@ -52,7 +52,7 @@ IsLostOf kind records changes place D T =
 abbrev pub SettlesPackedRefs : (place : Path) → (D E : Disk) → Type 0
 SettlesPackedRefs place D E = OthersSettled place D E × IsSettledAt E (file_of (E.tree place)) place
 
--- A loss of power in a rollback: each file that was settled is as before, but for the lock.
+-- A loss of power in a rollback: each file that was settled is as before, except for the lock.
 abbrev pub OnlyLockIsLost : (place : Path) → Disk → Tree → Type 0
 OnlyLockIsLost place D T = (q : Path) → q ≢ lock_of place → IsSettledAt D (file_of (D.tree q)) q →
     file_of (T q) ≡ file_of (D.tree q)

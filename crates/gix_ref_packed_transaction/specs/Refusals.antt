@@ -50,7 +50,7 @@ IsStuckIn kind first text other = ⊥
 abbrev pub IsReadText : Kind → List ℕ → Type 0
 IsReadText kind text = (rs : List Record) × Records kind text rs
 
--- each line of the file behind its header is a record, or there is no file
+-- each line of the file after its header is a record, or there is no file
 abbrev pub IsReadFile : Kind → Option Content → Type 0
 IsReadFile kind packed =
     (is_file packed ≡ false) ⊎ ((text : List ℕ) × (first : ℕ)

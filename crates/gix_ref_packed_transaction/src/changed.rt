@@ -7,7 +7,7 @@ ghost use Rattle.gix_ref_target.specs.PackedRecords.{Record};
 ghost use Rattle.gix_ref_files.specs.Calls.{Unchanged};
 ghost use Rattle.gix_ref_files.specs.ReadOnly.{OnlyReads};
 ghost use Rattle.gix_ref_packed.specs.Buffers.{buffer_text, buffer_line, HoldsRecords};
-ghost use Rattle.gix_ref_lookup.specs.Lookups.{meaning_in, packed_refs_in, ArePackedRecords};
+ghost use Rattle.gix_ref_lookup.specs.Lookups.{ArePackedRecordsWith, meaning_in};
 ghost use Rattle.gix_ref_packed_transaction.specs.Changes.{change_values, keys_in, IsChanged};
 ghost use Rattle.gix_ref_packed_transaction.specs.Refusals.{IsCountedRefusal, IsRepackFault, IsReadFile, IsReadText, IsRefusedRewrite, IsStuckIn, of_rewrite, repack_of_opening};
 
@@ -88,11 +88,10 @@ pub fn file_changed<F: Files>(
     settings: &Settings<'_>,
     changes: &[KeyChange],
 ) -> Result<Rewrite, Error>
-    ensures rewritten { F.honest → (rs : List Record) →
-        ArePackedRecords settings.now.kind (packed_refs_in settings.now (F.means files.old)) rs →
-        IsStrictlySortedBy (slice_cmp nat_cmp) (keys_in (change_values changes.now)) →
-        MatchResult result (IsChanged settings.now.kind (change_values changes.now) rs)
-        IsRepackFault }
+    ensures rewritten { F.honest → (rs : List Record) → ArePackedRecordsWith settings.now
+        (F.means files.old) rs → IsStrictlySortedBy (slice_cmp nat_cmp)
+        (keys_in (change_values changes.now)) → MatchResult result (IsChanged settings.now.kind
+        (change_values changes.now) rs) IsRepackFault }
     ensures whole { F.honest → OnOk result (IsReadFile settings.now.kind
         ((F.means files.old).tree (meaning_in settings.now).packed_path)) }
     ensures refused { F.honest → IfErr result (IsRefusedRewrite settings.now.kind

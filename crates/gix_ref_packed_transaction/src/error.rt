@@ -15,7 +15,7 @@ pub enum Error {
     /// The old file could not be read.
     #[error("packed-refs cannot be read: {0}")]
     Io(FileError),
-    /// A growth was refused.
+    /// An allocation was refused.
     #[error("there was no memory for packed-refs")]
     Memory,
 }

@@ -4,7 +4,7 @@ ghost use Rattle.std.specs.List.{list_any};
 ghost use Rattle.gix_ref_target.specs.PackedRecords.{Record};
 ghost use Rattle.gix_ref_files.specs.Calls.{Unchanged};
 ghost use Rattle.gix_ref_files.specs.ReadOnly.{OnlyReads};
-ghost use Rattle.gix_ref_lookup.specs.Lookups.{packed_refs_in, ArePackedRecords};
+ghost use Rattle.gix_ref_lookup.specs.Lookups.{ArePackedRecordsWith};
 ghost use Rattle.gix_ref_theory.specs.Between.{AreEdits};
 ghost use Rattle.gix_ref_theory.specs.Edits.{Mode};
 ghost use Rattle.gix_ref_transaction.specs.PackedCauses.{ids_among};
@@ -43,15 +43,14 @@ pub fn repack<F: Files>(
     // Of a well-formed file, among whose records the edits have their ids, it is what the edits make of it, where no two have
     // one place, and each puts what it is to; and there is no fault but of files or of memory.
     ensures repacked { F.honest → (mode : Mode) → AreEdits (setting_of settings.now)
-        (plan_edits edits.now) → (rs : List Record) → ArePackedRecords settings.now.kind
-        (packed_refs_in settings.now (F.means files.old)) rs →
-        ids_in edits.now ≡ ids_among (setting_of settings.now) rs (updates edits.now) →
-        HaveTheirPuts (setting_of settings.now) mode edits.now →
-        AllCanBePut (setting_of settings.now) settings.now.kind edits.now → IfOk result (IsRepack
+        (plan_edits edits.now) → (rs : List Record) → ArePackedRecordsWith settings.now
+        (F.means files.old) rs → ids_in edits.now ≡ ids_among (setting_of settings.now) rs
+        (updates edits.now) → HaveTheirPuts (setting_of settings.now) mode edits.now → AllCanBePut
+        (setting_of settings.now) settings.now.kind edits.now → IfOk result (IsRepack
         (setting_of settings.now) mode settings.now.kind rs (plan_edits edits.now)) }
     ensures sound { F.honest → AreEdits (setting_of settings.now) (plan_edits edits.now) →
-        (rs : List Record) → ArePackedRecords settings.now.kind
-        (packed_refs_in settings.now (F.means files.old)) rs → IfErr result IsRepackFault }
+        (rs : List Record) → ArePackedRecordsWith settings.now (F.means files.old) rs → IfErr result
+        IsRepackFault }
 
     // Of any file, a line that is reported is no record, and where an edit alters a record each line is one. Where no edit alters
     // a record, no file is looked at.

@@ -124,7 +124,7 @@ impl Transaction {
     /// up. No two edits may have one name, and each name is to be a full one. As gix-ref's `packed::Transaction::prepare`.
     ///
     /// The first edit at fault is reported: `OtherHashKind` for an object, or one at the end of its tags, whose id is not of the kind of the
-    /// file's ids; `Resolve` for one that is missing, or that is a tag which names no object; `TagChainTooLong` for one behind
+    /// file's ids; `Resolve` for one that is missing, or that is a tag which names no object; `TagChainTooLong` for one at the end of
     /// more than 1,000 tags, `Find` for one that could not be read. `Memory` can come anywhere. After an error all is as it was.
     pub fn prepare<T: Find>(
         &mut self,

@@ -13,7 +13,7 @@ one_more locks i lock lt is =
     ∙ (flat_map-append (λ (l : Vec ℕ Global). codes "lock left: " ++ (l.items ++ codes "\n")) (take i locks) (lock ∷ [])
     ∙ ap (λ line. lock_lines (take i locks) ++ line) (append-nil (codes "lock left: " ++ (lock.items ++ codes "\n"))))
 
--- the text behind the pieces of a line
+-- the text after the pieces of a line
 pub pieces : (old seen text one two three lock : List ℕ) → text ≡ old ++ seen → one ≡ text ++ codes "lock left: " → two ≡ one ++ lock → three ≡ two ++ codes "\n" →
     three ≡ old ++ (seen ++ (codes "lock left: " ++ (lock ++ codes "\n")))
 pieces old seen text one two three lock a b c d =

@@ -68,7 +68,7 @@ use Rattle.gix_ref_read_back.proofs.ReadablePuts.{all_readable}
 use Rattle.gix_ref_store.proofs.SameStores.{same_on}
 
 -- log lines change no reading
-without_lines : (s : Places) (edits : List RefEdit) (lines : List Extra) (name : List ℕ) (old : Reading) →
+pub without_lines : (s : Places) (edits : List RefEdit) (lines : List Extra) (name : List ℕ) (old : Reading) →
     edited_reading s (with_extras edits lines) name old ≡ edited_reading s (planned edits) name old
 without_lines s [] lines name old = refl
 without_lines s (e ∷ edits) [] name old =
@@ -92,7 +92,7 @@ rules_same old new committer same =
     ∙ ap (λ (m : WriteReflog). record { store = meaning_of old; namespace = namespace_text old.namespace; mode = m; committer = option_map signature_ref_who committer }) same.reflogs)
 
 -- after a loss of power on a settled disk each reference reads as on the disk
-lost_reading : (s : Places) → HasLaws s → (D : Disk) (T : Tree) → IsAllSettled D → Lost D T → (name : List ℕ) → s.is_reference name ≡ true → reading s (view_of T) name ≡ reading s (view_of D.tree) name
+pub lost_reading : (s : Places) → HasLaws s → (D : Disk) (T : Tree) → IsAllSettled D → Lost D T → (name : List ℕ) → s.is_reference name ≡ true → reading s (view_of T) name ≡ reading s (view_of D.tree) name
 lost_reading s laws D T settled lost name is =
     ap (λ (file : Option (List ℕ)). if s.is_prohibited (s.place name) then Fault else reading_by s (s.key name) file (records_of_file s (view_of T s.packed_path))) (kept (s.place name) (λ p. laws.place_is_no_lock name p is))
     ∙ ap (λ (file : Option (List ℕ)). if s.is_prohibited (s.place name) then Fault else reading_by s (s.key name) (view_of D.tree (s.place name)) (records_of_file s file)) (kept s.packed_path (λ p. laws.packed_is_no_lock p))

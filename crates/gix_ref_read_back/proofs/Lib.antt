@@ -7,4 +7,5 @@ pub mod Namespaces
 pub mod OutsideLemmas
 pub mod OwnPlaces
 pub mod PackedAgain
+pub mod PlainLemmas
 pub mod ReadablePuts

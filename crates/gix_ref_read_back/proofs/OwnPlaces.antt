@@ -33,7 +33,7 @@ none_is_some key is = cc
 same_key : (a b : List ℕ) → Some a ≡ Some b → a ≡ b
 same_key a b is = cc
 
--- behind the namespace in a folder
+-- after the namespace in a folder
 behind : (folder namespace name : List ℕ) → below folder (namespace ++ name) ≡ below folder namespace ++ name
 behind folder namespace name = sym (append_assoc folder (47 ∷ namespace) name)
 

@@ -87,7 +87,7 @@ none_above name (s ∷ rs) all =
 first_named : (r : Record) (rs : List Record) → record_named r.name (r ∷ rs) ≡ Some r
 first_named r rs = cond-true (bytes_eq r.name r.name) (Some r) (record_named r.name rs) ((bytes_eq-Decides r.name r.name).1 refl)
 
--- a later record is found behind the first
+-- a later record is found after the first
 behind : (key : List ℕ) (r q : Record) (rs : List Record) → All (λ s. Below r.name s.name) rs → record_named key rs ≡ Some q → record_named key (r ∷ rs) ≡ Some q
 behind key r q rs above is = go (cases_Bool (bytes_eq r.name key))
   where

@@ -3,4 +3,5 @@ pub mod FoundReferences
 pub mod ListedItems
 pub mod ListedReadings
 pub mod Outside
+pub mod PlainPromises
 pub mod WholeRuns

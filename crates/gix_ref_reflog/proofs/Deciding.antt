@@ -22,7 +22,7 @@ outcomes_append : (a b : List Edit) → outcomes_of (a ++ b) ≡ outcomes_of a +
 outcomes_append [] b = refl
 outcomes_append (e ∷ a) b = ap (λ (os : List LogOutcome). outcome_of e.log ∷ os) (outcomes_append a b)
 
--- a refusal at the first edit, and behind it
+-- a refusal at the first edit, and after it
 refused_here : (r : LogRules) (files : View) (a : AskedEdit) (rest : List AskedEdit) (e : Refusal) → IsRefusalAt r files a e → IsRefusal r files (a ∷ rest) e
 refused_here r files a rest Memory told = tt
 refused_here r files a rest (CreateOrUpdateRefLog error) told = inl told

@@ -35,7 +35,7 @@ clash : (s t : List ℕ) → 47 ∷ (codes "logs/" ++ s) ≡ 47 ∷ (codes "work
 unfolding first_of rest_of
 clash s t same = absurd (omega (arith, ap (λ (l : List ℕ). first_of (rest_of l)) same))
 
--- behind `/worktrees/`
+-- after `/worktrees/`
 behind : (s t : List ℕ) → 47 ∷ (codes "worktrees/" ++ s) ≡ 47 ∷ (codes "worktrees/" ++ t) → s ≡ t
 unfolding rest_of
 behind s t same = ap (λ (l : List ℕ). rest_of (rest_of (rest_of (rest_of (rest_of (rest_of (rest_of (rest_of (rest_of (rest_of (rest_of l))))))))))) same

@@ -1,5 +1,5 @@
 -- The edits of a prepared transaction, with the leaf of each: the edit at the end of the chain of those that were split from it,
--- each of which comes behind the one that it was split from.
+-- each of which comes after the one that it was split from.
 use Rattle.std.specs.Prelude.{ℕ, ◌+◌, ◌==◌, List, [], ◌∷◌, Bool, false, Option, Some, None, map, if◌then◌else◌}
 use Rattle.gix_ref_hash.specs.declared.hash.ObjectId.{ObjectId}
 use Rattle.gix_ref_target.specs.declared.target.Target.{Target}
@@ -20,7 +20,7 @@ is_child place None = false
 is_child place (Some parent) = parent == place
 
 -- The object that the leaf of the edit at a place expects, where `leaf` is its own so far, and the other edits begin at the place
--- `next`: the child is the new edit, and its children come behind it.
+-- `next`: the child is the new edit, and its children come after it.
 abbrev pub leaf_after : (place next : ℕ) (leaf : Option ObjectId) → List Edit → Option ObjectId
 leaf_after place next leaf [] = leaf
 leaf_after place next leaf (e ∷ rest) =
@@ -50,7 +50,7 @@ outcome_of (Remove log) = Goes log.items
 abbrev pub outcomes_of : List Edit → List LogOutcome
 outcomes_of edits = map (λ (e : Edit). outcome_of e.log) edits
 
--- an edit but for what becomes of its log
+-- an edit except for what becomes of its log
 abbrev pub ButLog : Type 0
 ButLog = RefEdit × Option ℕ × Path × Option ObjectId × Option Target × Effect × Bool
     × Option PackedObject

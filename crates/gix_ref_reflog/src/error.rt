@@ -9,7 +9,7 @@ pub enum Error {
     /// A line is due that cannot be added. As `CreateOrUpdateRefLog` of gix-ref's `file::transaction::commit::Error`.
     #[error("{0}")]
     CreateOrUpdateRefLog(create_or_update::Error),
-    /// A growth of memory was refused.
+    /// An allocation was refused.
     #[error("out of memory")]
     Memory,
 }

@@ -479,7 +479,7 @@ module _ {F : Type 0} (honest : Type 0) (means : F → Meaning) (faults : F → 
           (λ gone. absurd (removal_not_refused (bare e.step) gone.0 (ap bare gone.1) at.0 mid at.2))
           met_cut.what
 
-      -- what was at the path of this step, behind the removals of the folders there
+      -- what was at the path of this step, after the removals of the folders there
       pub kept : (path : Path) → IsWrite a → written_at (bare e.step) ≡ Some path → is_folder (mid path) ≡ true → IsNotEmptied honest means faults start new committer packed held a Unexpected (stops a Unexpected e) path
       kept path write writes folder =
           let at = e.ended h in

@@ -268,7 +268,7 @@ module _ {F : Type 0} (honest : Type 0) (means : F → Meaning) (faults : F → 
   pub started : honest → IsAtRest means old → IsAllSettled (disk_of first) × AllStay (disk_of first) staying
   started h at_rest = rest_kept locked staying (disk_in means old) (disk_of first) at_rest.0 ((from.lost h).keeps staying at_rest.1).disk
 
-  -- edits that are those that were held but for their logs
+  -- edits that are those that were held except for their logs
   module _ (ran : List Edit) (alike : all_but_logs ran ≡ all_but_logs held) (new : Store F) (left : List Path) where
     abbrev now : Meaning
     now = means (files_of new)
@@ -482,7 +482,7 @@ module _ {F : Type 0} (honest : Type 0) (means : F → Meaning) (faults : F → 
           at_stop : (h : honest) → HasGoodRecords means old → (T : Tree) → IsLeftBy (bare_steps all_entries) decided.tree T → IsOldOrNew s mode given lines before T
           at_stop h good T cut = subst (λ (ls : List Extra). IsOldOrNew s mode given ls before T) (own_lines h) (cut_well h good T cut)
 
-          -- and behind it, where locks were removed, or folders
+          -- and after it, where locks were removed, or folders
           well_then : (h : honest) → HasGoodRecords means old → (T U : Tree) → IsOldOrNew s mode given (extras_in ran) before T → IsSameButLocks locked (view_of U) (view_of T) → IsOldOrNew s mode given (extras_in ran) before U
           well_then h good T U well same =
               ends.left_then old.dirs old.namespace (kind_of old) old.prohibit_windows_device_names mode before (disk_of decided) given ran packed rewrite ways (out h) (laid h) (ready h good) good.0 good.1 (repack h good) (text_held h) T U well same
@@ -627,7 +627,7 @@ module _ {F : Type 0} (honest : Type 0) (means : F → Meaning) (faults : F → 
             settled_then : IsAllSettled (disk_of decided) × AllStay (disk_of decided) staying
             settled_then = rest_kept locked staying (disk_of first) (disk_of decided) rest.0 early.disk
 
-            -- behind the whole run all is as it left it, but for own locks and folders
+            -- after the whole run all is as it left it, except for own locks and folders
             as_left : OnlyFolders old.dirs released now → IsAsBefore locked staying (disk_of mid) (disk_of mid) → Passes released now (IsAsBefore locked staying (disk_of mid))
             as_left folders same = folders locked staying (disk_of mid) (λ q within. within) (only_mine locked staying [] (disk_of mid) own same).disk
 
@@ -650,7 +650,7 @@ module _ {F : Type 0} (honest : Type 0) (means : F → Meaning) (faults : F → 
                   (ends.lost_well old.dirs old.namespace (kind_of old) old.prohibit_windows_device_names mode before (disk_of decided) given ran packed rewrite ways (out h) (laid h) (ready h good) good.0 good.1 (repack h good) (text_held h)
                   settled_then.0 E T inside loss)
 
-              -- and so where empty folders are removed behind the run
+              -- and so where empty folders are removed after the run
               all_well : Passes decided mid (IsReachedBy (steps_in all_entries) (disk_of decided)) → Passes released now (LosesNoMore (disk_of released)) → Passes decided now EndsWell
               all_well passes tidied =
                   let inside = ran_inside passes in

@@ -203,7 +203,7 @@ module _ (W : Path → Type 0) where
 abbrev pub IsOneOf : (written : List Path) → Path → Type 0
 IsOneOf written path = (q : Path) → IsAtOrBelow path q → IsInOneOf written q
 
--- A run of a plan, to its end or not, each of whose steps is behind the removals of what is in its way.
+-- A run of a plan, to its end or not, each of whose steps is after the removals of what is in its way.
 module _ (dirs : Dirs) (R : Tree) (written : List Path) where
   abbrev IsCleared : Path → Type 0
   IsCleared q = (IsIn q (roots_of dirs) → ⊥) × IsInOneOf written q
@@ -269,7 +269,7 @@ pub no_folder_gone : (dirs : Dirs) (packed : Option Path) (written deleted locks
     RemovesLocks locks filled T → FoldersStay dirs written deleted start T
 no_folder_gone dirs packed written deleted locks start filled T empty fills removes q folder = inl (released_has locks filled T q removes (filled_has packed start filled q empty fills folder))
 
--- The edits that were run are those that are held, but for their logs.
+-- The edits that were run are those that are held, except for their logs.
 in_left : (a b : List Path) (q : Path) → IsInOneOf a q → IsInOneOf (a ++ b) q
 in_left [] b q within = absurd within
 in_left (p ∷ a) b q (inl at) = inl at

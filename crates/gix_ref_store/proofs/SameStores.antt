@@ -1,4 +1,4 @@
--- A store that is the same but for what its files hold.
+-- A store that is the same except for what its files hold.
 use Rattle.std.proofs.Common.{◌≡◌, sym, ◌∙◌, subst}
 use Rattle.gix_ref_store.specs.Store.{IsSameStore}
 use Rattle.gix_ref_store.specs.declared.file.store.Store.{Store}

@@ -5,6 +5,7 @@ pub mod CommittedFolders
 pub mod ComposedEdits
 pub mod Decisions
 pub mod Listings
+pub mod Locks
 pub mod Lookup
 pub mod Options
 pub mod Prepared

@@ -1,6 +1,7 @@
 //! The store over files: its folders, loose references and their places.
 pub mod find;
 pub mod iter;
+pub mod locks;
 pub mod log;
 pub mod packed;
 pub mod pristine;

@@ -122,7 +122,7 @@ fn put_loose(rt: &impl Abort, alloc: Global, memory: &mut Memory, kept: Kept) {
     }
 }
 
-/// The records of the names with a set bit: behind a header, or the last name first without one.
+/// The records of the names with a set bit: after a header, or the last name first without one.
 fn records(rt: &impl Abort, alloc: Global, kept: Kept) -> Vec<u8> {
     let mut text = Vec::new(alloc);
     let space = kept.space;

@@ -98,7 +98,7 @@ fn push_record(rt: &impl Abort, alloc: Global, text: &mut Vec<u8>, kept: Kept, a
     text.extend_from_slice(line.as_bytes()).expect(rt, "memory");
 }
 
-/// The records of the names with a set bit: behind a header, or the last name first without one. In a namespace one outside of
+/// The records of the names with a set bit: after a header, or the last name first without one. In a namespace one outside of
 /// it is among them.
 fn records(rt: &impl Abort, alloc: Global, kept: Kept) -> Vec<u8> {
     let mut text = Vec::new(alloc);

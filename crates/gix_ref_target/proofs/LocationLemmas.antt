@@ -132,7 +132,7 @@ is_by private name x h =
       ]
     ]
 
--- how a name has its location: by itself, behind `main-worktree/`, or behind `worktrees/w/`
+-- how a name has its location: by itself, after `main-worktree/`, or after `worktrees/w/`
 abbrev pub HasSpot : List ℕ → Location → Type 0
 HasSpot name x =
     IsBy ThisWorktree name x

@@ -32,7 +32,7 @@ location_by private name =
     then (if is_private_ref name then Some (private name) else Some (Common name))
     else None
 
--- behind `worktrees/`: the worktree's name and the short name
+-- after `worktrees/`: the worktree's name and the short name
 abbrev pub location_in_linked : Option (List ℕ × List ℕ) → Option Location
 location_in_linked None = None
 location_in_linked (Some parts) = location_by (LinkedWorktree parts.0) parts.1

@@ -2,7 +2,8 @@
 use Rattle.std.specs.Prelude.{◌≡◌, ℕ, List, ◌++◌, codes, Option, Some, None}
 use Rattle.hex.specs.Hex.{encode_lower}
 use Rattle.gix_ref_hash.specs.Ids.{id_bytes, id_kind, null_id}
-use Rattle.gix_ref_name.specs.Names.{full_bytes, full_ref_bytes, shown}
+use Rattle.gix_ref_hash.specs.Bytes.{shown}
+use Rattle.gix_ref_name.specs.Names.{full_bytes, full_ref_bytes}
 use Rattle.gix_ref_name.specs.Namespaces.{stripped}
 use Rattle.gix_ref_hash.specs.declared.hash.ObjectId.{ObjectId}
 use Rattle.gix_ref_target.specs.declared.target.Target.{Target}

@@ -10,6 +10,7 @@ use gix_ref::{
     actor, file, files, hash, layout, lock, log, name, namespace, object, packed, peel, raw, steps,
     store, target, transaction,
 };
+use std::test::Fail;
 
 /// Names a type.
 fn named<T>() {}
@@ -184,4 +185,27 @@ fn decoders(rt: HostRuntime) {
     let alloc = rt.alloc();
     let mut memory = files::Memory::new(alloc);
     assert_eq!(rt; run_steps::<_, u8>(&mut memory, &[]), Ok(()));
+}
+
+/// A line is shown as `git reflog show --format='%H %gs'` prints it.
+#[test]
+fn lines_of_a_log_are_shown(rt: HostRuntime) -> Result<(), Fail> {
+    let alloc = rt.alloc();
+    let text =
+        b"0000000000000000000000000000000000000000 111111111111111111111111111111111111111A C <c@e> 1 +0000\tcommit: a thing\n";
+    let Ok(line) = log::LineRef::from_bytes(text) else {
+        panic!(rt; "it is a line");
+    };
+    let shown = format!(in alloc; "{line}")?;
+    assert_eq!(rt;
+        shown.as_str(),
+        "111111111111111111111111111111111111111A commit: a thing"
+    );
+    let line = line.to_owned(alloc)?;
+    let shown = format!(in alloc; "{line}")?;
+    assert_eq!(rt;
+        shown.as_str(),
+        "111111111111111111111111111111111111111a commit: a thing"
+    );
+    Ok(())
 }

@@ -88,3 +88,33 @@ fn given_up_before(rt: HostRuntime) -> Result<(), Fail> {
     assert_eq!(rt; store.into_files().calls(), 0, "no file is touched");
     Ok(())
 }
+
+#[test]
+fn edits_are_shown_before_their_commit(rt: HostRuntime) -> Result<(), Fail> {
+    let alloc = rt.alloc();
+    let mut files = Memory::new(alloc);
+    files.put(b"/r/HEAD", b"ref: refs/heads/main\n")?;
+    let folder = b"/r".to_vec(alloc)?;
+    let mut store = Store::at(files, folder, Kind::Sha1)?;
+    let name = FullNameRef::try_from("HEAD")?.to_owned(alloc)?;
+    let new = Target::Object(Kind::Sha1.null());
+    let mut edit = RefEdit::update(name, new, PreviousValue::Any, Vec::new(alloc));
+    edit.deref = true;
+    let edits = vec![in alloc; edit]?;
+    match store.transaction().prepare(alloc, edits) {
+        Err(_) => panic!(rt; "nothing is against it"),
+        Ok(prepared) => {
+            let are_both = match prepared.edits(alloc) {
+                Ok(shown) => {
+                    shown.len() == 2
+                        && shown[0].name.eq_bytes(b"HEAD")
+                        && shown[1].name.eq_bytes(b"refs/heads/main")
+                }
+                Err(_) => false,
+            };
+            let back = prepared.rollback();
+            assert!(rt; are_both && back.edits.len() == 2);
+        }
+    }
+    Ok(())
+}

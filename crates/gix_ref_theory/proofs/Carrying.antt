@@ -274,7 +274,7 @@ with_made locked path line rest writes view left e l = in_writes locked view lef
   same = l.same;
 })
 
--- a stop among the steps leaves what a stop among the writes leaves, but for the locks
+-- a stop among the steps leaves what a stop among the writes leaves, except for the locks
 pub left_alike : (locked : List Path) (steps : List Step) (writes : List Write) (T left : Tree) (real view : View) → Views T real → IsSameButLocks locked real view →
     CarryOut locked real steps writes → IsLeftBySteps steps T left → IsLeft locked writes view (view_of left)
 left_alike locked [] writes T left real view views h carry e = stay locked writes view (view_of left) (through locked (along e views) h)

@@ -27,7 +27,7 @@ no_w_in n k rest (inl none) h e = no_w k rest h (ap (λ x. head ((x ++ k) ++ beh
 no_w_in n k rest (inr some) h e =
     let e' : ◌≡◌ {A = ℕ} 114 119 = ap (λ x. head ((x ++ k) ++ behind rest)) (sym some.1) ∙ e in absurd (omega arith)
 
--- behind the same worktree
+-- after the same worktree
 in_worktree : (w v x y rest : List ℕ) → has_slash w ≡ false → has_slash v ≡ false → codes "worktrees/" ++ (w ++ 47 ∷ x) ≡ (codes "worktrees/" ++ (v ++ 47 ∷ y)) ++ behind rest → x ≡ y ++ behind rest
 in_worktree w v x y rest a b e =
     cancel_slash w v x (y ++ behind rest) a b

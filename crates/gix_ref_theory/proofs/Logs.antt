@@ -192,7 +192,7 @@ removals_make s path [] = tt
 removals_make s path (e ∷ edits) =
     AllMake-append path None (log_removal (s.log e.name) e.change) (log_removals s edits) (removal_makes path (s.log e.name) e.change) (removals_make s path edits)
 
--- Where a stop lies: behind the first writes, or among them.
+-- Where a stop lies: after the first writes, or among them.
 abbrev pub Cut : (a b done rest : List Write) → Type 0
 Cut a b done rest =
     ((more : List Write) × (done ≡ a ++ more) × (more ++ rest ≡ b))
@@ -323,7 +323,7 @@ module _ (s : Store) (laws : HasLaws s) (mode : Mode) (view : View) (edits : Lis
       ∙ (ap (λ b. grown b (view (s.log e.name)) (appended (s.log e.name) (writes_of_updates s mode view edits))) (touched_due s mode view (s.log e.name) edits no_place)
       ∙ ap (grown (is_due s edits (s.log e.name)) (view (s.log e.name))) (appended_due s mode view (s.log e.name) edits))
 
-  -- behind the updates: the log is removed, or as they leave it
+  -- after the updates: the log is removed, or as they leave it
   left_behind : (more : List Write) → l.done ≡ writes_of_updates s mode view edits ++ more →
       more ++ l.rest ≡ log_removals s edits ++ (packed_writes s mode view edits merged ++ loose_removals s mode view edits) →
       left (s.log e.name) ≡ cond (is_touched (s.log e.name) more) None (grown (is_due s edits (s.log e.name)) (view (s.log e.name)) (due s edits (s.log e.name)))

@@ -47,7 +47,7 @@ module _ {A S : Type 0} (Done : A → S → S → Type 0) (Ends : S → Type 0) 
       append_nil [] = refl
       append_nil (x ∷ xs) = ap (λ (ys : List A). x ∷ ys) (append_nil xs)
 
-  -- of the steps behind one that was done, within all
+  -- of the steps after one that was done, within all
   pub within_rest : (a : A) (steps : List A) (first mid : S) → Done a first mid → IsWithinSteps Done Ends Begun steps mid → IsWithinSteps Done Ends Begun (a ∷ steps) first
   within_rest a steps first mid a_done within = record {
     done = a ∷ within.done;

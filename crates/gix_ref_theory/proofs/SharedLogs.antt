@@ -8,7 +8,7 @@ use Rattle.gix_ref_target.specs.Locations.Location.{ThisWorktree, LinkedWorktree
 use Rattle.gix_ref_theory.specs.ConcreteStore.{Options, store_of}
 use Rattle.gix_ref_theory.specs.Theorems.{SharesLog}
 
--- a name whose location is private to this worktree is its short name, and one with a linked location is behind its worktree's
+-- a name whose location is private to this worktree is its short name, and one with a linked location is after its worktree's
 here_name : (name k : List ℕ) → HasSpot name (ThisWorktree k) → name ≡ k
 here_name name k (inl (inl h)) = let e : ThisWorktree name ≡ ThisWorktree k = h.1 in cc
 here_name name k (inl (inr (inl h))) = let e : ThisWorktree name ≡ ThisWorktree k = h.2 in cc
@@ -77,7 +77,7 @@ tied f folders name (ThisWorktree k) h has = tied_here f folders name k h has
 tied f folders name (MainWorktree k) h has = record { shape = Plain k; sound = start_private k h; tie = tt; lie = inl (refl, refl) }
 tied f folders name (LinkedWorktree w k) h has = record { shape = Named w k; sound = (h.0, start_private k h.1); tie = linked_name name w k has; lie = inl (refl, refl) }
 
--- one log below one folder: one place, or the shapes of this worktree and of its name behind `worktrees/`
+-- one log below one folder: one place, or the shapes of this worktree and of its name after `worktrees/`
 abbrev Meet : List ℕ → PlaceShape → PlaceShape → Type 0
 Meet n (Within w k) (Named v j) = (w ≡ v) × (k ≡ j)
 Meet n (Plain k) y = ⊥

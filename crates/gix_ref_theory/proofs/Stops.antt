@@ -149,7 +149,7 @@ module _ (s : Store) (laws : HasLaws s) (mode : Mode) (view : View) (edits : Lis
       (touched_right s.packed_path (writes_of_updates s mode view edits) (log_removals s edits ++ packed_writes s mode view edits merged)
       (touched_right s.packed_path (log_removals s edits) (packed_writes s mode view edits merged) (packed_touches s mode view edits merged alters)))
 
-  -- after a step behind the updates, each update is written
+  -- after a step after the updates, each update is written
   updates_done : (later path : List ℕ) → is_touched later l.done ≡ true → is_touched later (writes_of_updates s mode view edits) ≡ false →
       is_touched path (writes_of_updates s mode view edits) ≡ true → is_touched path l.done ≡ true
   updates_done later path d n t =

@@ -145,7 +145,7 @@ committed_log s edits log old =
     if removes_log s edits log then None else if is_due s edits log
     then Some (file_bytes old ++ due s edits log) else old
 
--- Committed: each reference reads as edited, and all other files are as before but for locks that stay.
+-- Committed: each reference reads as edited, and all other files are as before except for locks that stay.
 pub record IsCommitted (s : Store) (mode : Mode) (staying : List Path) (edits : List Edit)
     (view left : View) : Type 0 where
   pub readings : (name : List ℕ) → s.is_reference name ≡ true → ReadsAsEdited s edits view left name

@@ -73,7 +73,7 @@ EveryLossAmongIsBetween =
     IsWithin (IsSpokenOf locked D) (plan s mode (view_of D.tree) edits merged) (view_of D.tree) E →
     Lost E left → IsLostWell s mode locked edits D before left
 
--- The whole run is committed, and a loss of power after it leaves these files, but for locks; and all is settled again.
+-- The whole run is committed, and a loss of power after it leaves these files, except for locks; and all is settled again.
 abbrev pub EveryWholeRunIsKept : Type 0
 EveryWholeRunIsKept =
     (s : Store) → HasLaws s → (mode : Mode) (locked staying : List Path) (edits : List Edit)

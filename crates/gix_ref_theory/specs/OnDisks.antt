@@ -111,7 +111,7 @@ EveryRunSettles =
     IsAllSettled E × AllStay E staying × ((q : Path) → ((p : Path) → q ≢ lock_of p) →
     view_of E.tree q ≡ after writes (view_of D.tree) q)
 
--- So once the run has ended well, a loss of power leaves the files after the writes, but for locks.
+-- So once the run has ended well, a loss of power leaves the files after the writes, except for locks.
 abbrev pub EveryDoneRunIsKept : Type 0
 EveryDoneRunIsKept =
     (locked staying : List Path) (texts : View) (plan : List Synced) (writes : List Write)
@@ -125,7 +125,7 @@ abbrev pub IsAmong : (locked staying : List Path) → List Write → (first E : 
 IsAmong locked staying writes first E = IsWithin (IsSpokenOf locked first) writes
     (view_of first.tree) E × AllStay E staying
 
--- On the disk E all is as on the disk `first` but for own locks: each path that is spoken of is settled with the file that it had,
+-- On the disk E all is as on the disk `first` except for own locks: each path that is spoken of is settled with the file that it had,
 -- and the folders stay.
 abbrev pub IsAsBefore : (locked staying : List Path) → (first E : Disk) → Type 0
 IsAsBefore locked staying first E = IsAmong locked staying [] first E

@@ -37,7 +37,7 @@ after_step End view = view
 
 -- The steps carry out the writes, where `view` are the files and the locks of the paths `locked` are the transaction's. The
 -- rename of an own lock puts what the lock holds; a file is made for the append that comes next; an append a line and a removal elsewhere are such writes; steps on own locks
--- and on folders carry out none; and behind an end nothing is owed.
+-- and on folders carry out none; and after an end nothing is owed.
 abbrev pub CarryOut : List Path → View → List Step → List Write → Type 0
 CarryOut locked view [] writes = writes ≡ []
 CarryOut locked view (Create path ∷ steps) writes =
@@ -101,7 +101,7 @@ EveryEndIsBetween =
     IsCommitRun s mode locked edits before start steps → EndsAt steps at cause start left →
     IsOldOrNewTree s mode locked edits before left
 
--- the tree after all steps is committed, where the locks but for those that stay are as they were before
+-- the tree after all steps is committed, where the locks except for those that stay are as they were before
 abbrev pub EveryWholeRunCommits : Type 0
 EveryWholeRunCommits =
     (s : Store) → HasLaws s → (mode : Mode) (locked staying : List Path) (edits : List Edit)

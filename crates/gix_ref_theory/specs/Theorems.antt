@@ -40,7 +40,7 @@ UpdatesShowInOrder =
     IsLeft locked (plan s mode view edits merged) view left →
     removes_packed mode ≡ false → InOrder s edits before left
 
--- the whole plan commits, where the locks but for those that stay are as they were before
+-- the whole plan commits, where the locks except for those that stay are as they were before
 abbrev pub WholePlanCommits : Type 0
 WholePlanCommits =
     (s : Store) → HasLaws s → (mode : Mode) (locked staying : List Path) (edits : List Edit)
@@ -87,14 +87,14 @@ OnePlaceHasOneLog =
     (store_of f o).is_reference m ≡ true → (store_of f o).is_reference n ≡ true →
     (store_of f o).place m ≡ (store_of f o).place n → (store_of f o).log m ≡ (store_of f o).log n
 
--- In a namespace, where the git folder is that of the linked worktree w: a name, and the same behind `worktrees/w/`.
+-- In a namespace, where the git folder is that of the linked worktree w: a name, and the same after `worktrees/w/`.
 pub record SharesLog (f : Layout) (name long : List ℕ) : Type 0 where
   pub worktree : List ℕ
   pub git_is : f.git ≡ below f.common (codes "worktrees/" ++ worktree)
   pub long_is : long ≡ codes "worktrees/" ++ (worktree ++ 47 ∷ name)
   pub in_namespace : f.namespace ≢ []
 
--- references of one log have one place, but for such pairs
+-- references of one log have one place, except for such pairs
 abbrev pub OneLogHasOnePlace : Type 0
 OneLogHasOnePlace =
     (f : Layout) (o : Options) → IsLayout f → (m n : List ℕ) →

@@ -8,7 +8,7 @@ use Rattle.gix_ref_files.specs.Lock.{lock_of}
 abbrev pub View : Type 0
 View = Path → Option (List ℕ)
 
--- the same files but for one path
+-- the same files except for one path
 abbrev pub changed_at : Path → Option (List ℕ) → View → View
 changed_at path file view other = if bytes_eq path other then file else view other
 
@@ -67,7 +67,7 @@ abbrev pub IsOwnLock : List Path → Path → Type 0
 IsOwnLock [] path = ⊥
 IsOwnLock (locked ∷ others) path = (path ≡ lock_of locked) ⊎ IsOwnLock others path
 
--- the same files but for these locks
+-- the same files except for these locks
 abbrev pub IsSameButLocks : List Path → View → View → Type 0
 IsSameButLocks locked left right = (path : Path) → (IsOwnLock locked path → ⊥) →
     left path ≡ right path

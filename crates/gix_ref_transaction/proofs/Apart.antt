@@ -21,7 +21,7 @@ use Rattle.gix_ref_edits.specs.declared.transaction.RefEdit.{RefEdit}
 use Rattle.gix_ref_transaction.proofs.PackedBelow.{no_packed_below}
 use Rattle.gix_ref_transaction.proofs.Adds.{false_is_true, is_false, in_one, any_cases}
 
--- a path goes on behind each of its fronts with a slash
+-- a path goes on after each of its fronts with a slash
 front_after : (seen xs q : Path) → is_in (fronts_after seen xs) q ≡ true → (rest : List ℕ) × (seen ++ xs ≡ below q rest)
 front_after seen [] q within = false_is_true within
 front_after seen (c ∷ xs) q within = by (λ h. let later = front_after (seen ++ c ∷ []) xs q h in (later.0, sym (append_assoc seen (c ∷ []) xs) ∙ later.1)) (c == 47) refl within

@@ -20,7 +20,7 @@ pub heads : {X : Type 0} {x y : X} {xs ys : List X} → x ∷ xs ≡ y ∷ ys �
 heads h = (cc, cc)
 
 module _ (s : Store) (kind : Kind) (before : Tree) where
-  -- the place of an edit whose lock is taken is that of none behind it
+  -- the place of an edit whose lock is taken is that of none after it
   later_apart : (seen given : List RefEdit) → NoCause s kind before seen given → (e : RefEdit) → is_in (locks_of s seen) (lock_of (s.place (name_of e))) ≡ true →
       (x : Edit) → IsEdit x (planned given) → s.place (name_of e) ≢ s.place x.name
   later_apart seen [] causes e within x none same = absurd none

@@ -1,4 +1,4 @@
--- The steps of some edits, and then those of others; and the locks that are released behind them.
+-- The steps of some edits, and then those of others; and the locks that are released after them.
 use Rattle.std.proofs.Common.{◌≡◌, ◌<◌, ◌≤◌, ◌+◌, ℕ, suc, List, [], ◌∷◌, ◌++◌, length, ⊎_elim, true, false, refl, sym, ◌∙◌, ap, subst, arith}
 use Rattle.std.specs.Prelude.{bytes_eq, not, ◌&&◌}
 use Rattle.std.proofs.lemmas.Bool.{le-ltb}

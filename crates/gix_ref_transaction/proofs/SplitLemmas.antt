@@ -223,7 +223,7 @@ module _ (find : List ℕ → Option (List ℕ)) where
   can_more P edits n back is first here =
       subst (λ m. All P (first_levels find edits m)) (sym (add-one n)) (All-append P (first_levels find edits n) (level find edits n) first (subst (All P) is here))
 
-  -- more levels go on behind the first ones
+  -- more levels go on after the first ones
   levels_on : (edits : List EditValue) (n m total : ℕ) → total ≡ m + n → (rest : List EditValue) × (first_levels find edits total ≡ first_levels find edits n ++ rest)
   unfolding first_levels
   levels_on edits n zero total is = ([], ap (first_levels find edits) {x = total} {y = n} (omega (arith, is)) ∙ sym (append-nil (first_levels find edits n)))

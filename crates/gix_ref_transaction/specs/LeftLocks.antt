@@ -39,7 +39,7 @@ pub record AreNamedOnce (locks : List Path) (left : Vec (Vec ℕ Global) Global)
   pub once : (q : Path) → times q (paths_of left.items) ≤ times q locks
   pub named : HasRisenBy (vec_len left) before now
 
--- Some of these locks, so many at the most, are named behind those that were left already, without more memory; and the count of faults rose
+-- Some of these locks, so many at the most, are named after those that were left already, without more memory; and the count of faults rose
 -- by one for each that is left, if it had for those that were left already.
 pub record NamesMore (locks : List Path) (most : ℕ) (old new : Vec (Vec ℕ Global) Global)
     (before now : FaultCounts) : Type 0 where
@@ -59,7 +59,7 @@ pub record HandsBack (given : Vec Edit Global) (done : ℕ) (remains : Remains) 
   pub place : done < vec_len given → remains.place.items ≡ place_at given.items done
   pub log : done < vec_len given → remains.log.items ≡ path_in (log_at given.items done)
 
--- One edit more is kept, and behind the others its lock, where that could not be removed; neither takes more memory.
+-- One edit more is kept, and after the others its lock, where that could not be removed; neither takes more memory.
 pub record AddsEdit (edit : Edit) (removed : Bool) (old new : Remains) : Type 0 where
   pub edits : new.edits.items ≡ old.edits.items ++ edit.update ∷ []
   pub left : paths_of new.left.items

@@ -31,7 +31,7 @@ cause_of_peeling peeling.TagChainTooLong = packed.TagChainTooLong
 cause_of_peeling peeling.Find = packed.Find finding.Failed
 cause_of_peeling peeling.Memory = packed.Memory
 
--- and how `prepare` reports it that an object cannot be put: as that of `packed-refs`, but for an end of another kind and no memory
+-- and how `prepare` reports it that an object cannot be put: as that of `packed-refs`, except for an end of another kind and no memory
 abbrev pub reported_by_prepare : PackedError → Error
 reported_by_prepare packed.OtherHashKind = OtherHashKind
 reported_by_prepare packed.Memory = Memory

@@ -48,7 +48,7 @@ impl Packing {
 }
 
 /// What a transaction does with `packed-refs` (`git pack-refs`). The two modes that put objects into it own a finder of type `T`, which
-/// leads to the object behind tags; each answer of the transaction hands it back. An update of a reference to an object is put, where the
+/// leads to the object at the end of tags; each answer of the transaction hands it back. An update of a reference to an object is put, where the
 /// reference can have a record: `HEAD`, other pseudo references and those of one worktree alone are written loose, as are
 /// symbolic references. As `PackedRefs` of gix-ref's `file::transaction`.
 #[derive(Drop)]

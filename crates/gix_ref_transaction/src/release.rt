@@ -108,7 +108,7 @@ fn remove_lock<F: Files>(files: &mut F, lock: &[u8]) -> bool
     }
 }
 
-/// Removes the lock of `packed-refs`, where it is held, and adds its path behind the others where it could not.
+/// Removes the lock of `packed-refs`, where it is held, and adds its path after the others where it could not.
 pub fn release_packed<F: Files>(files: &mut F, packed: Option<LockFile>, left: &mut Vec<Vec<u8>>)
     requires room { vec_len left.old < vec_capacity left.old }
     ensures gone { F.honest → (q : Path) → is_in (map lock_of (packed_places packed)) q ≡ true →
@@ -144,8 +144,8 @@ fn release<F: Files>(files: &mut F, done: usize, at: usize, edit: &Edit) -> bool
     remove_lock(files, edit.lock.path())
 }
 
-/// Removes the locks of these edits but for those that were renamed, where the edits before `done` are done. Hands back the edits,
-/// the place of the edit at `done` and the path of its log, and behind the paths in `remains` the locks that could not be
+/// Removes the locks of these edits except for those that were renamed, where the edits before `done` are done. Hands back the edits,
+/// the place of the edit at `done` and the path of its log, and after the paths in `remains` the locks that could not be
 /// removed. Takes no memory, and where all were renamed makes no call.
 pub fn release_locks<F: Files>(
     files: &mut F,

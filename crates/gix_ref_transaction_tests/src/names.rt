@@ -61,7 +61,7 @@ pub struct Setting {
     pub prohibits: bool,
 }
 
-/// Where a name is kept: the folder of its file and what is behind the namespace there, and the same of its log.
+/// Where a name is kept: the folder of its file and what is after the namespace there, and the same of its log.
 #[derive(Clone, Copy, Debug)]
 struct Spot {
     folder: &'static str,
@@ -130,7 +130,7 @@ pub fn log(rt: &impl Abort, alloc: Global, setting: Setting, name: &'static str)
     format!(in alloc; "{}/logs/{}{}", spot.log_folder, setting.space, spot.own).expect(rt, "memory")
 }
 
-/// The name of the record of a name, behind the namespace, where it may have one.
+/// The name of the record of a name, after the namespace, where it may have one.
 pub fn key(setting: Setting, name: &'static str) -> Option<&'static str> {
     let own = spot_of(setting, name).own;
     if is_private(own) {

@@ -6,7 +6,7 @@ use crate::stores::{Kept, Record};
 use std::alloc::Global;
 use std::process::Abort;
 
-/// The name behind `ref: `, without the namespace.
+/// The name after `ref: `, without the namespace.
 fn named(space: &str, rest: &str) -> Option<To> {
     let name = rest.trim();
     let name = name.strip_prefix(space).unwrap_or(name);

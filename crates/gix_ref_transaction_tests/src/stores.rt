@@ -77,7 +77,7 @@ fn push_record(rt: &impl Abort, alloc: Global, text: &mut String, record: Record
     }
 }
 
-/// The lines of records, behind this text.
+/// The lines of records, after this text.
 pub fn records_text(
     rt: &impl Abort,
     alloc: Global,

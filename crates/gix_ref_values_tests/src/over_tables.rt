@@ -1,4 +1,4 @@
-//! A caller whose finder holds a reference: what it learns of the list, and of what is behind the reference.
+//! A caller whose finder holds a reference: what it learns of the list, and of what is after the reference.
 ghost use Rattle.std.specs.Prelude.{◌≡◌, ℕ, List, Option, OnOk, IfOk};
 ghost use Rattle.gix_ref_name.specs.Names.{partial_ref_bytes};
 ghost use Rattle.gix_ref_edits.specs.LookUps.{referent_of};

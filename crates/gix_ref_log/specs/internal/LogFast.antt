@@ -7,7 +7,7 @@ use Rattle.gix_ref_log.specs.LogLines.{LogLine, IsLine, line_ref_parts}
 use Rattle.gix_ref_log.specs.Signatures.{IsSignature}
 use Rattle.gix_ref_log.specs.declared.log.line.LineRef.{LineRef}
 
--- two ids, a signature with no LF up to the first tab, and behind the tab the message: all that follows
+-- two ids, a signature with no LF up to the first tab, and after the tab the message: all that follows
 pub record HasFront (text : List ℕ) (l : LogLine) : Type 0 where
   pub ids : List ℕ
   pub rest : List ℕ

@@ -7,7 +7,7 @@ ghost use Rattle.gix_ref_log.specs.Signatures.{IsDigit, IsStamp};
 use super::Time;
 use std::simd::prelude::*;
 
-/// The bits of the digits among the last 16 bytes: ten, four behind a space and a sign.
+/// The bits of the digits among the last 16 bytes: ten, four after a space and a sign.
 const DIGITS: u64 = 0b1111_0011_1111_1111;
 
 /// Which of the last 16 bytes are decimal digits, the first by the lowest bit.

@@ -6,7 +6,7 @@ use crate::actor::{Signature, SignatureRef};
 use bstr::ByteSlice;
 use gix_ref_hash::hash::{ObjectId, id_of_digits};
 use std::alloc::{AllocError, Global};
-use std::io;
+use std::{fmt, io};
 
 pub mod decode;
 mod write;
@@ -98,6 +98,37 @@ impl<'a> LineRef<'a> {
             signature: self.signature.to_owned(alloc)?,
             message: Vec::from_slice(alloc, self.message)?,
         })
+    }
+}
+
+/// The new id, as its digits stand in the log, a space and the message: `git reflog show --format='%H %gs'`. Of a message that is not
+/// UTF-8 the lossy text of `bstr`.
+impl<'a> fmt::Display for LineRef<'a> {
+    ghost use Rattle.std.specs.Prelude.{Some, ◌++◌, ◌∷◌};
+    ghost use Rattle.gix_ref_hash.specs.Bytes.{shown};
+
+    ghost output = { λ l. Some (shown l.new_oid.now ++ 32 ∷ shown l.message.now) };
+
+    fn fmt<W: fmt::Write>(&self, f: &mut fmt::Formatter<W>) -> fmt::Result {
+        self.new_oid.as_bstr().fmt(f)?;
+        f.write_str(" ")?;
+        self.message.as_bstr().fmt(f)
+    }
+}
+
+/// The new id, a space and the message: `git reflog show --format='%H %gs'`. Of a message that is not UTF-8 the lossy text of `bstr`.
+impl fmt::Display for Line {
+    ghost use Rattle.std.specs.Prelude.{Some, ◌++◌, ◌∷◌};
+    ghost use Rattle.hex.specs.Hex.{encode_lower};
+    ghost use Rattle.gix_ref_hash.specs.Bytes.{shown};
+    ghost use Rattle.gix_ref_hash.specs.Ids.{id_bytes};
+
+    ghost output = { λ l. Some (encode_lower (id_bytes l.new_oid) ++ 32 ∷ shown l.message.items) };
+
+    fn fmt<W: fmt::Write>(&self, f: &mut fmt::Formatter<W>) -> fmt::Result {
+        self.new_oid.fmt(f)?;
+        f.write_str(" ")?;
+        self.message.as_slice().as_bstr().fmt(f)
     }
 }
 

@@ -13,7 +13,7 @@ ghost use Rattle.gix_ref_lookup.specs.StoreLayout.{namespace_text};
 ghost use Rattle.gix_ref_packed_text.specs.Positions.{CannotRead};
 ghost use Rattle.gix_ref_packed.specs.Buffers.{IsRefusedFile};
 ghost use Rattle.gix_ref_packed.specs.OpenFiles.{HasReadFault};
-ghost use Rattle.gix_ref_lookup.specs.Lookups.{meaning_in, packed_refs_in, HasKey, OfKey, IsByRecord, IsLooseTarget, IsNotRead, IsNotReadAt, IsReady, AreAsked, IsOfKey, IsFaultOf, IsFaultOrMemory, IsNotPacked, AreHonest, IsSearched, IsHitOfKey, OfSearched, IsCandidate, IsSound, IsHit, CandidateFails, FindsNone, HasNoKey, IsMissing, SearchesNone};
+ghost use Rattle.gix_ref_lookup.specs.Lookups.{AreAsked, AreAskedWith, AreHonest, CandidateFails, FindsNone, HasKey, HasNoKey, IsByRecord, IsCandidate, IsFaultOf, IsFaultOrMemory, IsHit, IsHitOfKey, IsLooseTarget, IsMissing, IsNotPacked, IsNotRead, IsNotReadAt, IsOfKey, IsReady, IsSearched, IsSearchedWith, IsSound, OfKey, OfSearched, SearchesNone, meaning_in, packed_refs_in};
 ghost use Rattle.gix_ref_lookup.specs.Looks.{OnlyLooks};
 
 use crate::find::loose::{Loose, loose_at};
@@ -160,13 +160,11 @@ fn find_at_key<F: Files>(
     key: FullNameRef<'_>,
     records: &mut Records<'_, F::Reader>,
 ) -> Result<Option<Reference>, Error>
-    ensures found { F.honest → (rs : List Record) → AreAsked settings.entry.kind
-        (packed_refs_in settings.entry (F.means files.old)) records.old rs → (name : List ℕ) →
-        HasKey (meaning_in settings.entry) name (full_ref_bytes key.entry) →
-        IfOk result (IsByRecord (meaning_in settings.entry) rs name) }
-    ensures sound { F.honest → (rs : List Record) → AreAsked settings.entry.kind
-        (packed_refs_in settings.entry (F.means files.old)) records.old rs →
-        IfErr result IsFaultOrMemory }
+    ensures found { F.honest → (rs : List Record) → AreAskedWith settings.entry (F.means files.old)
+        records.old rs → (name : List ℕ) → HasKey (meaning_in settings.entry) name
+        (full_ref_bytes key.entry) → IfOk result (IsByRecord (meaning_in settings.entry) rs name) }
+    ensures sound { F.honest → (rs : List Record) → AreAskedWith settings.entry (F.means files.old)
+        records.old rs → IfErr result IsFaultOrMemory }
     ensures hit { F.honest → AreHonest records.old → (name : List ℕ) →
         HasKey (meaning_in settings.entry) name (full_ref_bytes key.entry) →
         IfOk result (λ r. IfSome r (λ r. OfKey (meaning_in settings.entry) name
@@ -183,15 +181,12 @@ fn find_at_key<F: Files>(
         (λ key. OfSearched settings.entry.kind (packed_refs_in settings.entry (F.means files.old))
         records.old (λ k text. CannotRead k text key))) (IsRefusedFile settings.entry.kind
         ((F.means files.old).tree (meaning_in settings.entry).packed_path))) }
-    ensures asked { F.honest → (rs : List Record) → AreAsked settings.entry.kind
-        (packed_refs_in settings.entry (F.means files.old)) records.old rs →
-        AreAsked settings.entry.kind
-        (packed_refs_in settings.entry (F.means files.old)) records.new rs }
+    ensures asked { F.honest → (rs : List Record) → AreAskedWith settings.entry (F.means files.old)
+        records.old rs → AreAskedWith settings.entry (F.means files.old) records.new rs }
     ensures honest { F.honest → AreHonest records.old → AreHonest records.new }
-    ensures searched { F.honest → (kind : Kind) (text : List ℕ) → IsSearched settings.entry.kind
-        (packed_refs_in settings.entry (F.means files.old)) records.new kind text →
-        IsSearched settings.entry.kind
-        (packed_refs_in settings.entry (F.means files.old)) records.old kind text }
+    ensures searched { F.honest → (kind : Kind) (text : List ℕ) → IsSearchedWith settings.entry
+        (F.means files.old) records.new kind text → IsSearchedWith settings.entry
+        (F.means files.old) records.old kind text }
     ensures still_none { F.honest → SearchesNone (packed_refs_in settings.entry (F.means files.old))
         records.new → SearchesNone (packed_refs_in settings.entry (F.means files.old)) records.old }
     ensures no_fault { OnOk result (F.faults files.new ≡ F.faults files.old) }
@@ -211,12 +206,11 @@ fn find_packed<F: Files>(
     name: FullNameRef<'_>,
     records: &mut Records<'_, F::Reader>,
 ) -> Result<Option<Reference>, Error>
-    ensures found { F.honest → (rs : List Record) → AreAsked settings.entry.kind
-        (packed_refs_in settings.entry (F.means files.old)) records.old rs →
-        IfOk result (IsByRecord (meaning_in settings.entry) rs (full_ref_bytes name.entry)) }
-    ensures sound { F.honest → (rs : List Record) → AreAsked settings.entry.kind
-        (packed_refs_in settings.entry (F.means files.old)) records.old rs →
-        IfErr result IsFaultOrMemory }
+    ensures found { F.honest → (rs : List Record) → AreAskedWith settings.entry (F.means files.old)
+        records.old rs → IfOk result (IsByRecord (meaning_in settings.entry) rs
+        (full_ref_bytes name.entry)) }
+    ensures sound { F.honest → (rs : List Record) → AreAskedWith settings.entry (F.means files.old)
+        records.old rs → IfErr result IsFaultOrMemory }
     ensures hit { F.honest → AreHonest records.old → IfOk result
         (λ r. IfSome r (λ r. OfKey (meaning_in settings.entry) (full_ref_bytes name.entry)
         (λ key. IsHitOfKey settings.entry.kind (packed_refs_in settings.entry (F.means files.old))
@@ -231,15 +225,12 @@ fn find_packed<F: Files>(
         (λ key. OfSearched settings.entry.kind (packed_refs_in settings.entry (F.means files.old))
         records.old (λ k text. CannotRead k text key))) (IsRefusedFile settings.entry.kind
         ((F.means files.old).tree (meaning_in settings.entry).packed_path))) }
-    ensures asked { F.honest → (rs : List Record) → AreAsked settings.entry.kind
-        (packed_refs_in settings.entry (F.means files.old)) records.old rs →
-        AreAsked settings.entry.kind
-        (packed_refs_in settings.entry (F.means files.old)) records.new rs }
+    ensures asked { F.honest → (rs : List Record) → AreAskedWith settings.entry (F.means files.old)
+        records.old rs → AreAskedWith settings.entry (F.means files.old) records.new rs }
     ensures honest { F.honest → AreHonest records.old → AreHonest records.new }
-    ensures searched { F.honest → (kind : Kind) (text : List ℕ) → IsSearched settings.entry.kind
-        (packed_refs_in settings.entry (F.means files.old)) records.new kind text →
-        IsSearched settings.entry.kind
-        (packed_refs_in settings.entry (F.means files.old)) records.old kind text }
+    ensures searched { F.honest → (kind : Kind) (text : List ℕ) → IsSearchedWith settings.entry
+        (F.means files.old) records.new kind text → IsSearchedWith settings.entry
+        (F.means files.old) records.old kind text }
     ensures still_none { F.honest → SearchesNone (packed_refs_in settings.entry (F.means files.old))
         records.new → SearchesNone (packed_refs_in settings.entry (F.means files.old)) records.old }
     ensures no_fault { OnOk result (F.faults files.new ≡ F.faults files.old) }
@@ -264,12 +255,11 @@ pub fn find_candidate<F: Files>(
     name: FullNameRef<'_>,
     records: &mut Records<'_, F::Reader>,
 ) -> Result<Option<Reference>, Error>
-    ensures found { F.honest → (rs : List Record) → AreAsked settings.entry.kind
-        (packed_refs_in settings.entry (F.means files.old)) records.old rs →
-        IfOk result (IsCandidate (meaning_in settings.entry) (contents F.means files.old) rs
-        (full_ref_bytes name.entry)) }
-    ensures sound { F.honest → (rs : List Record) → AreAsked settings.entry.kind
-        (packed_refs_in settings.entry (F.means files.old)) records.old rs → IfErr result IsSound }
+    ensures found { F.honest → (rs : List Record) → AreAskedWith settings.entry (F.means files.old)
+        records.old rs → IfOk result (IsCandidate (meaning_in settings.entry)
+        (contents F.means files.old) rs (full_ref_bytes name.entry)) }
+    ensures sound { F.honest → (rs : List Record) → AreAskedWith settings.entry (F.means files.old)
+        records.old rs → IfErr result IsSound }
     ensures hit { F.honest → AreHonest records.old →
         IfOk result (λ r. IfSome r (IsHit settings.entry (contents F.means files.old) records.old
         (full_ref_bytes name.entry))) }
@@ -278,15 +268,12 @@ pub fn find_candidate<F: Files>(
         records.old (full_ref_bytes name.entry))) }
     ensures failed { IfErr result (CandidateFails F.honest settings.entry (F.means files.old).tree
         records.old (F.faults files.old) (F.faults files.new) (full_ref_bytes name.entry)) }
-    ensures asked { F.honest → (rs : List Record) → AreAsked settings.entry.kind
-        (packed_refs_in settings.entry (F.means files.old)) records.old rs →
-        AreAsked settings.entry.kind
-        (packed_refs_in settings.entry (F.means files.old)) records.new rs }
+    ensures asked { F.honest → (rs : List Record) → AreAskedWith settings.entry (F.means files.old)
+        records.old rs → AreAskedWith settings.entry (F.means files.old) records.new rs }
     ensures honest { F.honest → AreHonest records.old → AreHonest records.new }
-    ensures searched { F.honest → (kind : Kind) (text : List ℕ) → IsSearched settings.entry.kind
-        (packed_refs_in settings.entry (F.means files.old)) records.new kind text →
-        IsSearched settings.entry.kind
-        (packed_refs_in settings.entry (F.means files.old)) records.old kind text }
+    ensures searched { F.honest → (kind : Kind) (text : List ℕ) → IsSearchedWith settings.entry
+        (F.means files.old) records.new kind text → IsSearchedWith settings.entry
+        (F.means files.old) records.old kind text }
     ensures still_none { F.honest → SearchesNone (packed_refs_in settings.entry (F.means files.old))
         records.new → SearchesNone (packed_refs_in settings.entry (F.means files.old)) records.old }
     ensures no_fault { OnOk result (F.faults files.new ≡ F.faults files.old) }

@@ -6,7 +6,7 @@ ghost use Rattle.gix_ref_target.specs.PackedRecords.{Record};
 ghost use Rattle.gix_ref_files.specs.Files.{AtEveryStop};
 ghost use Rattle.gix_ref_files.specs.Calls.{Unchanged};
 ghost use Rattle.gix_ref_theory.specs.OnRealTrees.{contents};
-ghost use Rattle.gix_ref_lookup.specs.Lookups.{meaning_in, packed_refs_in, AreAsked, AreHonest, ReturnsHit, IsSound, IsHitOf, IsGivenOf, FailsAmong, lookup_of, asked_names, name_asked, AreMissing, AreStillAsked};
+ghost use Rattle.gix_ref_lookup.specs.Lookups.{AreAskedWith, AreHonest, AreMissing, AreStillAskedWith, FailsAmong, IsGivenOf, IsHitOf, IsSound, ReturnsHit, asked_names, lookup_of, meaning_in, name_asked};
 
 use crate::find::Error;
 use crate::find::lookup::find_asked;
@@ -71,12 +71,11 @@ pub fn find_reference<F: Files>(
     name: PartialNameRef<'_>,
     records: &mut Records<'_, F::Reader>,
 ) -> Result<Option<Reference>, Error>
-    ensures found { F.honest → (rs : List Record) → AreAsked settings.entry.kind
-        (packed_refs_in settings.entry (F.means files.old)) records.old rs →
-        IfOk result (ReturnsHit (lookup_of composes (meaning_in settings.entry)
+    ensures found { F.honest → (rs : List Record) → AreAskedWith settings.entry (F.means files.old)
+        records.old rs → IfOk result (ReturnsHit (lookup_of composes (meaning_in settings.entry)
         (contents F.means files.old) rs (partial_ref_bytes name.entry))) }
-    ensures sound { F.honest → (rs : List Record) → AreAsked settings.entry.kind
-        (packed_refs_in settings.entry (F.means files.old)) records.old rs → IfErr result IsSound }
+    ensures sound { F.honest → (rs : List Record) → AreAskedWith settings.entry (F.means files.old)
+        records.old rs → IfErr result IsSound }
     ensures hit { F.honest → AreHonest records.old → IfOk result (λ r. IfSome r (IsHitOf composes
         settings.entry (contents F.means files.old) records.old (partial_ref_bytes name.entry))) }
     ensures missing { F.honest → AreHonest records.old → IfOk result (λ r. IfNone r
@@ -86,8 +85,8 @@ pub fn find_reference<F: Files>(
         ⊎ FailsAmong F.honest settings.entry (F.means files.old).tree records.old
         (F.faults files.old) (F.faults files.new)
         (asked_names (name_asked composes (partial_ref_bytes name.entry))) error) }
-    ensures asked { F.honest → OnOk result (AreStillAsked settings.entry.kind
-        (packed_refs_in settings.entry (F.means files.old)) records.old records.new) }
+    ensures asked { F.honest → OnOk result (AreStillAskedWith settings.entry (F.means files.old)
+        records.old records.new) }
     ensures no_fault { OnOk result (F.faults files.new ≡ F.faults files.old) }
     ensures leaves { F.honest → AtEveryStop F.means files.old files.new Unchanged }
 {

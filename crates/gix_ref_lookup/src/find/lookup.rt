@@ -8,7 +8,7 @@ ghost use Rattle.gix_ref_files.specs.Files.{AtEveryStop};
 ghost use Rattle.gix_ref_files.specs.Calls.{Unchanged};
 ghost use Rattle.gix_ref_theory.specs.Lookups.{first_hit, hit_or_head, lookup};
 ghost use Rattle.gix_ref_theory.specs.OnRealTrees.{contents};
-ghost use Rattle.gix_ref_lookup.specs.Lookups.{meaning_in, packed_refs_in, AreAsked, AreHonest, ReturnsHit, IsSound, IsHit, Among, FailsAmong, asked_names, AreMissing, AreStillAsked, IsMissing};
+ghost use Rattle.gix_ref_lookup.specs.Lookups.{Among, AreAskedWith, AreHonest, AreMissing, AreStillAskedWith, FailsAmong, IsHit, IsMissing, IsSound, ReturnsHit, asked_names, meaning_in};
 
 use crate::find::Error;
 use crate::find::candidate::find_candidate;
@@ -28,12 +28,11 @@ fn find_first<F: Files>(
     name: PartialNameRef<'_>,
     records: &mut Records<'_, F::Reader>,
 ) -> Result<Option<Reference>, Error>
-    ensures found { F.honest → (rs : List Record) → AreAsked settings.entry.kind
-        (packed_refs_in settings.entry (F.means files.old)) records.old rs →
-        IfOk result (ReturnsHit (first_hit (meaning_in settings.entry)
+    ensures found { F.honest → (rs : List Record) → AreAskedWith settings.entry (F.means files.old)
+        records.old rs → IfOk result (ReturnsHit (first_hit (meaning_in settings.entry)
         (contents F.means files.old) rs (candidates (partial_ref_bytes name.entry)))) }
-    ensures sound { F.honest → (rs : List Record) → AreAsked settings.entry.kind
-        (packed_refs_in settings.entry (F.means files.old)) records.old rs → IfErr result IsSound }
+    ensures sound { F.honest → (rs : List Record) → AreAskedWith settings.entry (F.means files.old)
+        records.old rs → IfErr result IsSound }
     ensures hit { F.honest → AreHonest records.old → IfOk result (λ r. IfSome r
         (λ r. Among (λ n. IsHit settings.entry (contents F.means files.old) records.old n r)
         (candidates (partial_ref_bytes name.entry)))) }
@@ -43,8 +42,8 @@ fn find_first<F: Files>(
     ensures failed { IfErr result
         (FailsAmong F.honest settings.entry (F.means files.old).tree records.old
         (F.faults files.old) (F.faults files.new) (candidates (partial_ref_bytes name.entry))) }
-    ensures asked { F.honest → OnOk result (AreStillAsked settings.entry.kind
-        (packed_refs_in settings.entry (F.means files.old)) records.old records.new) }
+    ensures asked { F.honest → OnOk result (AreStillAskedWith settings.entry (F.means files.old)
+        records.old records.new) }
     ensures no_fault { OnOk result (F.faults files.new ≡ F.faults files.old) }
     ensures leaves { F.honest → AtEveryStop F.means files.old files.new Unchanged }
 {
@@ -103,12 +102,12 @@ pub fn find_asked<F: Files>(
     name: PartialNameRef<'_>,
     records: &mut Records<'_, F::Reader>,
 ) -> Result<Option<Reference>, Error>
-    ensures found { F.honest → (rs : List Record) → AreAsked settings.entry.kind
-        (packed_refs_in settings.entry (F.means files.old)) records.old rs →
-        IfOk result (ReturnsHit (lookup (meaning_in settings.entry) (contents F.means files.old) rs
-        (candidates (partial_ref_bytes name.entry)) (remote_head (partial_ref_bytes name.entry)))) }
-    ensures sound { F.honest → (rs : List Record) → AreAsked settings.entry.kind
-        (packed_refs_in settings.entry (F.means files.old)) records.old rs → IfErr result IsSound }
+    ensures found { F.honest → (rs : List Record) → AreAskedWith settings.entry (F.means files.old)
+        records.old rs → IfOk result (ReturnsHit (lookup (meaning_in settings.entry)
+        (contents F.means files.old) rs (candidates (partial_ref_bytes name.entry))
+        (remote_head (partial_ref_bytes name.entry)))) }
+    ensures sound { F.honest → (rs : List Record) → AreAskedWith settings.entry (F.means files.old)
+        records.old rs → IfErr result IsSound }
     ensures hit { F.honest → AreHonest records.old → IfOk result (λ r. IfSome r
         (λ r. Among (λ n. IsHit settings.entry (contents F.means files.old) records.old n r)
         (asked_names (partial_ref_bytes name.entry)))) }
@@ -118,8 +117,8 @@ pub fn find_asked<F: Files>(
     ensures failed { IfErr result (λ error. (error ≡ Error.Memory) ⊎ FailsAmong F.honest
         settings.entry (F.means files.old).tree records.old (F.faults files.old)
         (F.faults files.new) (asked_names (partial_ref_bytes name.entry)) error) }
-    ensures asked { F.honest → OnOk result (AreStillAsked settings.entry.kind
-        (packed_refs_in settings.entry (F.means files.old)) records.old records.new) }
+    ensures asked { F.honest → OnOk result (AreStillAskedWith settings.entry (F.means files.old)
+        records.old records.new) }
     ensures no_fault { OnOk result (F.faults files.new ≡ F.faults files.old) }
     ensures leaves { F.honest → AtEveryStop F.means files.old files.new Unchanged }
 {

@@ -7,7 +7,7 @@ ghost use Rattle.gix_ref_files.specs.ReadOnly.{OnlyReads};
 ghost use Rattle.gix_ref_packed.specs.Buffers.{buffer_text, buffer_kind, IsRefusedFile};
 ghost use Rattle.gix_ref_packed.specs.FileSearches.{FindsInFile};
 ghost use Rattle.gix_ref_packed.specs.OpenFiles.{HasReadFault};
-ghost use Rattle.gix_ref_lookup.specs.Lookups.{meaning_in, packed_refs_in, ArePackedRecords, AreAsked, IsSearched, IsReady, IsFaultOrMemory, IsFaultOf, IsNotPacked, AreHonest, IsOpenedText, SearchesNone, of_opening, of_search, as_found};
+ghost use Rattle.gix_ref_lookup.specs.Lookups.{AreAsked, AreAskedWith, AreHonest, ArePackedRecordsWith, IsFaultOf, IsFaultOrMemory, IsNotPacked, IsOpenedText, IsReady, IsSearched, IsSearchedWith, SearchesNone, as_found, meaning_in, of_opening, of_search, packed_refs_in};
 
 use crate::find::Error;
 use crate::settings::Settings;
@@ -92,11 +92,11 @@ fn open_records<'b, F: Files>(
     settings: Settings<'_>,
 ) -> Result<Records<'b, F::Reader>, Error>
     ensures ready { IfOk result IsReady }
-    ensures asked { F.honest → (records : List Record) → ArePackedRecords settings.entry.kind
-        (packed_refs_in settings.entry (F.means files.old)) records →
-        IfOk result (λ r. AreAsked settings.entry.kind None r records) }
-    ensures sound { F.honest → (records : List Record) → ArePackedRecords settings.entry.kind
-        (packed_refs_in settings.entry (F.means files.old)) records → IfErr result IsFaultOrMemory }
+    ensures asked { F.honest → (records : List Record) → ArePackedRecordsWith settings.entry
+        (F.means files.old) records → IfOk result
+        (λ r. AreAsked settings.entry.kind None r records) }
+    ensures sound { F.honest → (records : List Record) → ArePackedRecordsWith settings.entry
+        (F.means files.old) records → IfErr result IsFaultOrMemory }
     ensures searched { F.honest → IfOk result (λ r. (kind : Kind) (text : List ℕ) →
         IsSearched settings.entry.kind None r kind text → IsOpenedText settings.entry.kind
         (packed_refs_in settings.entry (F.means files.old)) kind text) }
@@ -127,7 +127,7 @@ impl<R: ReadAt + Drop> Records<'_, R> {
     ghost use Rattle.gix_ref_packed.specs.Buffers.{IsRefusedFile};
     ghost use Rattle.gix_ref_packed_text.specs.Windows.{AreFound, HitsRecord};
     ghost use Rattle.gix_ref_packed.specs.OpenFiles.{HasReadFault};
-    ghost use Rattle.gix_ref_lookup.specs.Lookups.{meaning_in, packed_refs_in, AreAsked, IsSearched, IsReady, IsFaultOf, IsNotPacked, AreHonest, IsFaultOrMemory, OfSearched, FindsNone, SearchesNone};
+    ghost use Rattle.gix_ref_lookup.specs.Lookups.{AreAsked, AreAskedWith, AreHonest, ArePackedRecordsWith, FindsNone, IsFaultOf, IsFaultOrMemory, IsNotPacked, IsReady, IsSearched, IsSearchedWith, OfSearched, SearchesNone, meaning_in, packed_refs_in};
 
     /// Opens `packed-refs`, if it is asked for the first time. `PackedOpen` where it cannot be opened, and `Memory`.
     pub fn open<F: Files<Reader = R>>(
@@ -138,15 +138,14 @@ impl<R: ReadAt + Drop> Records<'_, R> {
     ) -> Result<(), Error>
         ensures ready { OnOk result (IsReady self.new) }
         ensures kept { OnErr result (self.new ≡ self.old) }
-        ensures asked { F.honest → (records : List Record) → AreAsked settings.entry.kind
-            (packed_refs_in settings.entry (F.means files.old)) self.old records →
-            OnOk result (AreAsked settings.entry.kind None self.new records) }
-        ensures sound { F.honest → (records : List Record) → AreAsked settings.entry.kind
-            (packed_refs_in settings.entry (F.means files.old)) self.old records →
-            IfErr result IsFaultOrMemory }
+        ensures asked { F.honest → (records : List Record) → AreAskedWith settings.entry
+            (F.means files.old) self.old records → OnOk result
+            (AreAsked settings.entry.kind None self.new records) }
+        ensures sound { F.honest → (records : List Record) → AreAskedWith settings.entry
+            (F.means files.old) self.old records → IfErr result IsFaultOrMemory }
         ensures searched { F.honest → (kind : Kind) (text : List ℕ) → IsSearched settings.entry.kind
-            None self.new kind text → OnOk result (IsSearched settings.entry.kind
-            (packed_refs_in settings.entry (F.means files.old)) self.old kind text) }
+            None self.new kind text → OnOk result (IsSearchedWith settings.entry (F.means files.old)
+            self.old kind text) }
         ensures honest { F.honest → AreHonest self.old → OnOk result (AreHonest self.new) }
         ensures none { F.honest → OnOk result (SearchesNone None self.new →
             SearchesNone (packed_refs_in settings.entry (F.means files.old)) self.old) }

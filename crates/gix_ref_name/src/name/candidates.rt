@@ -45,7 +45,7 @@ fn is_root(name: &[u8]) -> bool
         || name == b"worktrees".as_slice()
 }
 
-/// What goes in front of a name with `/HEAD` behind it.
+/// What goes in front of a name with `/HEAD` after it.
 fn remotes_front(name: &[u8]) -> &'static [u8]
     ensures { let whole = name.now ++ codes "/HEAD" in result.now
         ≡ (if rooted whole then codes "remotes/" else codes "refs/remotes/") }
@@ -64,7 +64,7 @@ fn remotes_front(name: &[u8]) -> &'static [u8]
 /// of gix-ref's `file::Store::try_find`.
 ///
 /// ```text
-/// fronts_of(PartialNameRef::try_from("main")?) // refs/, refs/tags/, refs/heads/, refs/remotes/
+/// lookup_prefixes(PartialNameRef::try_from("main")?) // refs/, refs/tags/, refs/heads/, refs/remotes/
 /// ```
 pub fn lookup_prefixes(name: PartialNameRef<'_>) -> &'static [&'static [u8]]
     ensures { map (λ f. f.now) result.now ≡ fronts (partial_ref_bytes name.entry) }
@@ -79,7 +79,7 @@ pub fn lookup_prefixes(name: PartialNameRef<'_>) -> &'static [&'static [u8]]
     }
 }
 
-/// The full name that a partial name has behind one of its fronts. The error says that there was no memory. As
+/// The full name that a partial name has after one of the prefixes of its lookup. The error says that there was no memory. As
 /// `format!` of both.
 pub fn with_prefix(
     alloc: Global,

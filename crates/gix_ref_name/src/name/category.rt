@@ -8,7 +8,7 @@ use gix_ref_hash::bytes::{begins_with, split_component, strip_front};
 use std::alloc::{AllocError, Global};
 
 /// The kind of reference that a name is. Each variant says how the name begins; the short name is what follows that,
-/// but for the notes, bisect, worktree and rewritten groups, whose short name is all behind `refs/`. As gix-ref's
+/// except for the notes, bisect, worktree and rewritten groups, whose short name is all after `refs/`. As gix-ref's
 /// `Category`.
 #[derive(Clone, Copy, Debug, PartialEq, Eq, PartialOrd, Ord, Hash)]
 pub enum Category<'a> {
@@ -137,7 +137,7 @@ fn drop_front<'a>(text: &'a [u8], front: &[u8]) -> &'a [u8]
     }
 }
 
-/// A text behind a front, which it may have already.
+/// A text after a front, which it may have already.
 #[tactic(auto, unfolding(gix_ref_hash::specs::Bytes::with_front))]
 fn put_front(mut front: Vec<u8>, text: &[u8]) -> Result<Vec<u8>, AllocError>
     ensures { IfOk result (λ v. v.items ≡ with_front front.items text.now) }

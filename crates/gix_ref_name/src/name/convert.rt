@@ -1,7 +1,8 @@
 //! Conversions into names, copies of names, and how they are shown.
 ghost use Rattle.std.specs.Prelude.{◌≡◌, Some, string_bytes};
+ghost use Rattle.gix_ref_hash.specs.Bytes.{shown};
 ghost use Rattle.gix_ref_name.specs.NameGrammar.{full_error, partial_error};
-ghost use Rattle.gix_ref_name.specs.Names.{Converts, full_ref_bytes, partial_ref_bytes, full_bytes, partial_bytes, shown};
+ghost use Rattle.gix_ref_name.specs.Names.{Converts, full_ref_bytes, partial_ref_bytes, full_bytes, partial_bytes};
 
 use crate::name::grammar::{broken_full_rule, broken_partial_rule};
 use crate::name::{Error, FullName, FullNameRef, PartialName, PartialNameRef};

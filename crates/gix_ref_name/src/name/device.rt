@@ -30,7 +30,7 @@ fn stem(component: &[u8]) -> &[u8]
     }
 }
 
-/// Whether two texts are the same but for the case of ASCII letters.
+/// Whether two texts are the same except for the case of ASCII letters.
 fn is_same_text(a: &[u8], b: &[u8]) -> bool
     ensures { result ≡ str_eq_ignore_ascii_case a.now b.now }
 {
@@ -45,7 +45,7 @@ fn is_among(text: &[u8], names: &[&[u8]]) -> bool
 }
 
 /// Whether a component of a path is a device on Windows: `AUX`, `CON`, `NUL`, `PRN`, `CONIN$`, `CONOUT$`, `COM1` to
-/// `COM9` or `LPT0` to `LPT9`, in any case and with anything behind a dot, as `aux.txt`. As gix-validate's
+/// `COM9` or `LPT0` to `LPT9`, in any case and with anything after a dot, as `aux.txt`. As gix-validate's
 /// `path::component_is_windows_device`, whose list may differ.
 ///
 /// ```text

@@ -27,7 +27,7 @@ pub enum PackedFile<R: ReadAt + Drop> {
     InMemory(Buffer),
 }
 
-/// The number of the first line behind a header.
+/// The number of the first line after a header.
 const LINE_BEHIND_HEADER: u64 = 2;
 
 /// The error of opening for one of reading; a file that is opened has no earlier reads from which it could differ.

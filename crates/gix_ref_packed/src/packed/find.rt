@@ -130,7 +130,7 @@ fn find_rooted<'a>(text: &'a [u8], kind: Kind, name: &[u8]) -> Result<Option<Ref
     }
 }
 
-/// The record of the name behind a front. The buffer gets the full name, in place of what was in it.
+/// The record of the name after a front. The buffer gets the full name, in place of what was in it.
 fn find_behind<'a>(
     text: &'a [u8],
     kind: Kind,
@@ -146,7 +146,7 @@ fn find_behind<'a>(
     Ok(find_uncounted(text, kind, full)?)
 }
 
-/// The record of a partial name that is no full name: behind `refs/`, `refs/tags/`, `refs/heads/` or `refs/remotes/`.
+/// The record of a partial name that is no full name: after `refs/`, `refs/tags/`, `refs/heads/` or `refs/remotes/`.
 fn find_partial<'a>(
     alloc: Global,
     text: &'a [u8],
@@ -210,7 +210,7 @@ impl Buffer {
     /// The record of a partial name. As gix-ref's `packed::Buffer::try_find`.
     ///
     /// A name that begins with `refs/`, `main-worktree/` or `worktrees/` is searched by its key: a reference that each
-    /// worktree has for itself has none. Any other name is searched behind `refs/`, `refs/tags/`, `refs/heads/` and
+    /// worktree has for itself has none. Any other name is searched after `refs/`, `refs/tags/`, `refs/heads/` and
     /// `refs/remotes/`, in this order (`gitrevisions`). `Parse` as for `try_find_full`; `Memory` where there was no memory
     /// for such a name.
     ///

@@ -40,7 +40,7 @@ fn first_of_prefix(text: &[u8], kind: Kind, prefix: &[u8]) -> usize
 pub struct Iter<'a> {
     rest: &'a [u8],
     kind: Kind,
-    /// The number of the next line, but for those that end in `before`.
+    /// The number of the next line, except for those that end in `before`.
     line: u64,
     before: &'a [u8],
     /// Names that begin otherwise end the iterator.

@@ -84,7 +84,7 @@ fn window_from(offset: u64, size: u64) -> u64
     offset.saturating_sub(size / 2)
 }
 
-/// The records of a file behind its header, where they ascend. A window of the file is kept: a probe that lies in it
+/// The records of a file after its header, where they ascend. A window of the file is kept: a probe that lies in it
 /// reads nothing.
 #[derive(Drop)]
 pub struct SortedFile<R: ReadAt + Drop> {

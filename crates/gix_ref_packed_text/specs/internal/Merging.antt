@@ -10,7 +10,7 @@ use Rattle.gix_ref_packed_text.specs.RecordEdits.{record_put}
 abbrev pub put_by : RecordEdit → List Record
 put_by e = option_to_list (record_put e)
 
--- the records below the key, what the edit puts, and `more` of the others but for the record of the key
+-- the records below the key, what the edit puts, and `more` of the others except for the record of the key
 abbrev pub merged_one : RecordEdit → (more : List Record → List Record) → List Record → List Record
 merged_one e more [] = put_by e ++ more []
 merged_one e more (r ∷ rs) = match_ordering (slice_cmp nat_cmp r.name e.key.now)

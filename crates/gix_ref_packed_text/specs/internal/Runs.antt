@@ -5,6 +5,6 @@ use Rattle.std.specs.List.{filter}
 abbrev pub is_no_cr : ℕ → Bool
 is_no_cr b = not (b == 13)
 
--- the bytes but for each CR
+-- the bytes except for each CR
 abbrev pub without_cr : List ℕ → List ℕ
 without_cr = filter is_no_cr

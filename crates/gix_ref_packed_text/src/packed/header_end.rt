@@ -36,7 +36,7 @@ pub fn read_header_end(text: &[u8]) -> Option<HeaderEnd>
     })
 }
 
-/// The number of the first line behind the header, from 1.
+/// The number of the first line after the header, from 1.
 pub fn first_line_behind(header: Option<Header>) -> u64
     ensures line { result ≡ line_behind header }
     ensures early { result < 3 }

@@ -43,7 +43,7 @@ pub fn line_start(text: &[u8], offset: usize) -> usize
     }
 }
 
-/// A place behind the byte, and no further than the beginning of the next line: no line begins between.
+/// A place after the byte, and no further than the beginning of the next line: no line begins between.
 pub fn line_end(text: &[u8], offset: usize) -> usize
     requires { offset < length text.now }
     ensures beyond { offset < result }
@@ -56,7 +56,7 @@ pub fn line_end(text: &[u8], offset: usize) -> usize
     }
 }
 
-/// Where a search may go on behind the byte, once it has compared the name there: no line begins between. It goes on there
+/// Where a search may go on after the byte, once it has compared the name there: no line begins between. It goes on there
 /// only where the name is too low or absent; else this is the next byte, which costs nothing. So it is where the end of
 /// the line is not near enough to what is left to be worth its search.
 #[inline(always)]

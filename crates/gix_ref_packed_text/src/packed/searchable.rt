@@ -17,7 +17,7 @@ pub struct Probe {
     /// How its name compares with the one that is wanted; `None` where no name is in the name's place. Where the look was
     /// not sure and this is not `Equal`, the name's line may lack its end.
     pub order: Option<Ordering>,
-    /// A place behind the byte: no line begins between the two.
+    /// A place after the byte: no line begins between the two.
     pub next: u64,
 }
 
@@ -26,7 +26,7 @@ pub struct Probe {
 pub struct ProbeMode {
     /// It looks whether the record's line ends.
     pub sure: bool,
-    /// It looks where the line ends, to go on behind it; else at the next byte. That is worth its cost where few bytes are left.
+    /// It looks where the line ends, to go on after it; else at the next byte. That is worth its cost where few bytes are left.
     pub near: bool,
 }
 

@@ -1,10 +1,11 @@
 //! Transactions of references: prepared, with all locks held, and then committed or rolled back.
-ghost use Rattle.std.specs.Prelude.{◌≡◌, [], IfOk, IfErr};
+ghost use Rattle.std.specs.Prelude.{◌≡◌, [], IfOk, IfErr, map};
 ghost use Rattle.std.specs.Borrow.{sem, RestsIfErr};
 ghost use Rattle.gix_ref_packed.specs.OpenFiles.{HasReadFault};
 ghost use Rattle.gix_ref_transaction.specs.LeftLocks.{HasRoom};
 ghost use Rattle.gix_ref_transaction.specs.OwnLocks.{paths_of};
 ghost use Rattle.gix_ref_transaction.specs.Packing.{OfFinder, ends_of, mode_in};
+ghost use Rattle.gix_ref_transaction.specs.PrepareSteps.{updates};
 ghost use Rattle.gix_ref_store.specs.Prepared.{RefusesGiven, PreparesGiven, RollsBackFrom};
 
 pub mod commit;
@@ -25,7 +26,7 @@ use gix_ref_transaction::edit::Edit;
 use gix_ref_transaction::prepare::carry::record_old_values;
 use gix_ref_transaction::prepare::hold::{HeldLocks, LockFailure};
 use gix_ref_transaction::release::{Remains, release_all};
-use std::alloc::Global;
+use std::alloc::{AllocError, Global};
 use std::fmt;
 
 /// A transaction that is not prepared yet. It must be spent, by `prepare` or `rollback`.
@@ -42,6 +43,17 @@ pub struct Plan<T: Find = Never> {
     packed_refs: PackedRefs<T>,
     remains: Remains,
     pub ghost room: { HasRoom edits remains },
+}
+
+/// What these edits ask for, lent.
+fn lent_updates(alloc: Global, edits: &[Edit]) -> Result<Vec<&RefEdit>, AllocError>
+    ensures { IfOk result (λ lent. map (λ update. update.now) lent.items ≡ updates edits.now) }
+{
+    let mut lent = Vec::with_capacity(alloc, edits.len())?;
+    for edit in edits {
+        lent.push(&edit.update)?;
+    }
+    Ok(lent)
 }
 
 /// A transaction whose locks are held. It must be spent, by `commit` or `rollback`.
@@ -289,6 +301,24 @@ impl<F: Files, T: Find> Prepared<'_, F, Plan<T>> {
             packed_refs,
             locks_left: remains.left,
         })
+    }
+
+    /// The edits as they were prepared, in their order: first those that were given, then those of references that they lead to. Each
+    /// whose reference was found expects just what was found (`PreviousValue::MustExistAndMatch`). For a vote on them, or a hook, before
+    /// they are committed (`git help githooks`, `reference-transaction`). The error says that there was no memory for the list.
+    ///
+    /// ```text
+    /// let is_agreed = match prepared.edits(alloc) {
+    ///     Ok(edits) => vote(&edits),
+    ///     Err(_) => false,
+    /// };
+    /// // A `Prepared` is spent on every path: by `commit`, or by `rollback`.
+    /// ```
+    pub fn edits(&self, alloc: Global) -> Result<Vec<&RefEdit>, AllocError>
+        ensures { IfOk result (λ edits. map (λ edit. edit.now) edits.items
+            ≡ prepared_edits self.now.plan) }
+    {
+        lent_updates(alloc, &self.plan.edits)
     }
 
     /// Gives the transaction up: removes its locks, and hands the edits back as they were prepared. A lock that could not

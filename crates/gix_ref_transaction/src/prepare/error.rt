@@ -26,7 +26,7 @@ pub enum Error {
     /// The new target of an edit is the name of a reference, and no full name.
     #[error("the name of a new symbolic target is no full name")]
     TargetNotFull,
-    /// An id of an edit, new or expected, is not of the store's kind; or, in its turn behind the records, the object at the end of the
+    /// An id of an edit, new or expected, is not of the store's kind; or, in its turn after the records, the object at the end of the
     /// tags of one that is put into `packed-refs` is not.
     #[error("an id of an edit is of another kind than those of the store")]
     OtherHashKind,
@@ -46,7 +46,7 @@ pub enum Error {
     #[error("a search in packed-refs failed: {0}")]
     PackedFind(packed::find::Error),
     /// The object of an update that is put into `packed-refs` cannot be peeled: it is missing, or a tag that names no object (`Resolve`),
-    /// it is behind more than 1,000 tags (`TagChainTooLong`), or the finder could not read it (`Find`). It has no other variant.
+    /// it is at the end of more than 1,000 tags (`TagChainTooLong`), or the finder could not read it (`Find`). It has no other variant.
     #[error("{0}")]
     PackedTransactionPrepare(crate::prepare::packed::Error),
     /// A file is in the path of the edit's lock.
@@ -90,7 +90,7 @@ pub enum Error {
     /// A call of files failed.
     #[error("{0}")]
     Io(FileError),
-    /// A growth of memory was refused.
+    /// An allocation was refused.
     #[error("out of memory")]
     Memory,
 }

@@ -8,7 +8,7 @@ ghost use Rattle.gix_ref_packed.specs.OpenFiles.{HasReadFault};
 ghost use Rattle.gix_ref_target.specs.PackedRecords.{Record};
 ghost use Rattle.gix_ref_files.specs.ReadOnly.{OnlyReads};
 ghost use Rattle.gix_ref_theory.specs.OnRealTrees.{contents};
-ghost use Rattle.gix_ref_lookup.specs.Lookups.{packed_refs_in, ArePackedRecords, IsOpenable};
+ghost use Rattle.gix_ref_lookup.specs.Lookups.{ArePackedRecordsWith, IsOpenableWith, packed_refs_in};
 ghost use Rattle.gix_ref_transaction.specs.Causes.{AreRecordIds, IsPackedWell, locks_of};
 ghost use Rattle.gix_ref_transaction.specs.HeldLocks.{HoldAllLocks, AreReady, AreRemovedAgain, HoldsPackedLock, IsHeldBack, IsTakingFault, OnlyTakes};
 ghost use Rattle.gix_ref_transaction.specs.LeftLocks.{HasRoom};
@@ -138,13 +138,12 @@ fn find_and_peel<F: Files, T: Find>(
     requires places { place_paths edits.old ≡ places_of (setting_of settings.now)
         (updates edits.old) }
     ensures asked { all_asked edits.new ≡ all_asked edits.old }
-    ensures opened { F.honest → OnOk result (IsOpenable settings.now.kind
-        (packed_refs_in settings.now (F.means files.old))) }
+    ensures opened { F.honest → OnOk result (IsOpenableWith settings.now (F.means files.old)) }
     ensures read { F.honest → OnOk result (AreRecordIds (setting_of settings.now)
         settings.now.kind (contents F.means files.old) (updates edits.old) (ids_in edits.new)) }
-    ensures found { F.honest → (rs : List Record) → ArePackedRecords settings.now.kind
-        (packed_refs_in settings.now (F.means files.old)) rs → OnOk result
-        (ids_in edits.new ≡ ids_among (setting_of settings.now) rs (updates edits.old)) }
+    ensures found { F.honest → (rs : List Record) → ArePackedRecordsWith settings.now
+        (F.means files.old) rs → OnOk result (ids_in edits.new ≡ ids_among (setting_of settings.now)
+        rs (updates edits.old)) }
     ensures put { OnOk result (ArePut (OfFinder T.claims packed_refs.now)
         (ends_of T.meaning packed_refs.now) (setting_of settings.now) (mode_in packed_refs.now)
         settings.now.kind edits.new) }
@@ -179,8 +178,7 @@ fn find_and_lock<F: Files, T: Find>(
         (setting_of settings.now) (mode_in packed_refs.now)
         settings.now.kind (locks_of (setting_of settings.now) (updates edits.items))
         (F.means files.old) (F.means files.new) edits.items held.edits.items remains held.remains) }
-    ensures opened { F.honest → IfOk result (λ _. IsOpenable settings.now.kind
-        (packed_refs_in settings.now (F.means files.old))) }
+    ensures opened { F.honest → IfOk result (λ _. IsOpenableWith settings.now (F.means files.old)) }
     ensures read { F.honest → IfOk result (λ held. AreRecordIds (setting_of settings.now)
         settings.now.kind (contents F.means files.old) (updates edits.items)
         (ids_in held.edits.items)) }
@@ -242,8 +240,7 @@ pub fn lock_edits<F: Files, T: Find>(
         (setting_of settings.now) (mode_in packed_refs.now) settings.now.kind (own_locks (setting_of
         settings.now) (mode_in packed_refs.now) (F.means files.old).tree (updates edits.items))
         (F.means files.old) (F.means files.new) edits.items held.edits.items remains held.remains) }
-    ensures opened { F.honest → IfOk result (λ _. IsOpenable settings.now.kind
-        (packed_refs_in settings.now (F.means files.old))) }
+    ensures opened { F.honest → IfOk result (λ _. IsOpenableWith settings.now (F.means files.old)) }
     ensures read { F.honest → IfOk result (λ held. AreRecordIds (setting_of settings.now)
         settings.now.kind (contents F.means files.old) (updates edits.items)
         (ids_in held.edits.items)) }

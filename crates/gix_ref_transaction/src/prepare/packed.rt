@@ -13,7 +13,7 @@ pub enum Error {
     /// The object of an update is missing, or is a tag that names no object.
     #[error("an object is missing, or is a tag that names none")]
     Resolve,
-    /// The object of an update is behind more than 1,000 tags.
+    /// The object of an update is at the end of more than 1,000 tags.
     #[error("there are more than 1000 tags in a row")]
     TagChainTooLong,
     /// An object could not be read.

@@ -9,7 +9,7 @@ ghost use Rattle.gix_ref_files.specs.ReadOnly.{OnlyReads};
 ghost use Rattle.gix_ref_theory.specs.OnRealTrees.{contents};
 ghost use Rattle.gix_ref_packed.specs.OpenFiles.{HasReadFault};
 ghost use Rattle.gix_ref_edits.specs.RefEdits.{name_of};
-ghost use Rattle.gix_ref_lookup.specs.Lookups.{packed_refs_in, ArePackedRecords, AreAsked, AreHonest, AreStillAsked, IsOpenable, IsOpenedText, IsReady, IsSearched, OfKey, SearchesNone};
+ghost use Rattle.gix_ref_lookup.specs.Lookups.{AreAsked, AreHonest, ArePackedRecords, ArePackedRecordsWith, AreStillAsked, IsOpenableWith, IsOpenedText, IsReady, IsSearched, OfKey, SearchesNone, packed_refs_in};
 ghost use Rattle.gix_ref_transaction.specs.Causes.{decoded, id_of_record, packed_id, AllWithIds, AreRecordIds, IsCounted, IsCountedWith, IsHidden, IsIoOrMemory, IsPackedRefusal, OfSomeKey};
 ghost use Rattle.gix_ref_transaction.specs.internal.StuckRecords.{AreNotFound, IsAskedId, IsFindError, IsNamedId, IsSearchFault, IsSearchedId, IsStuckKey, is_held};
 ghost use Rattle.gix_ref_transaction.specs.PackedCauses.{as_cause, ids_among};
@@ -217,8 +217,9 @@ fn find_ids<F: Files>(
 
 /// The records of `packed-refs`, which is not open yet; none where it is known that there is no such file.
 fn unopened<'b, R: ReadAt + Drop>(known_missing: bool) -> Records<'b, R>
-    ensures asked { (kind : Kind) (file : Option (List ℕ)) (rs : List Record) → (known_missing ≡ true →
-        file ≡ None) → ArePackedRecords kind file rs → AreAsked kind file result rs }
+    ensures asked { (kind : Kind) (file : Option (List ℕ)) (rs : List Record) →
+        (known_missing ≡ true → file ≡ None) → ArePackedRecords kind file rs →
+        AreAsked kind file result rs }
     ensures searched { (kind of_kind : Kind) (file : Option (List ℕ)) (text : List ℕ) →
         IsSearched kind file result of_kind text → IsOpenedText kind file of_kind text }
     ensures honest { AreHonest result }
@@ -247,11 +248,10 @@ pub fn find_records<F: Files>(
     requires places { place_paths edits.old ≡ places_of (setting_of settings.now)
         (updates edits.old) }
     ensures asked { all_asked edits.new ≡ all_asked edits.old }
-    ensures found { F.honest → (rs : List Record) → ArePackedRecords settings.now.kind
-        (packed_refs_in settings.now (F.means files.old)) rs → OnOk result
-        (ids_in edits.new ≡ ids_among (setting_of settings.now) rs (updates edits.old)) }
-    ensures opened { F.honest → OnOk result (IsOpenable settings.now.kind
-        (packed_refs_in settings.now (F.means files.old))) }
+    ensures found { F.honest → (rs : List Record) → ArePackedRecordsWith settings.now
+        (F.means files.old) rs → OnOk result (ids_in edits.new ≡ ids_among (setting_of settings.now)
+        rs (updates edits.old)) }
+    ensures opened { F.honest → OnOk result (IsOpenableWith settings.now (F.means files.old)) }
     ensures read { F.honest → OnOk result (AreRecordIds (setting_of settings.now)
         settings.now.kind (contents F.means files.old) (updates edits.old) (ids_in edits.new)) }
     ensures failed { IfErr result

@@ -20,10 +20,10 @@ loop-path-init g c =
 pub loop-path-preserved : goal.loop-path-preserved
 loop-path-preserved g c =
     let x = c.loop-path.invariant in
-    let e = c.remove_above.ensures in
+    let e = c.remove_above_next.ensures in
     let old = g.F.Files.means c.args.files.now in
     let mid = g.F.Files.means c.loop-path.files in
-    let new = g.F.Files.means c.remove_above.new.files in
+    let new = g.F.Files.means c.remove_above_next.new.files in
     record {
       leaves = λ h. leaves_then c.args.dirs.now (paths_of c.args.paths.now) old mid new (x.leaves h)
           (weaken (e.leaves h) (λ T goes. go_among c.args.dirs.now c.args.paths.now c.loop-path.path-index c.path-item.result c.deref.result.now mid.tree T c.loop-path-test.true (c.deref.ensures.value ∙ ap (λ (v : Vec ℕ Global). v.items) c.path-item.is) goes));

@@ -20,7 +20,7 @@ use std::alloc::Global;
 
 /// The lines of a log, newest first.
 ///
-/// `buf[..end]` holds the bytes of the file from `pos` on. While it reads, the LF behind the window was passed, and is not
+/// `buf[..end]` holds the bytes of the file from `pos` on. While it reads, the LF after the window was passed, and is not
 /// in it.
 #[derive(Drop)]
 pub struct Reverse<'a, F> {

@@ -11,7 +11,7 @@ use crate::log::lines::strip_cr;
 use gix_ref_hash::bytes::{cut, find_tab_or_lf};
 use gix_ref_hash::hash::are_hex;
 
-/// The ids of a SHA-1 at the front, and what follows the space behind them. `None` says nothing.
+/// The ids of a SHA-1 at the front, and what follows the space after them. `None` says nothing.
 #[inline(always)]
 fn sha1_ids(text: &[u8]) -> Option<(&[u8], &[u8], &[u8])>
     ensures { IfSome result (λ p. (ids : List ℕ) × IdFront text.now p.0.now ids

@@ -14,7 +14,7 @@ ghost use Rattle.gix_ref_packed_text.specs.Views.{record_of};
 use crate::packed::Reference;
 use crate::packed::lines::{after_newline, take_line};
 use gix_ref_hash::bytes::strip_front;
-use gix_ref_hash::hash::{Kind, hex_hash};
+use gix_ref_hash::hash::{Kind, split_id};
 use gix_ref_name::name::FullNameRef;
 use std::cmp::Ordering;
 
@@ -34,24 +34,12 @@ pub fn split_record_line(text: &[u8], kind: Kind) -> Option<(&[u8], &[u8], &[u8]
     Some((&text[..len], name, rest))
 }
 
-/// The digits of an id at the front of the text, and what follows them.
-fn take_id(text: &[u8], kind: Kind) -> Option<(&[u8], &[u8])>
-    ensures { MatchOption result ((digits rest : List ℕ) → IsHexOf kind digits → text.now
-        ≡ digits ++ rest → ⊥) (λ p. IsHexOf kind p.0.now × (text.now ≡ p.0.now ++ p.1.now)) }
-{
-    let mut rest = text;
-    let Some(digits) = hex_hash(&mut rest, kind) else {
-        return None;
-    };
-    Some((digits, rest))
-}
-
 /// Whether a text as long as the digits of an id of the kind is that.
 fn is_id(text: &[u8], kind: Kind) -> bool
     requires { length text.now ≡ 2 * kind_len kind }
     ensures { MatchBool result (IsHexOf kind text.now) (IsHexOf kind text.now → ⊥) }
 {
-    match take_id(text, kind) {
+    match split_id(text, kind) {
         Some(_) => true,
         None => false,
     }
@@ -66,7 +54,7 @@ fn take_peeled(text: &[u8], kind: Kind) -> Option<(Option<&[u8]>, &[u8])>
     let Some(line) = strip_front(text, b"^") else {
         return Some((None, text));
     };
-    let Some((object, after)) = take_id(line, kind) else {
+    let Some((object, after)) = split_id(line, kind) else {
         return None;
     };
     let Some(rest) = after_newline(after) else {

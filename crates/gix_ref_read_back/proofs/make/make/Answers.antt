@@ -1,5 +1,5 @@
 use Rattle.std.proofs.Common.{◌≡◌, ◌∙◌, rules, List, ap, subst, sym, length}
-use Rattle.gix_ref_files.specs.Files.{HasRisenBy}
+use Rattle.gix_ref_files.specs.Files.{HasRisenBy, LossesLeave, StopsLeave}
 use Rattle.gix_ref_files.specs.Tree.{Path}
 use Rattle.gix_ref_packed.specs.OpenFiles.{HasReadFault}
 use Rattle.gix_ref_transaction.specs.OwnLocks.{paths_of}
@@ -8,6 +8,8 @@ use Rattle.gix_ref_store.specs.Prepared.{RefusesGiven}
 use Rattle.gix_ref_store.specs.CommitResult.{left_of, mode_handed_back, EveryStopFrom}
 use Rattle.gix_ref_store.specs.Store.{files_of}
 use Rattle.gix_ref_read_back.specs.WholeRuns.{HasFailed, MakesEdited, Prepares}
+use Rattle.gix_ref_read_back.specs.PlainPromises.{EachReadsOldOrNew}
+use Rattle.gix_ref_read_back.proofs.PlainLemmas.{losses_plain, made_losses, made_stops, refused_losses, refused_stops, stops_plain}
 use Rattle.gix_ref_read_back.proofs.Committed.{carried_before, committed_before, keeps, keeps_split, losses_same, stops_same}
 use Rattle.gix_ref_store.proofs.SameStores.{at_same, same_on}
 use Rattle.gix_ref_read_back.proofs.make.make.Goals as goal
@@ -106,3 +108,103 @@ returns-in-Err-clause-not_made g c =
     let from : RefusesGiven F.honest read F.means F.faults (OfFinder g.T.Find.claims given) (ends_of g.T.Find.meaning given) (mode_in given) c.transaction_with.result.store.now new edits refused.error left × (refused.packed_refs ≡ given) = search rules in
     at_same (λ now. RefusesGiven F.honest read F.means F.faults (OfFinder g.T.Find.claims uses) (ends_of g.T.Find.meaning uses) (mode_in uses) old now edits refused.error left × (refused.packed_refs ≡ uses)) {x = c.store-in-Err-2.given.0} {y = new} (search rules)
     (rw (c.transaction_with.ensures.packed_refs, c.transaction_with.ensures.value) at from)
+
+pub returns-in-Err-commit-clause-stops : goal.returns-in-Err-commit-clause-stops
+returns-in-Err-commit-clause-stops g c h good =
+    let F = g.F.Files in
+    let uses = c.args.packed_refs in
+    let mode = mode_in uses in
+    let old = c.args.store.now in
+    let mid = c.in-Ok.prepared.store.now in
+    let new = c.commit.new.self.0 in
+    let edits = c.args.edits.items in
+    let packed = c.in-Ok.prepared.plan.packed in
+    let held = c.in-Ok.prepared.plan.edits.items in
+    let from : Prepares F.honest F.means F.faults g.T.Find.claims g.T.Find.meaning uses old mid edits packed held = rw (c.transaction_with.ensures.packed_refs, c.transaction_with.ensures.value) at c.in-Ok.ensures.prepared in
+    at_same (λ now. StopsLeave (F.means (files_of old)) (F.means (files_of now)) (EachReadsOldOrNew F.honest F.means F.faults old edits)) {x = c.store-in-Ok-1.given.0} {y = new} (search rules)
+    (stops_plain F.honest F.means F.faults old new edits (made_stops F.honest F.means F.faults (OfFinder g.T.Find.claims uses) (ends_of g.T.Find.meaning uses) mode old mid new edits c.args.committer packed held (left_of c.commit.result) from c.commit.ensures.safe.stops h good)
+    (λ T left. g.met.F.Files.only_now (files_of old) T h left))
+
+pub returns-in-Err-commit-clause-losses : goal.returns-in-Err-commit-clause-losses
+returns-in-Err-commit-clause-losses g c h good at_rest =
+    let F = g.F.Files in
+    let uses = c.args.packed_refs in
+    let mode = mode_in uses in
+    let old = c.args.store.now in
+    let mid = c.in-Ok.prepared.store.now in
+    let new = c.commit.new.self.0 in
+    let edits = c.args.edits.items in
+    let packed = c.in-Ok.prepared.plan.packed in
+    let held = c.in-Ok.prepared.plan.edits.items in
+    let from : Prepares F.honest F.means F.faults g.T.Find.claims g.T.Find.meaning uses old mid edits packed held = rw (c.transaction_with.ensures.packed_refs, c.transaction_with.ensures.value) at c.in-Ok.ensures.prepared in
+    at_same (λ now. LossesLeave (F.means (files_of old)) (F.means (files_of now)) (EachReadsOldOrNew F.honest F.means F.faults old edits)) {x = c.store-in-Ok-1.given.0} {y = new} (search rules)
+    (losses_plain F.honest F.means F.faults mode old new edits at_rest (made_losses F.honest F.means F.faults (OfFinder g.T.Find.claims uses) (ends_of g.T.Find.meaning uses) mode old mid new edits c.args.committer packed held (left_of c.commit.result) from c.commit.ensures.safe.losses h good at_rest)
+    (λ D found. g.met.F.Files.only_disk (files_of old) D h found))
+
+pub returns-in-Ok-commit-clause-stops : goal.returns-in-Ok-commit-clause-stops
+returns-in-Ok-commit-clause-stops g c h good =
+    let F = g.F.Files in
+    let uses = c.args.packed_refs in
+    let mode = mode_in uses in
+    let old = c.args.store.now in
+    let mid = c.in-Ok.prepared.store.now in
+    let new = c.commit.new.self.0 in
+    let edits = c.args.edits.items in
+    let packed = c.in-Ok.prepared.plan.packed in
+    let held = c.in-Ok.prepared.plan.edits.items in
+    let from : Prepares F.honest F.means F.faults g.T.Find.claims g.T.Find.meaning uses old mid edits packed held = rw (c.transaction_with.ensures.packed_refs, c.transaction_with.ensures.value) at c.in-Ok.ensures.prepared in
+    at_same (λ now. StopsLeave (F.means (files_of old)) (F.means (files_of now)) (EachReadsOldOrNew F.honest F.means F.faults old edits)) {x = c.store-in-Ok-1.given.0} {y = new} (search rules)
+    (stops_plain F.honest F.means F.faults old new edits (made_stops F.honest F.means F.faults (OfFinder g.T.Find.claims uses) (ends_of g.T.Find.meaning uses) mode old mid new edits c.args.committer packed held (left_of c.commit.result) from c.commit.ensures.safe.stops h good)
+    (λ T left. g.met.F.Files.only_now (files_of old) T h left))
+
+pub returns-in-Ok-commit-clause-losses : goal.returns-in-Ok-commit-clause-losses
+returns-in-Ok-commit-clause-losses g c h good at_rest =
+    let F = g.F.Files in
+    let uses = c.args.packed_refs in
+    let mode = mode_in uses in
+    let old = c.args.store.now in
+    let mid = c.in-Ok.prepared.store.now in
+    let new = c.commit.new.self.0 in
+    let edits = c.args.edits.items in
+    let packed = c.in-Ok.prepared.plan.packed in
+    let held = c.in-Ok.prepared.plan.edits.items in
+    let from : Prepares F.honest F.means F.faults g.T.Find.claims g.T.Find.meaning uses old mid edits packed held = rw (c.transaction_with.ensures.packed_refs, c.transaction_with.ensures.value) at c.in-Ok.ensures.prepared in
+    at_same (λ now. LossesLeave (F.means (files_of old)) (F.means (files_of now)) (EachReadsOldOrNew F.honest F.means F.faults old edits)) {x = c.store-in-Ok-1.given.0} {y = new} (search rules)
+    (losses_plain F.honest F.means F.faults mode old new edits at_rest (made_losses F.honest F.means F.faults (OfFinder g.T.Find.claims uses) (ends_of g.T.Find.meaning uses) mode old mid new edits c.args.committer packed held (left_of c.commit.result) from c.commit.ensures.safe.losses h good at_rest)
+    (λ D found. g.met.F.Files.only_disk (files_of old) D h found))
+
+pub returns-in-Err-clause-stops : goal.returns-in-Err-clause-stops
+returns-in-Err-clause-stops g c h good =
+    let F = g.F.Files in
+    let uses = c.args.packed_refs in
+    let mode = mode_in uses in
+    let read = HasReadFault g.F.Reader.ReadAt.faults in
+    let old = c.args.store.now in
+    let new = c.prepare.follows.lender-at-none in
+    let edits = c.args.edits.items in
+    let refused = c.in-Err.refused in
+    let left = paths_of refused.locks_left.items in
+    let given = c.transaction_with.result.packed_refs in
+    let told : RefusesGiven F.honest read F.means F.faults (OfFinder g.T.Find.claims given) (ends_of g.T.Find.meaning given) (mode_in given) c.transaction_with.result.store.now new edits refused.error left × (refused.packed_refs ≡ given) = search rules in
+    let from : RefusesGiven F.honest read F.means F.faults (OfFinder g.T.Find.claims uses) (ends_of g.T.Find.meaning uses) mode old new edits refused.error left = (rw (c.transaction_with.ensures.packed_refs, c.transaction_with.ensures.value) at told).0 in
+    at_same (λ now. StopsLeave (F.means (files_of old)) (F.means (files_of now)) (EachReadsOldOrNew F.honest F.means F.faults old edits)) {x = c.store-in-Err-2.given.0} {y = new} (search rules)
+    (stops_plain F.honest F.means F.faults old new edits (refused_stops F.honest F.means F.faults mode old new edits from.refuses.tried (from.refuses.leaves h))
+    (λ T left. g.met.F.Files.only_now (files_of old) T h left))
+
+pub returns-in-Err-clause-losses : goal.returns-in-Err-clause-losses
+returns-in-Err-clause-losses g c h good at_rest =
+    let F = g.F.Files in
+    let uses = c.args.packed_refs in
+    let mode = mode_in uses in
+    let read = HasReadFault g.F.Reader.ReadAt.faults in
+    let old = c.args.store.now in
+    let new = c.prepare.follows.lender-at-none in
+    let edits = c.args.edits.items in
+    let refused = c.in-Err.refused in
+    let left = paths_of refused.locks_left.items in
+    let given = c.transaction_with.result.packed_refs in
+    let told : RefusesGiven F.honest read F.means F.faults (OfFinder g.T.Find.claims given) (ends_of g.T.Find.meaning given) (mode_in given) c.transaction_with.result.store.now new edits refused.error left × (refused.packed_refs ≡ given) = search rules in
+    let from : RefusesGiven F.honest read F.means F.faults (OfFinder g.T.Find.claims uses) (ends_of g.T.Find.meaning uses) mode old new edits refused.error left = (rw (c.transaction_with.ensures.packed_refs, c.transaction_with.ensures.value) at told).0 in
+    at_same (λ now. LossesLeave (F.means (files_of old)) (F.means (files_of now)) (EachReadsOldOrNew F.honest F.means F.faults old edits)) {x = c.store-in-Err-2.given.0} {y = new} (search rules)
+    (losses_plain F.honest F.means F.faults mode old new edits at_rest (refused_losses F.honest F.means F.faults mode old new edits from.refuses.tried at_rest (from.refuses.lost h))
+    (λ D found. g.met.F.Files.only_disk (files_of old) D h found))

@@ -1,6 +1,6 @@
 use Rattle.std.proofs.Common.{sym, ◌∙◌}
 use Rattle.gix_ref_hash.proofs.IdLemmas.{front_not_hex}
-use Rattle.gix_ref_hash.proofs.hash.id_of_kind.Goals as goal
+use Rattle.gix_ref_hash.proofs.hash.split_id.Goals as goal
 
 pub returns-then-not-are_hex : goal.returns-then-not-are_hex
 returns-then-not-are_hex c =

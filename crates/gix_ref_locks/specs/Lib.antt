@@ -1,0 +1,3 @@
+pub mod LockFiles
+pub mod LockWalks
+pub mod Removals
