@@ -41,9 +41,11 @@ report() {
     done
 }
 
-# build_anew PROGRAM: proves and builds it by `rt ci`, in a temporary folder of just the crates that it needs, without their wrong
+# build_anew PROGRAM [object]: proves and builds it by `rt ci`, in a temporary folder of just the crates that it needs, without their wrong
 # bodies: as many side by side as there are processors, the longest chain of crates first. What is proved stays kept on this machine, for
-# later calls, for other clones and for `bin/test`; where two calls come to the same crate, the second waits for the first.
+# later calls, for other clones and for `bin/test`; where two calls come to the same crate, the second waits for the first. With `object`
+# it makes the object file too. Of a program that is kept there is none, so this proves the crate of the program itself again, with a comment
+# in it that no other call has, over the crates below it as they are kept.
 build_anew() {
     local script=${1//_/-} program=$top/crates/$1/out/$1 room crate part
     seen=""
@@ -60,26 +62,34 @@ build_anew() {
         done
         sed -n "/^$crate:/p" "$top/crates.txt" >>"$room/crates.txt"
     done
+    if [ "${2-}" = object ]; then printf '\n// %s\n' "$room" >>"$room/crates/$1/src/main.rt"; fi
     (cd "$room" && exec rt ci </dev/null 2>&1) | tee "$room/log" | report "$script"
     if [ "${PIPESTATUS[0]}" -ne 0 ]; then
         rm -rf "$room/crates" "$room/.git"
         echo "$script: the program was not proved and built; the output is in $room/log" >&2
         exit 1
     fi
-    # A source that was changed meanwhile is newer than the program.
     mkdir -p "${program%/*}"
-    cp "$room/crates/$1/out/$1" "$program.$$"
-    touch -r "$room/HANDLES" "$program.$$"
-    mv "$program.$$" "$program"
+    if [ "${2-}" = object ]; then take "$room" "$1" .o; fi
+    take "$room" "$1" ""
     rm -rf "$room"
     trap - INT TERM
 }
 
-# build PROGRAM: proves and builds the program of this crate where a source is newer than it.
+# take ROOM PROGRAM ENDING: moves what was built in the room to the crate's own folder. A source that was changed meanwhile is newer.
+take() {
+    local file=$top/crates/$2/out/$2$3
+    cp "$1/crates/$2/out/$2$3" "$file.$$"
+    touch -r "$1/HANDLES" "$file.$$"
+    mv "$file.$$" "$file"
+}
+
+# build PROGRAM [object]: proves and builds the program of this crate, or its object file, where a source is newer than it.
 build() {
-    local program=$top/crates/$1/out/$1
-    if [ ! -x "$program" ] || [ -n "$(find "$top/crates.txt" "$top"/crates/*/src "$top"/crates/*/specs "$top"/crates/*/proofs \
-        -type f -newer "$program" -print -quit 2>/dev/null)" ]; then
-        build_anew "$1"
+    local made=$top/crates/$1/out/$1
+    if [ "${2-}" = object ]; then made=$made.o; fi
+    if [ ! -f "$made" ] || [ -n "$(find "$top/crates.txt" "$top"/crates/*/src "$top"/crates/*/specs "$top"/crates/*/proofs \
+        -type f -newer "$made" -print -quit 2>/dev/null)" ]; then
+        build_anew "$@"
     fi
 }

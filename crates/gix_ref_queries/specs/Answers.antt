@@ -1,0 +1,130 @@
+-- What a command answers.
+use Rattle.std.specs.Prelude.{◌≡◌, ◌⊎◌, ℕ, List, [], ◌++◌, Vec, codes, Bool, true, false, if◌then◌else◌, bytes_eq, nat_eq, ◌||◌, ◌&&◌, is_none}
+use Rattle.gix_ref_name.specs.NameGrammar.{full_error, partial_error}
+use Rattle.std.specs.List.{flat_map, starts_with}
+use Rattle.std.specs.declared.alloc.Global.{Global}
+use Rattle.gix_ref_files.specs.Files.{FaultCounts, Meaning}
+use Rattle.gix_ref_locks.specs.LockFiles.{IsLockFailure}
+use Rattle.gix_ref_locks.specs.Removals.{StopsAt}
+use Rattle.gix_ref_locks.specs.declared.locks.Error.{Error as LockError}
+use Rattle.gix_ref_locks.specs.declared.locks.Error.TheVariants as unlisted
+use Rattle.gix_ref_store.specs.Lookup.{settings_of}
+use Rattle.gix_ref_store.specs.Locks.{AreLocks, AreRemoved}
+use Rattle.gix_ref_files.specs.Tree.{is_file}
+use Rattle.gix_ref_lookup.specs.declared.reflog.error.Error.{Error as LogError}
+use Rattle.gix_ref_store.specs.Reflogs.{reflog_at, IsNoReflog}
+use Rattle.gix_ref_store.specs.Store.{files_of, meaning_of}
+use Rattle.gix_ref_store.specs.declared.file.store.Store.{Store}
+use Rattle.hex.specs.Hex.{encode_lower}
+use Rattle.gix_ref_hash.specs.Ids.{id_bytes}
+use Rattle.gix_ref_queries.specs.Resolving.{HitsByName, NameEnd, resolved}
+use Rattle.gix_ref_queries.specs.Resolving.NameEnd.{Reached, Missing, TooDeep}
+use Rattle.gix_ref_queries.specs.declared.resolve.End.{End}
+use Rattle.gix_ref_queries.specs.declared.resolve.End.TheVariants as ends
+use Rattle.gix_ref_queries.specs.declared.answer.Answer.{Answer}
+
+-- a text and a status, and no error
+abbrev pub Says : (text : List ℕ) → (status : ℕ) → Answer → Type 0
+Says text status answer =
+    (answer.text.items ≡ text) × (answer.errors.items ≡ []) × (answer.status ≡ status)
+
+-- an error in Git's form, behind a text, and its status
+abbrev pub FailsAfter : (text message : List ℕ) → Answer → Type 0
+FailsAfter text message answer = (answer.text.items ≡ text)
+    × (answer.errors.items ≡ codes "fatal: " ++ (message ++ codes "\n")) × (answer.status ≡ 128)
+
+abbrev pub Fails : (message : List ℕ) → Answer → Type 0
+Fails message answer = FailsAfter [] message answer
+
+-- `show-ref --verify`: the id of the object that a name leads to, and the name
+abbrev pub VerifyAnswer : NameEnd → (name : List ℕ) → Answer → Type 0
+VerifyAnswer (Reached last id) name answer =
+    Says (encode_lower (id_bytes id) ++ (codes " " ++ (name ++ codes "\n"))) 0 answer
+VerifyAnswer end name answer = Fails (codes "'" ++ (name ++ codes "' - not a valid ref")) answer
+
+-- `symbolic-ref`: the last name that another one leads to
+abbrev pub LastNameBy : (same : Bool) → (last name : List ℕ) → Answer → Type 0
+LastNameBy true last name answer =
+    Fails (codes "ref " ++ (name ++ codes " is not a symbolic ref")) answer
+LastNameBy false last name answer = Says (last ++ codes "\n") 0 answer
+
+abbrev pub LastName : (last name : List ℕ) → Answer → Type 0
+LastName last name answer = LastNameBy (bytes_eq last name) last name answer
+
+abbrev pub SymbolicAnswer : NameEnd → (name : List ℕ) → Answer → Type 0
+SymbolicAnswer (Reached last id) name answer = LastName last name answer
+SymbolicAnswer (Missing last) name answer = LastName last name answer
+SymbolicAnswer TooDeep name answer = Fails (codes "No such ref: " ++ name) answer
+
+-- the answers for a following that ends so
+abbrev pub EndVerified : End → (name : List ℕ) → Answer → Type 0
+EndVerified (ends.Object id) name answer =
+    Says (encode_lower (id_bytes id) ++ (codes " " ++ (name ++ codes "\n"))) 0 answer
+EndVerified ends.Memory name answer = ⊥
+EndVerified end name answer = Fails (codes "'" ++ (name ++ codes "' - not a valid ref")) answer
+
+abbrev pub EndNamed : End → (last name : List ℕ) → Answer → Type 0
+EndNamed (ends.Object id) last name answer = LastName last name answer
+EndNamed ends.Absent last name answer = LastName last name answer
+EndNamed ends.Memory last name answer = ⊥
+EndNamed end last name answer = Fails (codes "No such ref: " ++ name) answer
+
+-- a name may be verified: a full name that begins with `refs/` or is `HEAD`
+abbrev pub is_verifiable : (name : List ℕ) → Bool
+is_verifiable name = (starts_with nat_eq name (codes "refs/") || bytes_eq name (codes "HEAD"))
+    && is_none (full_error name)
+
+-- and what is answered where lookups find this
+abbrev pub VerifiesAs : HitsByName → (name : List ℕ) → Answer → Type 0
+VerifiesAs find name answer =
+    VerifyAnswer (if is_verifiable name then resolved find 5 name else TooDeep) name answer
+
+abbrev pub SymbolicAs : HitsByName → (name : List ℕ) → Answer → Type 0
+SymbolicAs find name answer = SymbolicAnswer
+    (if is_none (partial_error name) then resolved find 5 name else TooDeep) name answer
+
+-- a line for each path
+abbrev pub path_lines : List (Vec ℕ Global) → List ℕ
+path_lines paths = flat_map (λ (path : Vec ℕ Global). path.items ++ codes "\n") paths
+
+-- the error for lock files that are not listed by a fault; want of memory has none
+abbrev pub IsUnlistedBy : LockError → Answer → Type 0
+IsUnlistedBy unlisted.Memory answer = ⊥
+IsUnlistedBy (unlisted.Io path source) answer =
+    Fails (codes "cannot look at '" ++ (path.items ++ codes "'")) answer
+
+module _ {F : Type 0} (means : F → Meaning) (faults : F → FaultCounts) where
+  -- why lock files are not listed: by a fault that was counted
+  abbrev pub IsUnlisted : (old new : Store F) → Answer → Type 0
+  IsUnlisted old new answer = (error : LockError)
+      × IsLockFailure (settings_of old) (faults (files_of old)) (faults (files_of new)) error
+      × IsUnlistedBy error answer
+
+  -- `locks`: a line for each lock file; or why they are not listed
+  abbrev pub LocksAnswer : (honest : Type 0) → (old new : Store F) → Answer → Type 0
+  LocksAnswer honest old new answer =
+      ((paths : List (Vec ℕ Global)) × (honest → AreLocks means old paths)
+      × Says (path_lines paths) 0 answer) ⊎ IsUnlisted old new answer
+
+  -- `locks --remove`: a line for each lock file, all of which were removed; or why they are not listed, and then none was removed; or
+  -- a line for each that was removed before one that could not be
+  abbrev pub RemovesAnswer : (honest : Type 0) → (old new : Store F) → Answer → Type 0
+  RemovesAnswer honest old new answer =
+      ((paths : List (Vec ℕ Global)) × (honest → AreRemoved means old new paths)
+      × Says (path_lines paths) 0 answer)
+      ⊎ ((IsUnlisted old new answer
+      × (honest → (means (files_of new)).tree ≡ (means (files_of old)).tree))
+      ⊎ ((removed : List (Vec ℕ Global)) × (path : Vec ℕ Global)
+      × (honest → StopsAt (meaning_of old) (means (files_of old)).tree (means (files_of new)).tree
+      removed path) × FailsAfter (path_lines removed)
+      (codes "cannot remove '" ++ (path.items ++ codes "'")) answer))
+
+  -- `reflog exists`: whether there is a log; or the name is no valid one; or the log is not looked at
+  abbrev pub ExistsAs : (honest : Type 0) → (old : Store F) → (name : List ℕ) → Answer → Type 0
+  ExistsAs honest old name answer = ((is_none (partial_error name) ≡ true)
+      × (status : ℕ) × (honest → status ≡ (if is_file (reflog_at means old name) then 0 else 1))
+      × Says [] status answer)
+      ⊎ (((is_none (partial_error name) ≡ false)
+      × Fails (codes "invalid ref format: " ++ name) answer)
+      ⊎ ((error : LogError) × IsNoReflog old name error
+      × Fails (codes "cannot look at the reflog of " ++ name) answer))

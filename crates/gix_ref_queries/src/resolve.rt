@@ -1,0 +1,116 @@
+//! Following a reference from name to name, as Git resolves it: each name is looked up as it is.
+ghost use Rattle.std.specs.Prelude.{◌≡◌, List, ℕ, true};
+ghost use Rattle.gix_ref_name.specs.Names.{full_bytes, full_ref_bytes};
+ghost use Rattle.gix_ref_target.specs.PackedRecords.{Record};
+ghost use Rattle.gix_ref_queries.specs.Resolving.{finds_in};
+ghost use Rattle.gix_ref_store.specs.Lookup.{AreRecordsIn, LooksUp};
+ghost use Rattle.gix_ref_queries.specs.Resolving.{reads, resolved, ReadsAs, ReadFails, EndsAs, EndFails};
+
+use gix_ref_files::files::Files;
+use gix_ref_hash::hash::ObjectId;
+use gix_ref_name::name::{FullName, FullNameRef};
+use gix_ref_store::file::Store;
+use gix_ref_store::file::find::Error;
+use gix_ref_target::target::Target;
+use std::alloc::Global;
+
+/// How many names are looked up at most.
+const MAX_DEPTH: u8 = 5;
+
+/// What a name reads.
+#[derive(Debug, Drop)]
+pub enum NameRead {
+    /// This target.
+    Is(Target),
+    /// There is no such reference.
+    Absent,
+    /// The lookup failed.
+    Unread(Error),
+    /// There was no memory.
+    Memory,
+}
+
+/// What a full name reads, and not another name that it may be short for.
+fn read_name<F: Files>(alloc: Global, store: &mut Store<F>, name: FullNameRef<'_>) -> NameRead
+    ensures reads { F.honest → (records : List Record) → AreRecordsIn F.means store.old records →
+        ReadsAs (reads (finds_in F.means store.old records) (full_ref_bytes name.entry))
+        result }
+    ensures failed { ReadFails F.Reader.ReadAt F.honest F.means F.faults store.old result }
+    ensures unchanged { LooksUp F.honest F.means store.old store.new }
+{
+    match store.try_find(alloc, name.as_partial_name()) {
+        Ok(Some(found)) => if found.name.eq_bytes(name.to_path()) {
+            NameRead::Is(found.target)
+        } else {
+            NameRead::Absent
+        },
+        Ok(None) => NameRead::Absent,
+        Err(Error::Memory) => NameRead::Memory,
+        Err(error) => NameRead::Unread(error),
+    }
+}
+
+/// Where a following ends.
+#[derive(Debug, Drop)]
+pub enum End {
+    /// At this object, to which the reference of the last name points.
+    Object(ObjectId),
+    /// At a name without a reference.
+    Absent,
+    /// After too many names.
+    TooDeep,
+    /// A lookup failed.
+    Unread(Error),
+    /// There was no memory.
+    Memory,
+}
+
+/// A following: the last name, and where it ends.
+#[derive(Debug, Drop)]
+pub struct Followed {
+    pub name: FullName,
+    pub end: End,
+}
+
+/// Follows a name over at most five names.
+pub fn follow<F: Files>(alloc: Global, store: &mut Store<F>, name: FullName) -> Followed
+    ensures ends { F.honest → (records : List Record) → AreRecordsIn F.means store.old records →
+        EndsAs (resolved (finds_in F.means store.old records) 5 (full_bytes name)) result }
+    ensures failed { EndFails F.Reader.ReadAt F.honest F.means F.faults store.old result.end }
+    ensures unchanged { LooksUp F.honest F.means store.old store.new }
+{
+    let mut last = name;
+    for _ in 0..MAX_DEPTH {
+        match read_name(alloc, store, last.as_ref()) {
+            NameRead::Is(Target::Symbolic(next)) => last = next,
+            NameRead::Is(Target::Object(id)) => {
+                return Followed {
+                    name: last,
+                    end: End::Object(id),
+                };
+            }
+            NameRead::Absent => {
+                return Followed {
+                    name: last,
+                    end: End::Absent,
+                };
+            }
+            NameRead::Unread(error) => {
+                return Followed {
+                    name: last,
+                    end: End::Unread(error),
+                };
+            }
+            NameRead::Memory => {
+                return Followed {
+                    name: last,
+                    end: End::Memory,
+                };
+            }
+        }
+    }
+    Followed {
+        name: last,
+        end: End::TooDeep,
+    }
+}

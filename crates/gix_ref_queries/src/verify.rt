@@ -1,0 +1,172 @@
+//! `show-ref --verify` and `symbolic-ref`.
+ghost use Rattle.std.specs.Prelude.{◌≡◌, ◌⊎◌, ◌++◌, List, ℕ, IfOk, IfErr, MatchOption, MatchResult, Option, Some, None, codes, true, false};
+ghost use Rattle.gix_ref_name.specs.Names.{full_bytes, full_ref_bytes};
+ghost use Rattle.gix_ref_target.specs.PackedRecords.{Record};
+ghost use Rattle.gix_ref_queries.specs.Resolving.{finds_in};
+ghost use Rattle.gix_ref_store.specs.Lookup.{AreRecordsIn, LooksUp};
+ghost use Rattle.gix_ref_queries.specs.Answers.{Says, Fails, VerifyAnswer, SymbolicAnswer, LastName, is_verifiable, VerifiesAs, SymbolicAs, EndVerified, EndNamed};
+ghost use Rattle.hex.specs.Hex.{encode_lower};
+ghost use Rattle.gix_ref_hash.specs.Ids.{id_bytes};
+ghost use Rattle.gix_ref_queries.specs.Resolving.{resolved, IsUnread};
+
+use crate::answer::{Answer, fatal, said};
+use crate::resolve::{End, Followed, follow};
+use gix_ref_files::files::Files;
+use gix_ref_hash::hash::ObjectId;
+use gix_ref_name::name::FullNameRef;
+use gix_ref_store::file::Store;
+use std::alloc::{AllocError, Global};
+
+/// The name of a reference, where it may be verified: it begins with `refs/`, or is `HEAD`.
+fn verifiable(name: &[u8]) -> Option<FullNameRef<'_>>
+    ensures { MatchOption result (is_verifiable name.now ≡ false)
+        (λ full. (is_verifiable name.now ≡ true) × (full_ref_bytes full ≡ name.now)) }
+{
+    if !name.starts_with(b"refs/") && name != b"HEAD".as_slice() {
+        return None;
+    }
+    match FullNameRef::try_from(name) {
+        Ok(full) => Some(full),
+        Err(_) => None,
+    }
+}
+
+/// The answer for a name that leads to no object.
+fn not_valid(alloc: Global, name: &[u8]) -> Result<Answer, AllocError>
+    ensures { IfOk result (Fails (codes "'" ++ (name.now ++ codes "' - not a valid ref"))) }
+{
+    fatal(alloc, b"'", name, b"' - not a valid ref")
+}
+
+/// The answer for a name that leads to an object.
+fn valid(alloc: Global, id: ObjectId, name: &[u8]) -> Result<Answer, AllocError>
+    ensures { IfOk result (Says
+        (encode_lower (id_bytes id) ++ (codes " " ++ (name.now ++ codes "\n"))) 0) }
+{
+    let mut text = Vec::new(alloc);
+    id.push_hex(&mut text)?;
+    text.extend_from_slice(b" ")?;
+    text.extend_from_slice(name)?;
+    text.extend_from_slice(b"\n")?;
+    Ok(said(alloc, text, 0))
+}
+
+/// The answer for a name whose following ends so.
+fn verified(alloc: Global, name: &[u8], end: End) -> Result<Answer, AllocError>
+    ensures { IfOk result (EndVerified end name.now) }
+{
+    match end {
+        End::Object(id) => valid(alloc, id, name),
+        End::Absent | End::TooDeep | End::Unread(_) => not_valid(alloc, name),
+        End::Memory => Err(AllocError),
+    }
+}
+
+/// The answer for a name that may be verified.
+fn verify_full<F: Files>(
+    alloc: Global,
+    store: &mut Store<F>,
+    name: FullNameRef<'_>,
+) -> Result<Answer, AllocError>
+    ensures answers { F.honest → (records : List Record) → AreRecordsIn F.means store.old records →
+        IfOk result (λ answer. VerifyAnswer
+        (resolved (finds_in F.means store.old records) 5 (full_ref_bytes name.entry))
+        (full_ref_bytes name.entry) answer
+        ⊎ IsUnread F.Reader.ReadAt F.honest F.means F.faults store.old) }
+    ensures unchanged { LooksUp F.honest F.means store.old store.new }
+{
+    let owned = name.to_owned(alloc)?;
+    let Followed { name: _, end } = follow(alloc, store, owned);
+    let answer = verified(alloc, name.to_path(), end)?;
+    Ok(answer)
+}
+
+/// `show-ref --verify NAME`: the id of the object to which the name leads, and the name; `'NAME' - not a valid ref` with status 128
+/// where it leads to none, where it cannot be read, and where it neither begins with `refs/` nor is `HEAD`. Each name is looked up as
+/// it is, five at most. The error reports that there was no memory. As `git show-ref --verify`, which also asks for the object.
+pub fn verify<F: Files>(
+    alloc: Global,
+    store: &mut Store<F>,
+    name: &[u8],
+) -> Result<Answer, AllocError>
+    ensures answers { F.honest → (records : List Record) → AreRecordsIn F.means store.old records →
+        IfOk result (λ answer. VerifiesAs (finds_in F.means store.old records) name.now answer
+        ⊎ IsUnread F.Reader.ReadAt F.honest F.means F.faults store.old) }
+    ensures unchanged { LooksUp F.honest F.means store.old store.new }
+{
+    let answer = match verifiable(name) {
+        Some(full) => verify_full(alloc, store, full)?,
+        None => return not_valid(alloc, name),
+    };
+    Ok(answer)
+}
+
+/// The answer for the last name that another one leads to.
+fn last_name(alloc: Global, name: &[u8], last: &[u8]) -> Result<Answer, AllocError>
+    ensures { IfOk result (LastName last.now name.now) }
+{
+    if last == name {
+        return fatal(alloc, b"ref ", name, b" is not a symbolic ref");
+    }
+    let mut text = last.to_vec(alloc)?;
+    text.extend_from_slice(b"\n")?;
+    Ok(said(alloc, text, 0))
+}
+
+/// The answer for a name that no reference can have, or that cannot be followed.
+fn no_such_ref(alloc: Global, name: &[u8]) -> Result<Answer, AllocError>
+    ensures { IfOk result (Fails (codes "No such ref: " ++ name.now)) }
+{
+    fatal(alloc, b"No such ref: ", name, b"")
+}
+
+/// The answer for a name whose following ends so, with this last name.
+fn named(alloc: Global, name: &[u8], last: &[u8], end: End) -> Result<Answer, AllocError>
+    ensures { IfOk result (EndNamed end last.now name.now) }
+{
+    match end {
+        End::Object(_) | End::Absent => last_name(alloc, name, last),
+        End::TooDeep | End::Unread(_) => no_such_ref(alloc, name),
+        End::Memory => Err(AllocError),
+    }
+}
+
+/// The answer for a name that a reference may have.
+fn symbolic_full<F: Files>(
+    alloc: Global,
+    store: &mut Store<F>,
+    name: FullNameRef<'_>,
+) -> Result<Answer, AllocError>
+    ensures answers { F.honest → (records : List Record) → AreRecordsIn F.means store.old records →
+        IfOk result (λ answer. SymbolicAnswer
+        (resolved (finds_in F.means store.old records) 5 (full_ref_bytes name.entry))
+        (full_ref_bytes name.entry) answer
+        ⊎ IsUnread F.Reader.ReadAt F.honest F.means F.faults store.old) }
+    ensures unchanged { LooksUp F.honest F.means store.old store.new }
+{
+    let owned = name.to_owned(alloc)?;
+    let Followed { name: last, end } = follow(alloc, store, owned);
+    let answer = named(alloc, name.to_path(), last.to_path(), end)?;
+    Ok(answer)
+}
+
+/// `symbolic-ref NAME`: the last name to which a symbolic reference leads, whether or not a reference of that name exists;
+/// `ref NAME is not a symbolic ref` with status 128 where it is none, and `No such ref: NAME` where the name breaks a rule of names or
+/// cannot be followed. Each name is looked up as it is, five at most. The error reports that there was no memory. As
+/// `git symbolic-ref`.
+pub fn symbolic<F: Files>(
+    alloc: Global,
+    store: &mut Store<F>,
+    name: &[u8],
+) -> Result<Answer, AllocError>
+    ensures answers { F.honest → (records : List Record) → AreRecordsIn F.means store.old records →
+        IfOk result (λ answer. SymbolicAs (finds_in F.means store.old records) name.now answer
+        ⊎ IsUnread F.Reader.ReadAt F.honest F.means F.faults store.old) }
+    ensures unchanged { LooksUp F.honest F.means store.old store.new }
+{
+    let answer = match FullNameRef::from_path(name) {
+        Some(full) => symbolic_full(alloc, store, full)?,
+        None => return no_such_ref(alloc, name),
+    };
+    Ok(answer)
+}

@@ -1,0 +1,9 @@
+pub mod AnswerLemmas
+pub mod Closing
+pub mod Committing
+pub mod GatherLemmas
+pub mod InputLemmas
+pub mod LeadLemmas
+pub mod Looking
+pub mod QuoteLemmas
+pub mod Trying

@@ -1,0 +1,7 @@
+use Rattle.std.proofs.Common.{take}
+use Rattle.gix_ref_store.specs.Lookup.{LooksUp}
+use Rattle.gix_ref_session.specs.Leading.{AreLed}
+use Rattle.gix_ref_session.proofs.lead.led_edits.Given as goal
+
+abbrev pub invariant-loop-edit : goal.invariant-loop-edit
+invariant-loop-edit g l = let F = g.F.Files in LooksUp F.honest F.means l.fn.store l.store × AreLed (take l.edit-index l.edits) l.led.items

@@ -1,0 +1,10 @@
+use Rattle.std.proofs.Common.{length, List, ℕ, ◌++◌}
+use Rattle.gix_ref_session.specs.Quotes.{Unquotes}
+use Rattle.gix_ref_session.proofs.quote.unquote.Given as goal
+
+abbrev pub decreases-loop-byte : goal.decreases-loop-byte
+decreases-loop-byte l = length l.rest
+
+-- what the rest is for comes after what is there
+abbrev pub invariant-loop-byte : goal.invariant-loop-byte
+invariant-loop-byte l = (plain : List ℕ) → Unquotes l.rest plain → Unquotes l.quoted (l.plain.items ++ plain)

@@ -1,0 +1,7 @@
+use Rattle.std.proofs.Common.{take}
+use Rattle.gix_ref_session.specs.Commands.{texts}
+use Rattle.gix_ref_session.specs.Quotes.{ArePlain, plain_texts}
+use Rattle.gix_ref_session.proofs.quote.unquote_words.Given as goal
+
+abbrev pub invariant-loop-word : goal.invariant-loop-word
+invariant-loop-word l = ArePlain (texts (take l.word-index l.words)) (plain_texts l.plain.items)

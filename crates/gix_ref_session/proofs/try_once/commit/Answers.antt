@@ -1,0 +1,16 @@
+use Rattle.gix_ref_packed.specs.OpenFiles.{HasReadFault}
+use Rattle.gix_ref_store.specs.CommitResult.{left_of}
+use Rattle.gix_ref_session.proofs.Committing.{commit_ends, commit_leaves}
+use Rattle.gix_ref_session.proofs.try_once.commit.Goals as goal
+
+pub returns-clause-ends : goal.returns-clause-ends
+returns-clause-ends g c old edits from =
+    let F = g.F.Files in
+    commit_ends F.honest F.means F.faults old c.args.prepared.store.now c.commit.new.self.0 edits c.args.prepared.plan.packed c.args.prepared.plan.edits.items from
+    c.args.session.now.committer (HasReadFault g.F.Reader.ReadAt.faults) c.commit.result c.result_of.result c.result_of.ensures c.commit.ensures.committed c.commit.ensures.failed c.commit.ensures.safe c.commit.ensures.kept c.commit.ensures.same
+
+pub returns-clause-leaves : goal.returns-clause-leaves
+returns-clause-leaves g c old edits from h =
+    let F = g.F.Files in
+    commit_leaves F.honest F.means F.faults old c.args.prepared.store.now c.commit.new.self.0 edits c.args.prepared.plan.packed c.args.prepared.plan.edits.items from
+    c.args.session.now.committer (left_of c.commit.result) c.commit.ensures.safe h

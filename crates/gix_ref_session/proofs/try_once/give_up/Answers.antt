@@ -1,0 +1,15 @@
+use Rattle.gix_ref_transaction.specs.OwnLocks.{paths_of}
+use Rattle.gix_ref_session.proofs.Committing.{given_up, given_up_leaves}
+use Rattle.gix_ref_session.proofs.try_once.give_up.Goals as goal
+
+pub returns-clause-ends : goal.returns-clause-ends
+returns-clause-ends g c old edits from =
+    let F = g.F.Files in
+    given_up F.honest F.means F.faults old c.args.prepared.store.now c.rollback-given_up.new.self.0 edits c.args.prepared.plan.packed c.args.prepared.plan.edits.items from
+    (paths_of c.rollback-given_up.result.locks_left.items) c.rollback-given_up.ensures.rolled
+
+pub returns-clause-leaves : goal.returns-clause-leaves
+returns-clause-leaves g c committer old edits from h =
+    let F = g.F.Files in
+    given_up_leaves F.honest F.means F.faults old c.args.prepared.store.now c.rollback-given_up.new.self.0 edits c.args.prepared.plan.packed c.args.prepared.plan.edits.items from
+    committer (paths_of c.rollback-given_up.result.locks_left.items) c.rollback-given_up.ensures.rolled h

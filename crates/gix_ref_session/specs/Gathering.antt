@@ -1,0 +1,123 @@
+-- The commands of a transaction before it is closed, and their answers.
+use Rattle.std.specs.Prelude.{◌≡◌, ◌≢◌, ◌⊎◌, ℕ, List, [], ◌∷◌, ◌++◌, Bool, true, false, codes, Option, Some, None}
+use Rattle.std.specs.Io.KnownBytes.{Appends, IsAtEnd, Keeps}
+use Rattle.gix_ref_edits.specs.declared.transaction.RefEdit.{RefEdit}
+use Rattle.gix_ref_theory.specs.Sequences.{AreDone}
+use Rattle.gix_ref_session.specs.Commands.{Heard, Edit, NoDeref, Start, Prepare, Commit, Abort}
+use Rattle.gix_ref_session.specs.Edits.{IsEditOf}
+use Rattle.gix_ref_session.specs.Input.{Hears}
+use Rattle.gix_ref_session.specs.declared.fatal.Fatal.{Fatal}
+use Rattle.gix_ref_session.specs.declared.fatal.Fatal.TheVariants as fatals
+use Rattle.gix_ref_session.specs.declared.gather.Closing.{Closing}
+use Rattle.gix_ref_session.specs.declared.gather.Gathered.{Gathered}
+use Rattle.gix_ref_session.specs.declared.gather.Closing.TheVariants as closings
+use Rattle.gix_ref_session.specs.declared.session.Session.{Session}
+
+-- the writer failed
+abbrev pub IsUnsaid : Fatal → Type 0
+IsUnsaid (fatals.Io error) = Unit {0}
+IsUnsaid fatal = ⊥
+
+-- A transaction on its way: the bytes that are left of the input and those that were written, where they are known; its edits;
+-- whether `start` came, and whether the next edit follows symbolic references.
+pub record Gathering : Type 0 where
+  pub input : Option (List ℕ)
+  pub output : Option (List ℕ)
+  pub edits : List RefEdit
+  pub started : Bool
+  pub deref : Bool
+
+-- what a command does to it, with the answer
+abbrev pub Takes : Session → Heard → (s t : Gathering) → Type 0
+Takes session Start s t = (s.started ≡ false) × (t.started ≡ true) × (t.edits ≡ s.edits)
+    × (t.deref ≡ s.deref) × Appends s.output t.output (codes "start: ok\n")
+Takes session NoDeref s t = (t.started ≡ s.started) × (t.edits ≡ s.edits)
+    × (t.deref ≡ false) × Keeps s.output t.output
+Takes session (Edit name ask) s t = (t.started ≡ s.started) × (t.deref ≡ true)
+    × Keeps s.output t.output
+    × ((edit : RefEdit) × IsEditOf session s.deref name ask edit × (t.edits ≡ s.edits ++ edit ∷ []))
+Takes session heard s t = ⊥
+
+-- a command is read, and done; where `start` is needed, it comes first
+pub record Gathers (session : Session) (needs_start : Bool) (heard : Heard)
+    (s t : Gathering) : Type 0 where
+  pub hears : Hears session.format session.object_hash heard s.input t.input
+  pub begun : needs_start ≡ true → (s.started ≡ true) ⊎ (heard ≡ Start)
+  pub takes : Takes session heard s t
+
+-- the command that ends the commands of a transaction
+abbrev pub closing_of : Closing → Heard
+closing_of closings.Prepare = Prepare
+closing_of closings.Commit = Commit
+closing_of closings.Abort = Abort
+closing_of closings.End = Start
+
+-- it is read, or the input ends
+abbrev pub HearsClosing : Session → Closing → (old new : Option (List ℕ)) → Type 0
+HearsClosing session closings.End old new = IsAtEnd old × Keeps old new
+HearsClosing session closing old new =
+    Hears session.format session.object_hash (closing_of closing) old new
+
+-- before its first command
+abbrev pub nothing_gathered : (input output : Option (List ℕ)) → Gathering
+nothing_gathered input output = record {
+  input = input;
+  output = output;
+  edits = [];
+  started = false;
+  deref = true;
+}
+
+-- the commands of a transaction were read and done, and then the one that ends them was read
+pub record AreGathered (session : Session) (needs_start : Bool) (heards : List Heard)
+    (closing : Closing) (input output : Option (List ℕ)) (g : Gathering)
+    (rest : Option (List ℕ)) : Type 0 where
+  pub were : AreDone (Gathers session needs_start) heards (nothing_gathered input output) g
+  pub closed : HearsClosing session closing g.input rest
+  pub begun : needs_start ≡ true → (g.started ≡ true) ⊎ (closing ≡ closings.End)
+
+-- what was gathered so far, with what is known of the input and the output
+abbrev pub as_gathering : (input output : Option (List ℕ)) → Gathered → Gathering
+as_gathering input output gathered = record {
+  input = input;
+  output = output;
+  edits = gathered.edits.items;
+  started = gathered.is_started;
+  deref = gathered.deref;
+}
+
+-- a command that ends the commands of a transaction leaves what was gathered as it is
+pub record Stays (s t : Gathering) : Type 0 where
+  pub edits : t.edits ≡ s.edits
+  pub started : t.started ≡ s.started
+  pub output : Appends s.output t.output []
+
+-- a command is done, or it ends the commands
+abbrev pub TakesOrCloses : Session → Heard → Option Closing → (s t : Gathering) → Type 0
+TakesOrCloses session heard None s t = Takes session heard s t
+TakesOrCloses session heard (Some closing) s t =
+    (heard ≡ closing_of closing) × (closing ≢ closings.End) × Stays s t
+
+-- the next command is read and done, or it ends the commands
+abbrev pub GathersOrCloses : Session → (needs_start : Bool) → Option Closing → (s t : Gathering) → Type 0
+GathersOrCloses session needs_start None s t =
+    (heard : Heard) × Gathers session needs_start heard s t
+GathersOrCloses session needs_start (Some closing) s t =
+    HearsClosing session closing s.input t.input × Stays s t
+    × (needs_start ≡ true → (s.started ≡ true) ⊎ (closing ≡ closings.End))
+
+-- the commands of a transaction were not heard to their end: some were, and their answers written
+pub record StopsShort (session : Session) (needs_start : Bool) (input output now : Option (List ℕ))
+    (fatal : Fatal) : Type 0 where
+  pub heards : List Heard
+  pub gathered : Gathering
+  pub were : AreDone (Gathers session needs_start) heards (nothing_gathered input output) gathered
+  pub said : IsUnsaid fatal ⊎ Appends gathered.output now []
+
+-- they were
+pub record IsGathered (session : Session) (needs_start : Bool) (closing : Closing)
+    (input output rest now : Option (List ℕ)) (gathered : Gathered) : Type 0 where
+  pub heards : List Heard
+  pub g : Gathering
+  pub are : AreGathered session needs_start heards closing input output g rest
+  pub stays : Stays g (as_gathering g.input now gathered)

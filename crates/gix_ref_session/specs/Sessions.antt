@@ -1,0 +1,216 @@
+-- A session: transactions one after the other, with an answer to each command (`git update-ref --stdin`).
+use Rattle.std.specs.Prelude.{◌≡◌, ◌⊎◌, ℕ, List, [], ◌∷◌, ◌++◌, Bool, true, false, ◌||◌, codes, Option, Result, Ok, Err, IsErr}
+use Rattle.std.specs.Io.KnownBytes.{Appends, IsAtEnd, Keeps}
+use Rattle.gix_ref_files.specs.declared.files.FileError.{FileError}
+use Rattle.gix_ref_files.specs.Files.{Meaning, FaultCounts, Leaves}
+use Rattle.gix_ref_files.specs.Tree.{Tree}
+use Rattle.gix_ref_edits.specs.declared.transaction.RefEdit.{RefEdit}
+use Rattle.gix_ref_theory.specs.Sequences.{AreDone, IsWithinSteps}
+use Rattle.gix_ref_transaction.specs.declared.prepare.error.Error.{Error as Cause}
+use Rattle.gix_ref_store.specs.Lookup.{LooksUp}
+use Rattle.gix_ref_store.specs.Prepared.{tree_of}
+use Rattle.gix_ref_store.specs.Store.{files_of}
+use Rattle.gix_ref_store.specs.declared.file.store.Store.{Store}
+use Rattle.gix_ref_program.specs.declared.update.UpdateError.TheVariants as errors
+use Rattle.gix_ref_session.specs.Commands.{Heard, Commit, Abort}
+use Rattle.gix_ref_session.specs.Gathering.{AreGathered, Gathering, IsUnsaid, StopsShort}
+use Rattle.gix_ref_session.specs.Input.{Hears}
+use Rattle.gix_ref_session.specs.Transactions.{AfterTries, CommitFailed, IsCommitted, IsRefused, IsRolledBack, IsTransactionStop, Led}
+use Rattle.gix_ref_session.specs.declared.fatal.Fatal.{Fatal}
+use Rattle.gix_ref_session.specs.declared.fatal.Fatal.TheVariants as fatals
+use Rattle.gix_ref_session.specs.declared.gather.Closing.{Closing}
+use Rattle.gix_ref_session.specs.declared.gather.Closing.TheVariants as closings
+use Rattle.gix_ref_session.specs.declared.session.Session.{Session}
+
+-- A session on its way: the bytes that are left of its input and those that were written, where they are known; its store; and
+-- whether only `start` begins the next transaction.
+pub record Way (F : Type 0) : Type 0 where
+  pub input : Option (List ℕ)
+  pub output : Option (List ℕ)
+  pub store : Store F
+  pub needs_start : Bool
+
+-- A transaction of a session: its commands before the one that ends them, that one, what was gathered, and what is left of the
+-- input.
+pub record Turn : Type 0 where
+  pub heards : List Heard
+  pub closing : Closing
+  pub gathered : Gathering
+  pub rest : Option (List ℕ)
+
+-- a point of a session
+abbrev pub way : {F : Type 0} → (input output : Option (List ℕ)) → Store F → Way F
+way input output store = record {
+  input = input;
+  output = output;
+  store = store;
+  needs_start = false;
+}
+
+-- how `commit` is answered: it was done and that was said; or the writer failed; or it failed
+abbrev pub AnswersCommit : Result (Unit {0}) Fatal → (out now : Option (List ℕ)) → Result Bool Fatal → Type 0
+AnswersCommit (Ok done) out now (Ok true) = Appends out now (codes "commit: ok\n")
+AnswersCommit (Ok done) out now (Err fatal) = IsUnsaid fatal
+AnswersCommit (Err fatal) out now (Err error) = (error ≡ fatal) × Appends out now []
+AnswersCommit committed out now result = ⊥
+
+-- how `abort` is answered: that was said, or the writer failed
+abbrev pub AnswersAbort : (out now : Option (List ℕ)) → Result Bool Fatal → Type 0
+AnswersAbort out now (Ok true) = Appends out now (codes "abort: ok\n")
+AnswersAbort out now (Ok false) = ⊥
+AnswersAbort out now (Err fatal) = IsUnsaid fatal
+
+-- what is heard after `prepare: ok`
+abbrev pub HeardClosing : Session → (input rest out now : Option (List ℕ)) → Result Closing Fatal → Type 0
+HeardClosing session input rest out now (Ok closings.Commit) =
+    Hears session.format session.object_hash Commit input rest
+    × Appends out now (codes "prepare: ok\n")
+HeardClosing session input rest out now (Ok closings.Abort) =
+    Hears session.format session.object_hash Abort input rest
+    × Appends out now (codes "prepare: ok\n")
+HeardClosing session input rest out now (Ok closings.End) =
+    IsAtEnd input × Appends out now (codes "prepare: ok\n")
+HeardClosing session input rest out now (Ok closings.Prepare) = ⊥
+HeardClosing session input rest out now (Err fatal) = Unit {0}
+
+-- what was answered before a commit
+abbrev pub said_before : Closing → List ℕ
+said_before closings.Prepare = codes "prepare: ok\n"
+said_before closing = []
+
+module _ {F : Type 0} (honest : Type 0) (read : FileError → Type 0) (means : F → Meaning)
+    (faults : F → FaultCounts) (session : Session) where
+  -- how prepared edits are closed by what was heard, with the answer
+  abbrev pub ClosedBy : Closing → (old new : Store F) → List RefEdit →
+      (out now : Option (List ℕ)) → Result Bool Fatal → Type 0
+  ClosedBy closings.Commit old new edits out now (Ok true) =
+      IsCommitted honest means faults session.committer old new edits
+      × Appends out now (codes "commit: ok\n")
+  ClosedBy closings.Commit old new edits out now (Err fatal) =
+      (CommitFailed honest means faults session.committer read fatal old new edits
+      × Appends out now [])
+      ⊎ (IsUnsaid fatal × IsCommitted honest means faults session.committer old new edits)
+  ClosedBy closings.Abort old new edits out now (Ok true) =
+      IsRolledBack honest means faults old new edits × Appends out now (codes "abort: ok\n")
+  ClosedBy closings.Abort old new edits out now (Err fatal) = IsUnsaid fatal
+      × IsRolledBack honest means faults old new edits
+  ClosedBy closings.End old new edits out now (Ok false) =
+      IsRolledBack honest means faults old new edits × Appends out now []
+  ClosedBy heard old new edits out now result = ⊥
+
+  -- How edits that were prepared from a store end, after this command. With `true` the session goes on: they were committed, before
+  -- that was answered; or, after `prepare`, given up by `abort`. With `false` the input has ended: without `start` they were
+  -- committed, and after `prepare` given up.
+  abbrev pub PreparedEnds : Closing → (s t : Way F) → (edits : List RefEdit) → Result Bool Fatal → Type 0
+  PreparedEnds closings.Commit s t edits (Ok true) =
+      IsCommitted honest means faults session.committer s.store t.store edits
+      × Keeps s.input t.input × Appends s.output t.output (codes "commit: ok\n")
+  PreparedEnds closings.End s t edits (Ok false) =
+      IsCommitted honest means faults session.committer s.store t.store edits
+      × Keeps s.input t.input × Appends s.output t.output []
+  PreparedEnds closings.Prepare s t edits (Ok true) =
+      (IsCommitted honest means faults session.committer s.store t.store edits
+      × Hears session.format session.object_hash Commit s.input t.input
+      × Appends s.output t.output (codes "prepare: ok\n" ++ codes "commit: ok\n"))
+      ⊎ (IsRolledBack honest means faults s.store t.store edits
+      × Hears session.format session.object_hash Abort s.input t.input
+      × Appends s.output t.output (codes "prepare: ok\n" ++ codes "abort: ok\n"))
+  PreparedEnds closings.Prepare s t edits (Ok false) =
+      IsRolledBack honest means faults s.store t.store edits
+      × IsAtEnd s.input × Appends s.output t.output (codes "prepare: ok\n")
+  -- their commit failed; or after `prepare` they were given up; or the writer failed after they were committed
+  PreparedEnds closing s t edits (Err fatal) =
+      (CommitFailed honest means faults session.committer read fatal s.store t.store edits
+      × Appends s.output t.output (said_before closing))
+      ⊎ (((closing ≡ closings.Prepare) × IsRolledBack honest means faults s.store t.store edits)
+      ⊎ (IsUnsaid fatal × IsCommitted honest means faults session.committer s.store t.store edits))
+  PreparedEnds closing s t edits result = ⊥
+
+  -- edits were not prepared, by the first cause against them
+  pub record NotPrepared (edits : List RefEdit) (s t : Way F) (result : Result Bool Fatal) : Type 0 where
+    pub error : Cause
+    pub is : result ≡ Err (fatals.Update (errors.Prepare error))
+    pub refused : IsRefused honest means faults session.committer read (errors.Prepare error)
+        s.store t.store edits
+    pub input : Keeps s.input t.input
+    pub output : Appends s.output t.output []
+
+  -- how edits end: they were not prepared; or they were, and ended as above
+  abbrev pub MakeEnds : Closing → (edits : List RefEdit) → (s t : Way F) → Result Bool Fatal → Type 0
+  MakeEnds closing edits s t result = NotPrepared edits s t result
+      ⊎ PreparedEnds closing s t edits result
+
+  -- a look failed, or a name is in the way of another
+  pub record OnlyLooked (s t : Way F) (result : Result Bool Fatal) : Type 0 where
+    pub failed : IsErr result
+    pub looked : LooksUp honest means s.store t.store
+    pub input : Keeps s.input t.input
+    pub output : Appends s.output t.output []
+
+  -- How a try of these edits ends: it was only looked; or symbolic references led them to others, which ended as above.
+  abbrev pub TryEnds : Closing → (edits : List RefEdit) → (s t : Way F) → Result Bool Fatal → Type 0
+  TryEnds closing edits s t result = OnlyLooked s t result
+      ⊎ Led honest means faults (λ at new led. MakeEnds closing led
+      (way s.input s.output at) (way t.input t.output new) result) edits s.store t.store
+
+  -- how a transaction ends: as a try, after some that another's lock refused
+  abbrev pub Settles : Closing → (edits : List RefEdit) → (s t : Way F) → Result Bool Fatal → Type 0
+  Settles closing edits s t result = AfterTries honest means faults session.committer read edits
+      (λ mid new. TryEnds closing edits (record s { store = mid }) t result) s.store t.store
+
+  -- Its end. Given up by `abort`, or since the input ends after `start`, or before a command, it changes nothing.
+  abbrev pub Closes : Closing → (edits : List RefEdit) → (gives_up : Bool) → (s t : Way F) →
+      Result Bool Fatal → Type 0
+  Closes closings.Abort edits gives_up s t (Ok true) =
+      (t.store ≡ s.store) × Keeps s.input t.input × Appends s.output t.output (codes "abort: ok\n")
+  Closes closings.Abort edits gives_up s t (Err fatal) = (t.store ≡ s.store) × IsUnsaid fatal
+  Closes closings.Abort edits gives_up s t (Ok false) = ⊥
+  Closes closings.End edits true s t (Ok false) =
+      (t.store ≡ s.store) × Keeps s.input t.input × Appends s.output t.output []
+  Closes closings.End edits true s t result = ⊥
+  Closes closing edits gives_up s t result = Settles closing edits s t result
+
+  -- how a transaction went
+  pub record TurnEnds (turn : Turn) (s t : Way F) (result : Result Bool Fatal) : Type 0 where
+    pub gathered : AreGathered session s.needs_start turn.heards turn.closing s.input s.output
+        turn.gathered turn.rest
+    pub ends : Closes turn.closing turn.gathered.edits (turn.gathered.started || s.needs_start)
+        (record s { input = turn.rest; output = turn.gathered.output }) t result
+
+  -- it was closed, and only `start` begins the next one
+  pub record TurnDone (turn : Turn) (s t : Way F) : Type 0 where
+    pub ends : TurnEnds turn s t (Ok true)
+    pub needs_start : t.needs_start ≡ true
+
+  -- the commands of one were not heard to their end: nothing changes
+  pub record NotHeard (s t : Way F) (fatal : Fatal) : Type 0 where
+    pub store : t.store ≡ s.store
+    pub short : StopsShort session s.needs_start s.input s.output t.output fatal
+
+  -- how a session ends: with this transaction, or before the commands of one were heard
+  abbrev pub SessionEnds : {E : Type 0} → (rest : List Turn) → (s t : Way F) → Result E Fatal → Type 0
+  SessionEnds (turn ∷ []) s t (Ok value) = TurnEnds turn s t (Ok false)
+  SessionEnds (turn ∷ []) s t (Err fatal) = TurnEnds turn s t (Err fatal)
+  SessionEnds [] s t (Err fatal) = NotHeard s t fatal
+  SessionEnds rest s t result = ⊥
+
+  -- a stop in a transaction leaves this tree
+  abbrev pub IsTurnStop : Tree → Turn → Way F → Type 0
+  IsTurnStop T turn s = (T ≡ tree_of means s.store)
+      ⊎ IsTransactionStop honest means faults session.committer read turn.gathered.edits s.store T
+
+  -- A stop in a session of these transactions: each was closed after the one before, up to one, in which the stop comes, or after
+  -- the last of them.
+  abbrev pub IsSessionStop : List Turn → Way F → Tree → Type 0
+  IsSessionStop turns first T =
+      IsWithinSteps TurnDone (λ s. T ≡ tree_of means s.store) (IsTurnStop T) turns first
+
+  -- A session: transactions that were closed, and how it ended; and what a stop in it leaves.
+  pub record Serves {E : Type 0} (first last : Way F) (result : Result E Fatal) : Type 0 where
+    pub turns : List Turn
+    pub rest : List Turn
+    pub state : Way F
+    pub were : AreDone TurnDone turns first state
+    pub ends : SessionEnds rest state last result
+    pub leaves : honest → Leaves (means (files_of first.store)) (means (files_of last.store))
+        (IsSessionStop (turns ++ rest) first)

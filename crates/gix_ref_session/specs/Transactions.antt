@@ -1,0 +1,135 @@
+-- One transaction of a session: tried, and tried again where another holds a lock, up to its end.
+use Rattle.std.specs.Prelude.{◌≡◌, ◌⊎◌, List, Option, Result, Ok, Err}
+use Rattle.gix_ref_files.specs.declared.files.FileError.{FileError}
+use Rattle.gix_ref_files.specs.Files.{Meaning, FaultCounts}
+use Rattle.gix_ref_files.specs.Tree.{Path, Tree}
+use Rattle.gix_ref_edits.specs.declared.transaction.RefEdit.{RefEdit}
+use Rattle.gix_ref_log.specs.declared.actor.SignatureRef.{SignatureRef}
+use Rattle.gix_ref_object.specs.contracts.object.NeverFind.TheImpl.{claims-value, meaning-value}
+use Rattle.gix_ref_object.specs.declared.object.Never.{Never}
+use Rattle.gix_ref_theory.specs.Sequences.{AreDone}
+use Rattle.gix_ref_transaction.specs.OwnLocks.{RemovesLocks}
+use Rattle.gix_ref_transaction.specs.Packing.{OfFinder, ends_of, mode_in}
+use Rattle.gix_ref_transaction.specs.PrepareSteps.{held_locks}
+use Rattle.gix_ref_transaction.specs.declared.edit.Edit.{Edit}
+use Rattle.gix_ref_transaction.specs.declared.packing.PackedRefs.{PackedRefs}
+use Rattle.gix_ref_transaction.specs.declared.packing.PackedRefs.TheVariants.{DeletionsOnly}
+use Rattle.gix_ref_transaction.specs.declared.prepare.error.Error.{Error as Cause}
+use Rattle.gix_ref_transaction.specs.declared.prepare.error.Error.TheVariants as causes
+use Rattle.gix_ref_store.specs.Lookup.{LooksUp}
+use Rattle.gix_ref_store.specs.Prepared.{HasGoodRecords, IsAtRest, PreparesGiven, RollsBackFrom, tree_of}
+use Rattle.gix_ref_store.specs.Store.{IsSameStore}
+use Rattle.gix_ref_store.specs.declared.file.store.Store.{Store}
+use Rattle.gix_ref_store.specs.declared.file.transaction.outcome.Done.{Done}
+use Rattle.gix_ref_store.specs.declared.file.transaction.outcome.Failed.{Failed}
+use Rattle.gix_ref_program.specs.Updates.{IsBegun, IsStopOf, IsUpdateError, UpdateMade}
+use Rattle.gix_ref_program.specs.declared.update.UpdateError.{UpdateError}
+use Rattle.gix_ref_program.specs.declared.update.UpdateError.TheVariants.{Prepare, Commit}
+use Rattle.gix_ref_session.specs.Leading.{AreLed}
+use Rattle.gix_ref_session.specs.declared.fatal.Fatal.{Fatal}
+use Rattle.gix_ref_session.specs.declared.fatal.Fatal.TheVariants as fatals
+
+-- `packed-refs` changes for deletions alone
+abbrev pub uses : PackedRefs Never
+uses = DeletionsOnly
+
+-- another holds a lock
+abbrev pub IsLocked : Cause → Type 0
+IsLocked (causes.LockAcquire name) = Unit {0}
+IsLocked causes.PackedTransactionAcquire = Unit {0}
+IsLocked cause = ⊥
+
+-- what a commit returns, as a result of the session
+abbrev pub IsCommitResult : {T : Type 0} → Result (Done T) (Failed T) → Result (Unit {0}) Fatal → Type 0
+IsCommitResult (Ok done) result = result ≡ Ok tt
+IsCommitResult (Err failed) result = result ≡ Err (fatals.Update (Commit failed.error))
+
+module _ {F : Type 0} (honest : Type 0) (means : F → Meaning) (faults : F → FaultCounts) where
+  -- these edits were prepared, from the store `old` to `mid`
+  abbrev pub Prepares : (old mid : Store F) → List RefEdit → Option Path → List Edit → Type 0
+  Prepares old mid edits packed held = PreparesGiven honest means faults
+      (OfFinder claims-value.it uses) (ends_of meaning-value.it uses) (mode_in uses)
+      old mid edits packed held
+
+  -- They were prepared and committed. Where `packed-refs` was well formed it is so again, and where all was at rest all is.
+  pub record IsCommitted (committer : Option SignatureRef) (old new : Store F)
+      (edits : List RefEdit) : Type 0 where
+    pub left : List Path
+    pub made : UpdateMade honest means faults uses old new committer edits left
+    pub good : honest → HasGoodRecords means old → HasGoodRecords means new
+    pub rests : honest → IsAtRest means old → IsAtRest means new
+    pub same : IsSameStore old new
+
+  -- They were prepared, and given up: of their locks only those stay that are named.
+  pub record IsRolledBack (old new : Store F) (edits : List RefEdit) : Type 0 where
+    pub begun : IsBegun honest means faults uses old edits
+    pub left : List Path
+    pub rolled : RollsBackFrom honest means faults begun.mid new
+        (held_locks begun.packed begun.held) left
+
+  -- They were not prepared, or their commit failed, and these locks stay.
+  pub record IsRefused (committer : Option SignatureRef) (read : FileError → Type 0)
+      (error : UpdateError) (old new : Store F) (edits : List RefEdit) : Type 0 where
+    pub left : List Path
+    pub fails : IsUpdateError honest means faults uses read old new committer edits error left
+
+  -- their commit failed for this reason
+  abbrev pub CommitFailed : Option SignatureRef → (read : FileError → Type 0) → Fatal →
+      (old new : Store F) → List RefEdit → Type 0
+  CommitFailed committer read (fatals.Update (Commit error)) old new edits =
+      IsRefused committer read (Commit error) old new edits
+  CommitFailed committer read fatal old new edits = ⊥
+
+  -- how the commit of edits that were prepared ends
+  abbrev pub CommitEnds : Option SignatureRef → (read : FileError → Type 0) → (old new : Store F) →
+      List RefEdit → Result (Unit {0}) Fatal → Type 0
+  CommitEnds committer read old new edits (Ok done) = IsCommitted committer old new edits
+  CommitEnds committer read old new edits (Err fatal) =
+      CommitFailed committer read fatal old new edits
+
+  -- A stop once these edits were begun to be prepared leaves this tree: what a stop in an update of them leaves; or that of prepared
+  -- edits, of whose locks some are removed.
+  abbrev pub IsEditStop : Option SignatureRef → Store F → List RefEdit → Tree → Type 0
+  IsEditStop committer old edits T = IsStopOf honest means faults uses old committer edits T
+      ⊎ ((begun : IsBegun honest means faults uses old edits)
+      × RemovesLocks (held_locks begun.packed begun.held) (tree_of means begun.mid) T)
+
+  -- Symbolic references were looked up, which changes nothing, and lead these edits to others, which end so.
+  pub record Led (Ends : (old new : Store F) → List RefEdit → Type 0) (edits : List RefEdit)
+      (old new : Store F) : Type 0 where
+    pub at : Store F
+    pub led : List RefEdit
+    pub looked : LooksUp honest means old at
+    pub are_led : AreLed edits led
+    pub ends : Ends at new led
+
+  module _ (committer : Option SignatureRef) (read : FileError → Type 0) (edits : List RefEdit) where
+    -- the edits were made; given up; or refused
+    abbrev pub IsMade : (old new : Store F) → Type 0
+    IsMade = Led (IsCommitted committer) edits
+
+    abbrev pub IsGivenUp : (old new : Store F) → Type 0
+    IsGivenUp = Led IsRolledBack edits
+
+    abbrev pub IsNotMade : UpdateError → (old new : Store F) → Type 0
+    IsNotMade error = Led (IsRefused committer read error) edits
+
+    -- A stop in a try leaves this tree: the one before, or what one leaves once its edits were begun.
+    abbrev pub IsTryStop : Store F → Tree → Type 0
+    IsTryStop old T = (T ≡ tree_of means old)
+        ⊎ ((at : Store F) × (led : List RefEdit) × LooksUp honest means old at
+        × AreLed edits led × IsEditStop committer at led T)
+
+    -- a try that was refused since another holds a lock
+    abbrev pub IsTried : Cause → (old new : Store F) → Type 0
+    IsTried cause old new = IsLocked cause × IsNotMade (Prepare cause) old new
+
+    -- after so many tries that were refused
+    abbrev pub AfterTries : (Ends : (old new : Store F) → Type 0) → (old new : Store F) → Type 0
+    AfterTries Ends old new = (tries : List Cause) × (mid : Store F)
+        × AreDone IsTried tries old mid × Ends mid new
+
+    -- A stop in a transaction leaves this tree: what a stop in a try leaves, after some that were refused.
+    abbrev pub IsTransactionStop : Store F → Tree → Type 0
+    IsTransactionStop old T = (tries : List Cause) × (mid : Store F)
+        × AreDone IsTried tries old mid × IsTryStop mid T

@@ -1,0 +1,319 @@
+//! One try of a transaction: prepared, with an answer or without, and closed.
+ghost use Rattle.std.specs.Prelude.{◌≡◌, ◌≢◌, ℕ, List, Option};
+ghost use Rattle.gix_ref_edits.specs.declared.transaction.RefEdit.{RefEdit as AnEdit};
+ghost use Rattle.gix_ref_files.specs.Files.{Leaves};
+ghost use Rattle.gix_ref_log.specs.declared.actor.SignatureRef.{SignatureRef};
+ghost use Rattle.gix_ref_packed.specs.OpenFiles.{HasReadFault};
+ghost use Rattle.gix_ref_store.specs.PreparedFields.{held_edits, held_packed};
+ghost use Rattle.gix_ref_store.specs.Store.{files_of};
+ghost use Rattle.gix_ref_store.specs.declared.file.store.Store.{Store as AStore};
+ghost use Rattle.gix_ref_session.specs.Sessions.{AnswersAbort, AnswersCommit, ClosedBy, HeardClosing, MakeEnds, PreparedEnds, TryEnds, way};
+ghost use Rattle.gix_ref_session.specs.Transactions.{CommitEnds, IsCommitResult, IsEditStop, IsRolledBack, IsTryStop, Prepares};
+
+use crate::command::Command;
+use crate::fatal::Fatal;
+use crate::gather::{Closing, Texts, next_command, say};
+use crate::lead::led_edits;
+use crate::session::Session;
+use gix_ref_edits::transaction::RefEdit;
+use gix_ref_files::files::Files;
+use gix_ref_program::update::UpdateError;
+use gix_ref_store::file::Store;
+use gix_ref_store::file::transaction::{Done, Failed, PackedRefs, Prepared, Refused};
+use std::alloc::Global;
+use std::io::{BufRead, Write};
+
+/// What a commit returns, as a result of the session.
+fn result_of(answer: Result<Done, Failed>) -> Result<(), Fatal>
+    ensures { IsCommitResult answer result }
+{
+    match answer {
+        Ok(_) => Ok(()),
+        Err(failed) => Err(Fatal::Update(UpdateError::Commit(failed.error))),
+    }
+}
+
+/// Commits what is prepared.
+fn commit<F: Files>(
+    alloc: Global,
+    session: &Session<'_>,
+    prepared: Prepared<'_, F>,
+) -> Result<(), Fatal>
+    ensures ends { (old : AStore F) (edits : List AnEdit) → Prepares F.honest F.means F.faults old
+        prepared.entry.store.now edits (held_packed prepared.entry.plan)
+        (held_edits prepared.entry.plan) → CommitEnds F.honest F.means F.faults
+        session.now.committer (HasReadFault F.Reader.faults) old prepared.exit.0.now edits result }
+    ensures leaves { (old : AStore F) (edits : List AnEdit) → Prepares F.honest F.means F.faults old
+        prepared.entry.store.now edits (held_packed prepared.entry.plan)
+        (held_edits prepared.entry.plan) → F.honest → Leaves (F.means (files_of old))
+        (F.means (files_of prepared.exit.0.now))
+        (IsEditStop F.honest F.means F.faults session.now.committer old edits) }
+{
+    result_of(prepared.commit(alloc, session.committer))
+}
+
+/// Gives up what is prepared.
+fn give_up<F: Files>(prepared: Prepared<'_, F>)
+    ensures ends { (old : AStore F) (edits : List AnEdit) → Prepares F.honest F.means F.faults old
+        prepared.entry.store.now edits (held_packed prepared.entry.plan)
+        (held_edits prepared.entry.plan) →
+        IsRolledBack F.honest F.means F.faults old prepared.exit.0.now edits }
+    ensures leaves { (committer : Option SignatureRef) (old : AStore F) (edits : List AnEdit) →
+        Prepares F.honest F.means F.faults old
+        prepared.entry.store.now edits (held_packed prepared.entry.plan)
+        (held_edits prepared.entry.plan) → F.honest → Leaves (F.means (files_of old))
+        (F.means (files_of prepared.exit.0.now))
+        (IsEditStop F.honest F.means F.faults committer old edits) }
+{
+    let _given_up = prepared.rollback();
+}
+
+/// The answer to `commit`.
+fn answer_commit<W: Write>(committed: Result<(), Fatal>, out: &mut W) -> Result<bool, Fatal>
+    ensures { AnswersCommit committed (W.contents out.old) (W.contents out.new) result }
+{
+    match committed {
+        Ok(()) => match say(out, b"commit: ok\n") {
+            Ok(()) => Ok(true),
+            Err(fatal) => Err(fatal),
+        },
+        Err(fatal) => Err(fatal),
+    }
+}
+
+/// The answer to `abort`.
+fn answer_abort<W: Write>(out: &mut W) -> Result<bool, Fatal>
+    ensures { AnswersAbort (W.contents out.old) (W.contents out.new) result }
+{
+    match say(out, b"abort: ok\n") {
+        Ok(()) => Ok(true),
+        Err(fatal) => Err(fatal),
+    }
+}
+
+/// Does what was heard after `prepare`, and answers it. False at the end of the input.
+fn close_by<F: Files, W: Write>(
+    alloc: Global,
+    session: &Session<'_>,
+    prepared: Prepared<'_, F>,
+    heard: Closing,
+    out: &mut W,
+) -> Result<bool, Fatal>
+    requires { heard ≢ Closing.Prepare }
+    ensures ends { (old : AStore F) (edits : List AnEdit) → Prepares F.honest F.means F.faults old
+        prepared.entry.store.now edits (held_packed prepared.entry.plan)
+        (held_edits prepared.entry.plan) → ClosedBy F.honest (HasReadFault F.Reader.faults) F.means
+        F.faults session.now heard old prepared.exit.0.now edits
+        (W.contents out.old) (W.contents out.new) result }
+    ensures leaves { (old : AStore F) (edits : List AnEdit) → Prepares F.honest F.means F.faults old
+        prepared.entry.store.now edits (held_packed prepared.entry.plan)
+        (held_edits prepared.entry.plan) → F.honest → Leaves (F.means (files_of old))
+        (F.means (files_of prepared.exit.0.now))
+        (IsEditStop F.honest F.means F.faults session.now.committer old edits) }
+{
+    match heard {
+        Closing::Commit => {
+            let committed = commit(alloc, session, prepared);
+            answer_commit(committed, out)
+        }
+        Closing::Abort => {
+            give_up(prepared);
+            answer_abort(out)
+        }
+        Closing::End => {
+            give_up(prepared);
+            Ok(false)
+        }
+        Closing::Prepare => unreachable!(),
+    }
+}
+
+/// Answers `prepare`, and hears what closes the transaction: `commit`, `abort` or the end of the input. The locks are held meanwhile.
+fn hear_closing<R: BufRead, W: Write>(
+    alloc: Global,
+    session: &Session<'_>,
+    input: &mut R,
+    out: &mut W,
+    texts: &mut Texts,
+) -> Result<Closing, Fatal>
+    ensures { HeardClosing session.now (R.remaining input.old) (R.remaining input.new)
+        (W.contents out.old) (W.contents out.new) result }
+{
+    match say(out, b"prepare: ok\n") {
+        Ok(()) => (),
+        Err(fatal) => return Err(fatal),
+    }
+    match next_command(alloc, session, input, texts) {
+        Ok(None) => Ok(Closing::End),
+        Ok(Some(Command::Commit)) => Ok(Closing::Commit),
+        Ok(Some(Command::Abort)) => Ok(Closing::Abort),
+        Ok(Some(_)) => Err(Fatal::Prepared),
+        Err(fatal) => Err(fatal),
+    }
+}
+
+/// Answers `prepare`, hears what closes the transaction, and does that. False at the end of the input.
+fn close<F: Files, R: BufRead, W: Write>(
+    alloc: Global,
+    session: &Session<'_>,
+    prepared: Prepared<'_, F>,
+    input: &mut R,
+    out: &mut W,
+    texts: &mut Texts,
+) -> Result<bool, Fatal>
+    ensures ends { (old : AStore F) (edits : List AnEdit) → Prepares F.honest F.means F.faults old
+        prepared.entry.store.now edits (held_packed prepared.entry.plan)
+        (held_edits prepared.entry.plan) → PreparedEnds F.honest (HasReadFault F.Reader.faults)
+        F.means F.faults session.now Closing.Prepare
+        (way (R.remaining input.old) (W.contents out.old) old)
+        (way (R.remaining input.new) (W.contents out.new) prepared.exit.0.now) edits result }
+    ensures leaves { (old : AStore F) (edits : List AnEdit) → Prepares F.honest F.means F.faults old
+        prepared.entry.store.now edits (held_packed prepared.entry.plan)
+        (held_edits prepared.entry.plan) → F.honest → Leaves (F.means (files_of old))
+        (F.means (files_of prepared.exit.0.now))
+        (IsEditStop F.honest F.means F.faults session.now.committer old edits) }
+{
+    match hear_closing(alloc, session, input, out, texts) {
+        Ok(heard) => close_by(alloc, session, prepared, heard, out),
+        Err(fatal) => {
+            give_up(prepared);
+            Err(fatal)
+        }
+    }
+}
+
+/// Commits what is prepared, at the end of the input: without an answer.
+fn commit_at_end<F: Files>(
+    alloc: Global,
+    session: &Session<'_>,
+    prepared: Prepared<'_, F>,
+) -> Result<bool, Fatal>
+    ensures ends { (input out : Option (List ℕ)) (old : AStore F) (edits : List AnEdit) → Prepares F.honest F.means F.faults old
+        prepared.entry.store.now edits (held_packed prepared.entry.plan)
+        (held_edits prepared.entry.plan) → PreparedEnds F.honest
+        (HasReadFault F.Reader.faults) F.means F.faults session.now Closing.End
+        (way input out old) (way input out prepared.exit.0.now) edits result }
+    ensures leaves { (old : AStore F) (edits : List AnEdit) → Prepares F.honest F.means F.faults old
+        prepared.entry.store.now edits (held_packed prepared.entry.plan)
+        (held_edits prepared.entry.plan) → F.honest → Leaves (F.means (files_of old))
+        (F.means (files_of prepared.exit.0.now))
+        (IsEditStop F.honest F.means F.faults session.now.committer old edits) }
+{
+    match commit(alloc, session, prepared) {
+        Ok(()) => Ok(false),
+        Err(fatal) => Err(fatal),
+    }
+}
+
+/// Commits what is prepared, and answers it.
+fn commit_and_answer<F: Files, W: Write>(
+    alloc: Global,
+    session: &Session<'_>,
+    prepared: Prepared<'_, F>,
+    out: &mut W,
+) -> Result<bool, Fatal>
+    ensures ends { (input : Option (List ℕ)) (old : AStore F) (edits : List AnEdit) → Prepares F.honest F.means F.faults old
+        prepared.entry.store.now edits (held_packed prepared.entry.plan)
+        (held_edits prepared.entry.plan) → PreparedEnds F.honest
+        (HasReadFault F.Reader.faults) F.means F.faults session.now Closing.Commit
+        (way input (W.contents out.old) old) (way input (W.contents out.new) prepared.exit.0.now)
+        edits result }
+    ensures leaves { (old : AStore F) (edits : List AnEdit) → Prepares F.honest F.means F.faults old
+        prepared.entry.store.now edits (held_packed prepared.entry.plan)
+        (held_edits prepared.entry.plan) → F.honest → Leaves (F.means (files_of old))
+        (F.means (files_of prepared.exit.0.now))
+        (IsEditStop F.honest F.means F.faults session.now.committer old edits) }
+{
+    let committed = commit(alloc, session, prepared);
+    answer_commit(committed, out)
+}
+
+/// Ends what is prepared as this command has it. False at the end of the input.
+fn finish<F: Files, R: BufRead, W: Write>(
+    alloc: Global,
+    session: &Session<'_>,
+    prepared: Prepared<'_, F>,
+    closing: Closing,
+    input: &mut R,
+    out: &mut W,
+    texts: &mut Texts,
+) -> Result<bool, Fatal>
+    requires { closing ≢ Closing.Abort }
+    ensures ends { (old : AStore F) (edits : List AnEdit) → Prepares F.honest F.means F.faults old
+        prepared.entry.store.now edits (held_packed prepared.entry.plan)
+        (held_edits prepared.entry.plan) → PreparedEnds F.honest
+        (HasReadFault F.Reader.faults) F.means F.faults session.now closing
+        (way (R.remaining input.old) (W.contents out.old) old)
+        (way (R.remaining input.new) (W.contents out.new) prepared.exit.0.now) edits result }
+    ensures leaves { (old : AStore F) (edits : List AnEdit) → Prepares F.honest F.means F.faults old
+        prepared.entry.store.now edits (held_packed prepared.entry.plan)
+        (held_edits prepared.entry.plan) → F.honest → Leaves (F.means (files_of old))
+        (F.means (files_of prepared.exit.0.now))
+        (IsEditStop F.honest F.means F.faults session.now.committer old edits) }
+{
+    match closing {
+        Closing::Prepare => close(alloc, session, prepared, input, out, texts),
+        Closing::Commit => commit_and_answer(alloc, session, prepared, out),
+        Closing::End => commit_at_end(alloc, session, prepared),
+        Closing::Abort => unreachable!(),
+    }
+}
+
+/// A refusal, as the end of a session.
+fn refusal_of(refused: Refused) -> Fatal
+    ensures { result ≡ Fatal.Update (UpdateError.Prepare refused.error) }
+{
+    Fatal::Update(UpdateError::Prepare(refused.error))
+}
+
+/// Prepares these edits, and ends them as this command has it. False at the end of the input.
+fn make<F: Files, R: BufRead, W: Write>(
+    alloc: Global,
+    session: &Session<'_>,
+    store: &mut Store<F>,
+    led: Vec<RefEdit>,
+    closing: Closing,
+    input: &mut R,
+    out: &mut W,
+    texts: &mut Texts,
+) -> Result<bool, Fatal>
+    requires { closing ≢ Closing.Abort }
+    ensures ends { MakeEnds F.honest (HasReadFault F.Reader.faults) F.means F.faults session.now
+        closing led.items (way (R.remaining input.old) (W.contents out.old) store.old)
+        (way (R.remaining input.new) (W.contents out.new) store.new) result }
+    ensures leaves { F.honest → Leaves (F.means (files_of store.old)) (F.means (files_of store.new))
+        (IsEditStop F.honest F.means F.faults session.now.committer store.old led.items) }
+{
+    match store
+        .transaction_with(PackedRefs::DeletionsOnly)
+        .prepare(alloc, led)
+    {
+        Err(refused) => Err(refusal_of(refused)),
+        Ok(prepared) => finish(alloc, session, prepared, closing, input, out, texts),
+    }
+}
+
+/// Prepares these edits, led on by symbolic references, and ends them as this command has it. False at the end of the input.
+pub(crate) fn try_once<F: Files, R: BufRead, W: Write>(
+    alloc: Global,
+    session: &Session<'_>,
+    store: &mut Store<F>,
+    edits: &[RefEdit],
+    closing: Closing,
+    input: &mut R,
+    out: &mut W,
+    texts: &mut Texts,
+) -> Result<bool, Fatal>
+    requires { closing ≢ Closing.Abort }
+    ensures ends { TryEnds F.honest (HasReadFault F.Reader.faults) F.means F.faults session.now
+        closing edits.now (way (R.remaining input.old) (W.contents out.old) store.old)
+        (way (R.remaining input.new) (W.contents out.new) store.new) result }
+    ensures leaves { F.honest → Leaves (F.means (files_of store.old)) (F.means (files_of store.new))
+        (IsTryStop F.honest F.means F.faults session.now.committer
+        (HasReadFault F.Reader.faults) edits.now store.old) }
+{
+    match led_edits(alloc, store, session.committer.is_some(), edits) {
+        Ok(led) => make(alloc, session, store, led, closing, input, out, texts),
+        Err(fatal) => Err(fatal),
+    }
+}

@@ -1,0 +1,85 @@
+//! `refs-session GITDIR [-z] [--sha256] [--namespace NAME] [--as SIGNATURE] [-m MESSAGE] [--create-reflog] [--without-syncs]
+//! [--lock-timeout MS] [--packed-lock-timeout MS] [COMMAND]`: serves the commands of `git update-ref --stdin` from standard input, and
+//! answers each at once; or answers one COMMAND. The status is 0, 128 after an error, which is written to standard error, and 129 for wrong
+//! words; of a COMMAND that of Git.
+#![tactic(auto)]
+
+mod ask;
+
+use ask::answer_to;
+use bstr::ByteSlice;
+use gix_ref_files::disk::Disk;
+use gix_ref_session::fatal::Fatal;
+use gix_ref_session::run::{lent_words, open, run};
+use gix_ref_session::words::{Line, Parsed, parse};
+use std::io::{BufReader, Write};
+use std::process::ExitCode;
+use std::{env, io};
+
+/// The words of the command line, without the name of the program.
+fn read_words(rt: &HostRuntime, words: &mut Vec<String>) -> io::Result<()> {
+    for word in env::args(rt)?.skip(1) {
+        words.push(word)?;
+    }
+    Ok(())
+}
+
+/// The disk, with syncs or without.
+fn disk(rt: &HostRuntime, line: &Line<'_>) -> Result<Disk, Fatal> {
+    let files_rt = rt.clone()?;
+    Ok(if line.without_syncs {
+        Disk::without_syncs(files_rt)
+    } else {
+        Disk::new(files_rt)
+    })
+}
+
+/// Serves the commands of standard input. The status is 0.
+fn serve_input(rt: &HostRuntime, line: &Line<'_>) -> Result<u8, Fatal> {
+    let files = disk(rt, line)?;
+    let mut input = BufReader::new(rt.alloc(), rt.reader())?;
+    let mut out = io::writer(rt);
+    run(rt.alloc(), files, rt, line, &mut input, &mut out)?;
+    Ok(0)
+}
+
+/// Answers a command of the command line, and returns its status: 129 for one that is none.
+fn answer_words(rt: &HostRuntime, parsed: &Parsed<'_, '_>) -> Result<u8, Fatal> {
+    let files = disk(rt, &parsed.line)?;
+    let mut store = open(rt.alloc(), files, &parsed.line)?;
+    let Some(answer) = answer_to(rt.alloc(), &mut store, parsed.rest)? else {
+        let _ = eprintln!(rt; "usage: refs-session GITDIR [options] [command]");
+        return Ok(129);
+    };
+    let mut out = io::writer(rt);
+    out.write_all(&answer.text)?;
+    let _ = eprint!(rt; "{}", answer.errors.as_slice().as_bstr());
+    Ok(answer.status)
+}
+
+fn main(rt: HostRuntime) -> ExitCode {
+    let mut words = Vec::new(rt.alloc());
+    // Arguments that are no text are wrong words, as none at all are.
+    if read_words(&rt, &mut words).is_err() {
+        words.clear();
+    }
+    let Ok(lent) = lent_words(rt.alloc(), &words) else {
+        return ExitCode::from(128);
+    };
+    let Some(parsed) = parse(&lent) else {
+        let _ = eprintln!(rt; "usage: refs-session GITDIR [options] [command]");
+        return ExitCode::from(129);
+    };
+    let status = if parsed.rest.is_empty() {
+        serve_input(&rt, &parsed.line)
+    } else {
+        answer_words(&rt, &parsed)
+    };
+    match status {
+        Ok(status) => ExitCode::from(status),
+        Err(fatal) => {
+            let _ = eprintln!(rt; "fatal: {fatal}");
+            ExitCode::from(128)
+        }
+    }
+}
