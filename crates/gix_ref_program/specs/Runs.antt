@@ -121,10 +121,14 @@ IsBadFolder dir refusals.PathNotClean = is_clean dir ≡ false
 IsBadFolder dir refusals.Memory = Unit {0}
 IsBadFolder dir refusal = ⊥
 
--- why a line is not begun: its folder; or its namespace, in a folder that is clean
+-- why there is no store: the folder; or the namespace, in a folder that is clean
+abbrev pub NoStore : (dir : List ℕ) → (namespace : Option (List ℕ)) → Refusal → Type 0
+NoStore dir namespace refusal = IsBadFolder dir refusal
+    ⊎ ((is_clean dir ≡ true) × NoNamespace namespace refusal)
+
+-- why a line is not begun
 abbrev pub IsUnopened : LineAsked → Refusal → Type 0
-IsUnopened line refusal = IsBadFolder line.dir refusal
-    ⊎ ((is_clean line.dir ≡ true) × NoNamespace line.namespace refusal)
+IsUnopened line refusal = NoStore line.dir line.namespace refusal
 
 module _ {F : Type 0} where
   -- names are used as they are written, and no component is prohibited
@@ -143,16 +147,22 @@ module _ {F : Type 0} where
     pub logs : store.write_reflog ≡ write_reflog
     pub plain : IsPlainStore store
 
-  -- the store of a line, which writes log lines where there is a committer
-  pub record IsOpened (files : F) (line : LineAsked) (store : Store F) : Type 0 where
+  -- the store of a folder, in the namespace of a NAME, which writes log lines where there is a committer
+  pub record IsStoreOf (files : F) (dir : List ℕ) (kind : Kind) (name : Option (List ℕ))
+      (committer : Option Who) (store : Store F) : Type 0 where
     pub files_are : files_of store ≡ files
-    pub clean : is_clean line.dir ≡ true
-    pub git : (folders store).git ≡ line.dir
-    pub common : (folders store).common ≡ line.dir
-    pub namespace : (folders store).namespace ≡ namespace_of line.namespace
-    pub of_kind : kind_of store ≡ line.kind
-    pub logs : store.write_reflog ≡ write_reflog_of line.committer
+    pub clean : is_clean dir ≡ true
+    pub git : (folders store).git ≡ dir
+    pub common : (folders store).common ≡ dir
+    pub namespace : (folders store).namespace ≡ namespace_of name
+    pub of_kind : kind_of store ≡ kind
+    pub logs : store.write_reflog ≡ write_reflog_of committer
     pub plain : IsPlainStore store
+
+  -- the store of a line
+  abbrev pub IsOpened : F → LineAsked → Store F → Type 0
+  IsOpened files line store =
+      IsStoreOf files line.dir line.kind line.namespace line.committer store
 
   -- a line can be begun over these files
   abbrev pub HasStore : F → LineAsked → Type 0

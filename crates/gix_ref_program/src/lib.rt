@@ -35,6 +35,7 @@ mod block;
 mod edit;
 pub mod list;
 pub mod log;
+pub mod open;
 pub mod outcome;
 pub mod refusal;
 pub mod run;

@@ -1,9 +1,6 @@
 //! One run of the program, over any files.
 ghost use Rattle.std.specs.Prelude.{◌≡◌, ◌⊎◌, List, [], ◌∷◌, false, Option, None, IfOk, MatchResult};
 ghost use Rattle.std.specs.Option.{option_map};
-ghost use Rattle.gix_ref_hash.specs.declared.hash.Kind.{Kind};
-ghost use Rattle.gix_ref_lookup.specs.StoreLayout.{namespace_text};
-ghost use Rattle.gix_ref_log.specs.Signatures.{signature_ref_who};
 ghost use Rattle.gix_ref_store.specs.Store.{files_of};
 ghost use Rattle.gix_ref_store.specs.Listings.{AreHeldFor, walked_prefix};
 ghost use Rattle.gix_ref_store.specs.Lookup.{LooksUp};
@@ -11,28 +8,25 @@ ghost use Rattle.gix_ref_store.specs.Prepared.{HasGoodRecords, IsAtRest};
 ghost use Rattle.gix_ref_files.specs.Calls.{Unchanged};
 ghost use Rattle.gix_ref_files.specs.DiskCalls.{Untouched};
 ghost use Rattle.gix_ref_files.specs.Files.{Leaves, Loses, AtEveryStop, OnEveryDisk};
-ghost use Rattle.gix_ref_program.specs.Runs.{CommandRan, HasStore, HasText, IsAt, IsBadFolder, IsLossIn, IsLossInScript, IsOpened, IsReadyFor, IsStop, IsStopIn, IsStopInScript, IsTextLoss, IsTextStop, IsUnopened, IsUnread, LineRan, ListRan, ListRanAmong, LogRan, NoNamespace, Prints, RunsLine, RunsOut, RunsWrong, SaysOne, ScriptRan, ShowOutcome, TextRan, namespace_of, prefix_asked, write_reflog_of};
+ghost use Rattle.gix_ref_program.specs.Runs.{CommandRan, HasStore, HasText, IsLossIn, IsLossInScript, IsOpened, IsReadyFor, IsStop, IsStopIn, IsStopInScript, IsTextLoss, IsTextStop, IsUnopened, IsUnread, LineRan, ListRan, ListRanAmong, LogRan, Prints, RunsLine, RunsOut, RunsWrong, SaysOne, ScriptRan, ShowOutcome, TextRan, prefix_asked};
 ghost use Rattle.gix_ref_program.specs.Writes.{IsWriteLoss, terms_in};
-ghost use Rattle.gix_ref_program.specs.Words.{IsNoScript, IsWrite, MayWrite, texts, string_texts, line_asked};
+ghost use Rattle.gix_ref_program.specs.Words.{IsNoScript, IsWrite, MayWrite, string_texts, line_asked};
 
 use crate::list;
 use crate::log::print_items;
+use crate::open::{lent_words, open_store};
 use crate::outcome::{Outcome, print, refused};
 use crate::refusal::Refusal;
 use crate::script::run_lines;
 use crate::transact::transact;
 use crate::words::{Command, Line, parse};
 use gix_ref_files::files::{FileError, Files, Node};
-use gix_ref_hash::hash::Kind;
-use gix_ref_log::actor::SignatureRef;
 use gix_ref_name::name::{FullNameRef, PartialNameRef};
-use gix_ref_name::namespace::{Namespace, expand};
 use gix_ref_packed::packed::Buffer;
+use gix_ref_store::file::Store;
 use gix_ref_store::file::iter::{self, LooseNames, prefix_of_all};
 use gix_ref_store::file::transaction::PackedRefs;
-use gix_ref_store::file::{Store, store};
-use gix_ref_store::store::{Options, WriteReflog};
-use std::alloc::{AllocError, Global};
+use std::alloc::Global;
 use std::io;
 use std::io::Write;
 
@@ -47,75 +41,19 @@ pub struct RunResult<F> {
     pub status: io::Result<u8>,
 }
 
-/// The namespace that a NAME expands to, if there is one.
-fn expanded(alloc: Global, name: Option<&[u8]>) -> Result<Option<Namespace>, Refusal>
-    ensures { MatchResult result (λ n. namespace_text n
-        ≡ namespace_of (option_map (λ text. text.now) name.entry))
-        (NoNamespace (option_map (λ text. text.now) name.entry)) }
-{
-    let Some(name) = name else {
-        return Ok(None);
-    };
-    match PartialNameRef::try_from(name) {
-        Ok(name) => match expand(alloc, name) {
-            Ok(namespace) => Ok(Some(namespace)),
-            Err(_) => Err(Refusal::Memory),
-        },
-        Err(error) => Err(Refusal::Name(error)),
-    }
-}
-
-/// Log lines are written where there is a committer.
-fn write_reflog_for(committer: Option<SignatureRef<'_>>) -> WriteReflog
-    ensures { result ≡ write_reflog_of (option_map signature_ref_who committer.entry) }
-{
-    match committer {
-        Some(_) => WriteReflog::Normal,
-        None => WriteReflog::Disable,
-    }
-}
-
-/// The store of a folder. A refusal hands the files back.
-fn store_at<F>(
-    alloc: Global,
-    files: F,
-    dir: &[u8],
-    kind: Kind,
-    write_reflog: WriteReflog,
-) -> Result<Store<F>, (F, Refusal)>
-    ensures { MatchResult result (IsAt files dir.now kind write_reflog)
-        (λ r. (r.0 ≡ files) × IsBadFolder dir.now r.1) }
-{
-    let Ok(git_dir) = dir.to_vec(alloc) else {
-        return Err((files, Refusal::Memory));
-    };
-    let options = Options {
-        write_reflog,
-        precompose_unicode: false,
-        prohibit_windows_device_names: false,
-    };
-    match Store::at_opts(files, git_dir, kind, options) {
-        Ok(store) => Ok(store),
-        Err(store::Error::PathNotClean { files }) => Err((files, Refusal::PathNotClean)),
-        // The git folder is the common folder too.
-        Err(store::Error::FoldersMeet { .. }) => unreachable!(),
-    }
-}
-
 /// The store of a line, in its namespace. A refusal hands the files back.
 fn store_in<F>(alloc: Global, files: F, line: &Line<'_>) -> Result<Store<F>, (F, Refusal)>
     ensures { MatchResult result (IsOpened files (line_asked line.now))
         (λ r. (r.0 ≡ files) × IsUnopened (line_asked line.now) r.1) }
 {
-    let write_reflog = write_reflog_for(line.committer);
-    let mut store = store_at(alloc, files, line.dir, line.object_hash, write_reflog)?;
-    match expanded(alloc, line.namespace) {
-        Ok(namespace) => {
-            store.namespace = namespace;
-            Ok(store)
-        }
-        Err(refusal) => Err((store.into_files(), refusal)),
-    }
+    open_store(
+        alloc,
+        files,
+        line.dir,
+        line.object_hash,
+        line.namespace,
+        line.committer,
+    )
 }
 
 /// Shows a reference.
@@ -417,17 +355,6 @@ fn run_line<F: Files, W: Write>(
         Command::Script { path } => run_script(alloc, files, packed_refs, line, path, out),
         _ => run_command(alloc, files, packed_refs, line, out),
     }
-}
-
-/// The words, as bytes.
-fn lent_words(alloc: Global, words: &[String]) -> Result<Vec<&[u8]>, AllocError>
-    ensures { IfOk result (λ lent. texts lent.items ≡ string_texts words.now) }
-{
-    let mut lent = Vec::with_capacity(alloc, words.len())?;
-    for word in words {
-        lent.push(word.as_bytes())?;
-    }
-    Ok(lent)
 }
 
 /// Does what the words ask for, and prints it: nothing for an update or a deletion that was made; a target and a name for a reference

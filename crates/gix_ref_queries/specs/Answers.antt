@@ -28,7 +28,7 @@ abbrev pub Says : (text : List ℕ) → (status : ℕ) → Answer → Type 0
 Says text status answer =
     (answer.text.items ≡ text) × (answer.errors.items ≡ []) × (answer.status ≡ status)
 
--- an error in Git's form, behind a text, and its status
+-- an error in Git's form after a text, and its status
 abbrev pub FailsAfter : (text message : List ℕ) → Answer → Type 0
 FailsAfter text message answer = (answer.text.items ≡ text)
     × (answer.errors.items ≡ codes "fatal: " ++ (message ++ codes "\n")) × (answer.status ≡ 128)

@@ -14,7 +14,7 @@ use gix_ref_store::file::locks::{Error, RemoveError};
 use std::alloc::{AllocError, Global};
 
 /// A line for each path.
-fn lines(alloc: Global, paths: &[Vec<u8>]) -> Result<Vec<u8>, AllocError>
+pub(crate) fn lines(alloc: Global, paths: &[Vec<u8>]) -> Result<Vec<u8>, AllocError>
     ensures { IfOk result (λ text. text.items ≡ path_lines paths.now) }
 {
     let mut text = Vec::new(alloc);
@@ -37,7 +37,8 @@ fn unlisted(alloc: Global, error: Error) -> Result<Answer, AllocError>
 
 /// Why a lock file was not removed, after the lines of those that were.
 fn failed_after(alloc: Global, text: Vec<u8>, path: &[u8]) -> Result<Answer, AllocError>
-    ensures { IfOk result (FailsAfter text.items (codes "cannot remove '" ++ (path.now ++ codes "'"))) }
+    ensures { IfOk result
+        (FailsAfter text.items (codes "cannot remove '" ++ (path.now ++ codes "'"))) }
 {
     let Answer { errors, status, .. } = fatal(alloc, b"cannot remove '", path, b"'")?;
     Ok(Answer {

@@ -30,8 +30,9 @@ pub enum NameRead {
     Memory,
 }
 
-/// What a full name reads, and not another name that it may be short for.
-fn read_name<F: Files>(alloc: Global, store: &mut Store<F>, name: FullNameRef<'_>) -> NameRead
+/// What a full name reads, and not another name that it may be short for. One lookup. As `refs_read_raw_ref` of git, which also reads
+/// one name.
+pub fn read_name<F: Files>(alloc: Global, store: &mut Store<F>, name: FullNameRef<'_>) -> NameRead
     ensures reads { F.honest → (records : List Record) → AreRecordsIn F.means store.old records →
         ReadsAs (reads (finds_in F.means store.old records) (full_ref_bytes name.entry))
         result }

@@ -1,18 +1,17 @@
 -- Prepared edits that are closed by what is heard.
-use Rattle.std.proofs.Common.{◌≡◌, ◌⊎◌, inl, inr, ℕ, List, [], ◌++◌, Bool, true, false, codes, Option, Some, None, Result, Ok, Err, refl, sym, subst, append-nil}
+use Rattle.std.proofs.Common.{inl, inr, ℕ, List, [], Bool, true, false, codes, Option, Result, Ok, Err, refl, sym, subst, append-nil}
 use Rattle.std.specs.Io.KnownBytes.{Appends}
 use Rattle.gix_ref_files.specs.declared.files.FileError.{FileError}
 use Rattle.gix_ref_files.specs.Files.{Meaning, FaultCounts}
 use Rattle.gix_ref_edits.specs.declared.transaction.RefEdit.{RefEdit}
 use Rattle.gix_ref_store.specs.declared.file.store.Store.{Store}
-use Rattle.gix_ref_session.specs.Gathering.{IsUnsaid}
 use Rattle.gix_ref_session.specs.Sessions.{AnswersAbort, AnswersCommit, ClosedBy, HeardClosing, PreparedEnds, way}
 use Rattle.gix_ref_session.specs.Transactions.{CommitEnds, CommitFailed, IsRolledBack}
 use Rattle.gix_ref_session.specs.declared.fatal.Fatal.{Fatal}
 use Rattle.gix_ref_session.specs.declared.gather.Closing.{Closing}
 use Rattle.gix_ref_session.specs.declared.gather.Closing.TheVariants as closings
 use Rattle.gix_ref_session.specs.declared.session.Session.{Session}
-use Rattle.gix_ref_session.proofs.AnswerLemmas.{append_more, keeps_same}
+use Rattle.gix_ref_session.proofs.AnswerLemmas.{append_more, keeps_same, unsaid_stopped}
 
 module _ {F : Type 0} (honest : Type 0) (read : FileError → Type 0) (means : F → Meaning) (faults : F → FaultCounts) (session : Session) (old new : Store F) (edits : List RefEdit) where
   -- a commit, and its answer
@@ -56,7 +55,7 @@ module _ {F : Type 0} (honest : Type 0) (read : FileError → Type 0) (means : F
     closed closings.Commit (Err fatal) heard (inr unsaid) = inr (inr unsaid)
     closed closings.Abort (Ok true) heard done = inr (done.0, heard.0, append_more out mid now (codes "prepare: ok\n") (codes "abort: ok\n") heard.1 done.1)
     closed closings.Abort (Ok false) heard done = absurd done
-    closed closings.Abort (Err fatal) heard done = inr (inl (refl, done.1))
+    closed closings.Abort (Err fatal) heard done = inr (inl (refl, done.1, inr (inl (unsaid_stopped fatal done.0)), inl done.0))
     closed closings.End (Ok true) heard done = absurd done
     closed closings.End (Ok false) heard done = (done.0, heard.0, prepared_only heard.1 done.1)
     closed closings.End (Err fatal) heard done = absurd done

@@ -1,7 +1,7 @@
 -- Edits that were prepared: how their commit, or giving them up, ends.
-use Rattle.std.proofs.Common.{◌≡◌, ◌⊎◌, inl, inr, List, Option, Some, None, Result, Ok, Err, IfOk, IfErr, refl, sym, subst}
+use Rattle.std.proofs.Common.{inl, inr, List, Option, Some, None, Result, Ok, Err, IfOk, IfErr, refl, sym, subst}
 use Rattle.gix_ref_files.specs.declared.files.FileError.{FileError}
-use Rattle.gix_ref_files.specs.Tree.{Tree, Path}
+use Rattle.gix_ref_files.specs.Tree.{Path}
 use Rattle.gix_ref_files.specs.Files.{Meaning, Leaves, FaultCounts}
 use Rattle.gix_ref_files.proofs.Moments.{joins, weaken}
 use Rattle.gix_ref_log.specs.declared.actor.SignatureRef.{SignatureRef}
@@ -21,7 +21,6 @@ use Rattle.gix_ref_store.specs.declared.file.store.Store.{Store}
 use Rattle.gix_ref_store.specs.declared.file.transaction.outcome.Done.{Done}
 use Rattle.gix_ref_store.specs.declared.file.transaction.outcome.Failed.{Failed}
 use Rattle.gix_ref_store.proofs.SameStores.{same_on}
-use Rattle.gix_ref_program.specs.Updates.{IsStopOf}
 use Rattle.gix_ref_program.specs.declared.update.UpdateError.TheVariants.{Commit}
 use Rattle.gix_ref_program.proofs.Updating.{refused_stops, done, told, stops, settles, goods}
 use Rattle.gix_ref_session.specs.Transactions.{CommitEnds, IsCommitResult, IsEditStop, IsRolledBack, Prepares, uses}

@@ -1,10 +1,10 @@
 -- The commands of a transaction, one after the other.
-use Rattle.std.proofs.Common.{◌≡◌, ◌⊎◌, inl, inr, ⊎_elim, ℕ, List, [], ◌∷◌, ◌++◌, Bool, true, false, Option, Some, None, Result, Ok, Err, IfOk, refl, subst}
+use Rattle.std.proofs.Common.{◌≡◌, ◌⊎◌, inl, inr, ⊎_elim, ℕ, List, [], ◌∷◌, ◌++◌, Bool, true, Option, Some, None, Result, Ok, Err, IfErr, IfOk, refl, sym, ◌∙◌, subst}
 use Rattle.std.specs.Io.KnownBytes.{Appends}
 use Rattle.gix_ref_theory.specs.Sequences.{AreDone}
 use Rattle.gix_ref_theory.proofs.Sequences.{done_more}
-use Rattle.gix_ref_session.specs.Commands.{Heard, Start, Prepare, Commit, Abort, words_of}
-use Rattle.gix_ref_session.specs.Gathering.{AreGathered, Gathering, Gathers, GathersOrCloses, HearsClosing, IsGathered, IsUnsaid, Stays, StopsShort, TakesOrCloses, as_gathering, closing_of, nothing_gathered}
+use Rattle.gix_ref_session.specs.Commands.{Heard, Start, IsNoCommand, words_of}
+use Rattle.gix_ref_session.specs.Gathering.{CannotGoOn, Gathering, Gathers, GathersOrCloses, HearsClosing, IsClosing, IsGathered, IsMalformed, IsNotDone, IsStopped, IsToldOf, IsUnsaid, StopsShort, TakesOrCloses, as_gathering, nothing_gathered}
 use Rattle.gix_ref_session.specs.Input.{AreWords, Hears}
 use Rattle.gix_ref_session.specs.Quotes.{ArePlain}
 use Rattle.gix_ref_session.specs.declared.fatal.Fatal.{Fatal}
@@ -13,7 +13,9 @@ use Rattle.gix_ref_session.specs.declared.gather.Closing.TheVariants as closings
 use Rattle.gix_ref_session.specs.declared.input.Format.{Format}
 use Rattle.gix_ref_session.specs.declared.input.Format.TheVariants.{Lines, Nul}
 use Rattle.gix_ref_session.specs.declared.gather.Gathered.{Gathered}
+use Rattle.gix_ref_hash.specs.declared.hash.Kind.{Kind}
 use Rattle.gix_ref_session.specs.declared.session.Session.{Session}
+use Rattle.gix_ref_session.proofs.QuoteLemmas.{plain_once}
 
 -- some commands were done
 pub record SoFar (session : Session) (needs_start : Bool) (input output : Option (List ℕ)) (g : Gathering) : Type 0 where
@@ -30,8 +32,8 @@ module _ (session : Session) (needs_start : Bool) (input output : Option (List �
     were = done_more (Gathers session needs_start) b.heards heard (nothing_gathered input output) g h b.were gathers;
   }
 
-  pub falls_short : (g : Gathering) (now : Option (List ℕ)) (fatal : Fatal) → SoFar session needs_start input output g → IsUnsaid fatal ⊎ Appends g.output now [] → StopsShort session needs_start input output now fatal
-  falls_short g now fatal b said = record { heards = b.heards; gathered = g; were = b.were; said = said }
+  pub falls_short : (g : Gathering) (now : Option (List ℕ)) (fatal : Fatal) → SoFar session needs_start input output g → CannotGoOn session needs_start g fatal → IsUnsaid fatal ⊎ Appends g.output now [] → StopsShort session needs_start input output now fatal
+  falls_short g now fatal b why said = record { heards = b.heards; gathered = g; were = b.were; why = why; said = said }
 
   pub closes : (g h : Gathering) (closing : Closing) (now rest : Option (List ℕ)) (gathered : Gathered) → SoFar session needs_start input output g → GathersOrCloses session needs_start (Some closing) g (as_gathering rest now gathered) → IsGathered session needs_start closing input output rest now gathered
   closes g h closing now rest gathered b (hears, stays, begun) = record {
@@ -61,23 +63,68 @@ lines_are Nul text words plain is are for = absurd (not_both is)
     not_both : Nul ≡ Lines → ⊥
     not_both e = cc
 
+-- Texts that are no command.
+
+-- of a line that is for these words
+pub only_plain : {T : Type 0} (format : Format) (kind : Kind) (r : Result T Fatal) (text : List ℕ) (words lent : List (List ℕ)) → ArePlain words lent → IfErr r (λ fatal. IsStopped fatal ⊎ (IsToldOf text fatal × IsNoCommand format kind lent)) →
+    IfErr r (λ fatal. IsStopped fatal ⊎ (IsToldOf text fatal × ((plain : List (List ℕ)) → ArePlain words plain → IsNoCommand format kind plain)))
+only_plain format kind (Ok v) text words lent are none = tt
+only_plain format kind (Err fatal) text words lent are (inl stopped) = inl stopped
+only_plain format kind (Err fatal) text words lent are (inr none) = inr (none.0, λ plain same. subst (λ (ws : List (List ℕ)). IsNoCommand format kind ws) (sym (plain_once words lent plain are same)) none.1)
+
+module _ {T : Type 0} (session : Session) (r : Result T Fatal) (text : List ℕ) (words : List (List ℕ)) where
+  pub no_nul : session.format ≡ Nul → words ≡ words_of session.format text → IfErr r (λ fatal. IsStopped fatal ⊎ (IsToldOf text fatal × IsNoCommand session.format session.object_hash words)) → IfErr r (λ fatal. IsStopped fatal ⊎ IsMalformed session text fatal)
+  no_nul nul is none = by r none
+    where
+      same : (format : Format) → format ≡ Nul → (ws : List (List ℕ)) → AreWords format text ws → ws ≡ words_of format text
+      same Nul e ws are = are
+      same Lines e ws are = absurd (not_both e)
+        where
+          not_both : Lines ≡ Nul → ⊥
+          not_both e = cc
+
+      by : (r : Result T Fatal) → IfErr r (λ fatal. IsStopped fatal ⊎ (IsToldOf text fatal × IsNoCommand session.format session.object_hash words)) → IfErr r (λ fatal. IsStopped fatal ⊎ IsMalformed session text fatal)
+      by (Ok v) none = tt
+      by (Err fatal) (inl stopped) = inl stopped
+      by (Err fatal) (inr none) = inr (none.0, λ ws are. subst (λ (x : List (List ℕ)). IsNoCommand session.format session.object_hash x) (is ∙ sym (same session.format nul ws are)) none.1)
+
+  pub no_line : session.format ≡ Lines → words ≡ words_of session.format text → IfErr r (λ fatal. IsStopped fatal ⊎ (IsToldOf text fatal × ((plain : List (List ℕ)) → ArePlain words plain → IsNoCommand session.format session.object_hash plain))) → IfErr r (λ fatal. IsStopped fatal ⊎ IsMalformed session text fatal)
+  no_line lines is none = by r none
+    where
+      plain_of : (format : Format) → format ≡ Lines → (ws : List (List ℕ)) → AreWords format text ws → ArePlain (words_of format text) ws
+      plain_of Lines e ws are = are
+      plain_of Nul e ws are = absurd (not_both e)
+        where
+          not_both : Nul ≡ Lines → ⊥
+          not_both e = cc
+
+      by : (r : Result T Fatal) → IfErr r (λ fatal. IsStopped fatal ⊎ (IsToldOf text fatal × ((plain : List (List ℕ)) → ArePlain words plain → IsNoCommand session.format session.object_hash plain))) → IfErr r (λ fatal. IsStopped fatal ⊎ IsMalformed session text fatal)
+      by (Ok v) none = tt
+      by (Err fatal) (inl stopped) = inl stopped
+      by (Err fatal) (inr none) = inr (none.0, λ ws are. none.1 ws (subst (λ (x : List (List ℕ)). ArePlain x ws) (sym is) (plain_of session.format lines ws are)))
+
 -- a command is read, and done, or it ends the commands
 pub heard : (session : Session) (needs_start : Bool) (h : Heard) (r : Result (Option Closing) Fatal) (input rest out now : Option (List ℕ)) (old new : Gathered) → Hears session.format session.object_hash h input rest → (needs_start ≡ true → (old.is_started ≡ true) ⊎ (h ≡ Start)) →
     ((before after : Option (List ℕ)) → IfOk r (λ closing. TakesOrCloses session h closing (as_gathering before out old) (as_gathering after now new))) → IfOk r (λ closing. GathersOrCloses session needs_start closing (as_gathering input out old) (as_gathering rest now new))
 heard session needs_start h (Ok None) input rest out now old new hears begun takes = (h, record { hears = hears; begun = begun; takes = takes input rest })
 heard session needs_start h (Ok (Some closing)) input rest out now old new hears begun takes =
     let is = takes input rest in
-    (hears_closing session closing h input rest is.0 is.1 hears, record { edits = is.2.edits; started = is.2.started; output = is.2.output }, λ needs. ⊎_elim (λ started. inl started) (λ start. absurd (no_start h closing start is.0 is.1)) (begun needs))
+    (hears_closing closing is.0, record { edits = is.1.edits; started = is.1.started; output = is.1.output }, λ needs. ⊎_elim (λ started. inl started) (λ start. absurd (no_start closing is.0 start)) (begun needs))
   where
-    hears_closing : (session : Session) (closing : Closing) (h : Heard) (input rest : Option (List ℕ)) → h ≡ closing_of closing → (closing ≡ closings.End → ⊥) → Hears session.format session.object_hash h input rest → HearsClosing session closing input rest
-    hears_closing session closings.Prepare h input rest is some hears = subst (λ (x : Heard). Hears session.format session.object_hash x input rest) is hears
-    hears_closing session closings.Commit h input rest is some hears = subst (λ (x : Heard). Hears session.format session.object_hash x input rest) is hears
-    hears_closing session closings.Abort h input rest is some hears = subst (λ (x : Heard). Hears session.format session.object_hash x input rest) is hears
-    hears_closing session closings.End h input rest is some hears = absurd (some refl)
+    hears_closing : (closing : Closing) → IsClosing closing h → HearsClosing session closing input rest
+    hears_closing closings.Prepare is = (h, is, hears)
+    hears_closing closings.Commit is = (h, is, hears)
+    hears_closing closings.Abort is = (h, is, hears)
+    hears_closing closings.End is = absurd is
 
-    no_start : (h : Heard) (closing : Closing) → h ≡ Start → h ≡ closing_of closing → (closing ≡ closings.End → ⊥) → ⊥
-    no_start h closings.Prepare start is some = cc
-    no_start h closings.Commit start is some = cc
-    no_start h closings.Abort start is some = cc
-    no_start h closings.End start is some = some refl
+    no_start : (closing : Closing) → IsClosing closing h → h ≡ Start → ⊥
+    no_start closings.Prepare is start = cc
+    no_start closings.Commit is start = cc
+    no_start closings.Abort is start = cc
+    no_start closings.End is start = is
 heard session needs_start h (Err fatal) input rest out now old new hears begun takes = tt
+
+-- a command is read, and not done
+pub not_done : (session : Session) (needs_start : Bool) (h : Heard) (r : Result (Option Closing) Fatal) (g : Gathering) (rest : Option (List ℕ)) → Hears session.format session.object_hash h g.input rest → IfErr r (IsNotDone needs_start h g) → IfErr r (CannotGoOn session needs_start g)
+not_done session needs_start h (Ok v) g rest hears not = tt
+not_done session needs_start h (Err fatal) g rest hears not = inr (h, rest, hears, not)

@@ -1,9 +1,13 @@
 pub mod AnswerLemmas
 pub mod Closing
+pub mod CommandLemmas
 pub mod Committing
+pub mod EditLemmas
 pub mod GatherLemmas
 pub mod InputLemmas
 pub mod LeadLemmas
 pub mod Looking
 pub mod QuoteLemmas
+pub mod Serving
+pub mod Settling
 pub mod Trying

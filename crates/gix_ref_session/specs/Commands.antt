@@ -32,6 +32,14 @@ pub data Ask : Type 0 where
   SymrefDelete : (old : Option (List ℕ)) → Ask
   SymrefVerify : (old : Option (List ℕ)) → Ask
 
+-- it is asked of a symbolic reference
+abbrev pub IsSymbolic : Ask → Type 0
+IsSymbolic (SymrefUpdate target old) = Unit {0}
+IsSymbolic (SymrefCreate target) = Unit {0}
+IsSymbolic (SymrefDelete old) = Unit {0}
+IsSymbolic (SymrefVerify old) = Unit {0}
+IsSymbolic ask = ⊥
+
 -- a command that is heard
 pub data Heard : Type 0 where
   Edit : (name : List ℕ) (ask : Ask) → Heard
@@ -114,6 +122,10 @@ IsAsk format kind verb fields (SymrefDelete old) = (verb ≡ codes "symref-delet
 IsAsk format kind verb fields (SymrefVerify old) = (verb ≡ codes "symref-verify")
     × IsOldName format fields old
 
+-- nothing is what a verb asks with these fields
+abbrev pub IsNoAsk : Format → Kind → (verb : List ℕ) → (fields : List (List ℕ)) → Type 0
+IsNoAsk format kind verb fields = (ask : Ask) → IsAsk format kind verb fields ask → ⊥
+
 -- the verb, the name, and the fields after it
 abbrev pub IsVerbAndName : Format → (words : List (List ℕ)) → (verb name : List ℕ) →
     (fields : List (List ℕ)) → Type 0
@@ -132,12 +144,20 @@ IsWord word Commit = word ≡ codes "commit"
 IsWord word Abort = word ≡ codes "abort"
 IsWord word heard = ⊥
 
+-- the command that words are, if they are one word
+abbrev pub IsOneWord : (words : List (List ℕ)) → Heard → Type 0
+IsOneWord words heard = (word : List ℕ) × (words ≡ word ∷ []) × IsWord word heard
+
 -- the command that words are
 abbrev pub IsCommand : Format → Kind → (words : List (List ℕ)) → Heard → Type 0
 IsCommand format kind words (Edit name ask) = (verb : List ℕ) × (fields : List (List ℕ))
     × IsVerbAndName format words verb name fields × (name ≢ []) × IsAsk format kind verb fields ask
 IsCommand format kind words NoDeref = words ≡ no_deref_words format
-IsCommand format kind words heard = (word : List ℕ) × (words ≡ word ∷ []) × IsWord word heard
+IsCommand format kind words heard = IsOneWord words heard
+
+-- words that are no command
+abbrev pub IsNoCommand : Format → Kind → (words : List (List ℕ)) → Type 0
+IsNoCommand format kind words = (heard : Heard) → IsCommand format kind words heard → ⊥
 
 -- how many fields follow the first one of a command with NULs
 abbrev pub fields_after : List ℕ → ℕ

@@ -4,7 +4,6 @@ use Rattle.gix_ref_hash.specs.Ids.{null_id}
 use Rattle.gix_ref_hash.specs.declared.hash.Kind.{Kind}
 use Rattle.gix_ref_hash.specs.declared.hash.ObjectId.{ObjectId}
 use Rattle.gix_ref_name.specs.NameGrammar.{full_error}
-use Rattle.gix_ref_name.specs.declared.name.error.Error.{Error as NameError}
 use Rattle.gix_ref_target.specs.Targets.{TargetValue, target_value}
 use Rattle.gix_ref_target.specs.Targets.TargetValue.{object_id, symbolic_name}
 use Rattle.gix_ref_edits.specs.RefEdits.{name_of, new_of, mode_of, is_forced, message_of, expected_of}
@@ -87,7 +86,8 @@ IsChangeOf session name (SymrefUpdate target old) change = IsUpdateTo session An
 IsChangeOf session name (SymrefCreate target) change = IsUpdateTo session AndReference
     (symbolic_name target) (IsAbsence session.object_hash) change
 IsChangeOf session name (SymrefDelete None) change = IsDeletion (λ expected. expected ≡ Any) change
-IsChangeOf session name (SymrefDelete (Some old)) change = IsDeletion (IsMatch (symbolic_name old)) change
+IsChangeOf session name (SymrefDelete (Some old)) change =
+    IsDeletion (IsMatch (symbolic_name old)) change
 IsChangeOf session name (SymrefVerify None) change = IsAbsenceCheck session name change
 IsChangeOf session name (SymrefVerify (Some old)) change = IsUpdateTo session Only
     (symbolic_name old) (IsMatch (symbolic_name old)) change
@@ -100,9 +100,46 @@ follows (SymrefDelete old) deref = false
 follows (SymrefVerify old) deref = false
 follows ask deref = deref
 
+-- The names in what is asked of a reference of this name: its own, and those of targets.
+
+abbrev pub IsOldNameIn : Option OldAsk → (text : List ℕ) → Type 0
+IsOldNameIn (Some (OldName name)) text = text ≡ name
+IsOldNameIn old text = ⊥
+
+abbrev pub IsTargetIn : Ask → (text : List ℕ) → Type 0
+IsTargetIn (SymrefUpdate target old) text = (text ≡ target) ⊎ IsOldNameIn old text
+IsTargetIn (SymrefCreate target) text = text ≡ target
+IsTargetIn (SymrefDelete (Some old)) text = text ≡ old
+IsTargetIn (SymrefVerify (Some old)) text = text ≡ old
+IsTargetIn ask text = ⊥
+
+-- why a text gives no full name: there is no memory, or it breaks a rule
+abbrev pub IsNoName : (text : List ℕ) → Fatal → Type 0
+IsNoName text fatals.Memory = Unit {0}
+IsNoName text (fatals.Name error) = full_error text ≡ Some error
+IsNoName text fatal = ⊥
+
+-- why a command gives no change: there is no memory, or one of its names breaks a rule
+pub record IsNoChange (name : List ℕ) (ask : Ask) (fatal : Fatal) : Type 0 where
+  pub text : List ℕ
+  pub named : (text ≡ name) ⊎ IsTargetIn ask text
+  pub breaks : IsNoName text fatal
+
+-- a symbolic reference that is to be deleted or checked is not followed
+abbrev pub NeedsNoDeref : Ask → Type 0
+NeedsNoDeref (SymrefDelete old) = Unit {0}
+NeedsNoDeref (SymrefVerify old) = Unit {0}
+NeedsNoDeref ask = ⊥
+
+-- why a command gives no edit
+abbrev pub IsNoEdit : (deref : Bool) → (name : List ℕ) → Ask → Fatal → Type 0
+IsNoEdit deref name ask fatal = ((fatal ≡ fatals.Deref) × (deref ≡ true) × NeedsNoDeref ask)
+    ⊎ IsNoChange name ask fatal
+
 -- the edit that a command asks for
 pub record IsEditOf (session : Session) (deref : Bool) (name : List ℕ) (ask : Ask)
     (edit : RefEdit) : Type 0 where
+  pub direct : deref ≡ true → NeedsNoDeref ask → ⊥
   pub full : full_error name ≡ None
   pub name_is : name_of edit ≡ name
   pub change : IsChangeOf session name ask edit.change

@@ -3,9 +3,9 @@ use Rattle.std.specs.Prelude.{◌≡◌, ◌≢◌, ◌⊎◌, ℕ, List, [], �
 use Rattle.std.specs.Io.KnownBytes.{Appends, IsAtEnd, Keeps}
 use Rattle.gix_ref_edits.specs.declared.transaction.RefEdit.{RefEdit}
 use Rattle.gix_ref_theory.specs.Sequences.{AreDone}
-use Rattle.gix_ref_session.specs.Commands.{Heard, Edit, NoDeref, Start, Prepare, Commit, Abort}
-use Rattle.gix_ref_session.specs.Edits.{IsEditOf}
-use Rattle.gix_ref_session.specs.Input.{Hears}
+use Rattle.gix_ref_session.specs.Commands.{Heard, Edit, NoDeref, Start, Prepare, Commit, Abort, IsNoCommand}
+use Rattle.gix_ref_session.specs.Edits.{IsEditOf, IsNoEdit}
+use Rattle.gix_ref_session.specs.Input.{AreWords, Hears, HearsText}
 use Rattle.gix_ref_session.specs.declared.fatal.Fatal.{Fatal}
 use Rattle.gix_ref_session.specs.declared.fatal.Fatal.TheVariants as fatals
 use Rattle.gix_ref_session.specs.declared.gather.Closing.{Closing}
@@ -17,6 +17,32 @@ use Rattle.gix_ref_session.specs.declared.session.Session.{Session}
 abbrev pub IsUnsaid : Fatal → Type 0
 IsUnsaid (fatals.Io error) = Unit {0}
 IsUnsaid fatal = ⊥
+
+-- the reader or the writer failed, or there was no memory
+abbrev pub IsStopped : Fatal → Type 0
+IsStopped (fatals.Io error) = Unit {0}
+IsStopped fatals.Memory = Unit {0}
+IsStopped fatal = ⊥
+
+-- a text is told as no command
+abbrev pub IsToldOf : (text : List ℕ) → Fatal → Type 0
+IsToldOf text (fatals.Malformed told) = told.text.items ≡ text
+IsToldOf text fatal = ⊥
+
+-- and it is none
+abbrev pub IsMalformed : Session → (text : List ℕ) → Fatal → Type 0
+IsMalformed session text fatal = IsToldOf text fatal
+    × ((words : List (List ℕ)) → AreWords session.format text words →
+    IsNoCommand session.format session.object_hash words)
+
+-- a text is read that is no command
+abbrev pub HearsNone : Session → Fatal → (old : Option (List ℕ)) → Type 0
+HearsNone session fatal old = (text : List ℕ) × (rest : Option (List ℕ))
+    × HearsText session.format old rest text × IsMalformed session text fatal
+
+-- why no command is read
+abbrev pub IsUnheard : Session → (input : Option (List ℕ)) → Fatal → Type 0
+IsUnheard session input fatal = IsStopped fatal ⊎ HearsNone session fatal input
 
 -- A transaction on its way: the bytes that are left of the input and those that were written, where they are known; its edits;
 -- whether `start` came, and whether the next edit follows symbolic references.
@@ -46,17 +72,17 @@ pub record Gathers (session : Session) (needs_start : Bool) (heard : Heard)
   pub takes : Takes session heard s t
 
 -- the command that ends the commands of a transaction
-abbrev pub closing_of : Closing → Heard
-closing_of closings.Prepare = Prepare
-closing_of closings.Commit = Commit
-closing_of closings.Abort = Abort
-closing_of closings.End = Start
+abbrev pub IsClosing : Closing → Heard → Type 0
+IsClosing closings.Prepare heard = heard ≡ Prepare
+IsClosing closings.Commit heard = heard ≡ Commit
+IsClosing closings.Abort heard = heard ≡ Abort
+IsClosing closings.End heard = ⊥
 
 -- it is read, or the input ends
 abbrev pub HearsClosing : Session → Closing → (old new : Option (List ℕ)) → Type 0
 HearsClosing session closings.End old new = IsAtEnd old × Keeps old new
-HearsClosing session closing old new =
-    Hears session.format session.object_hash (closing_of closing) old new
+HearsClosing session closing old new = (heard : Heard) × IsClosing closing heard
+    × Hears session.format session.object_hash heard old new
 
 -- before its first command
 abbrev pub nothing_gathered : (input output : Option (List ℕ)) → Gathering
@@ -76,6 +102,30 @@ pub record AreGathered (session : Session) (needs_start : Bool) (heards : List H
   pub closed : HearsClosing session closing g.input rest
   pub begun : needs_start ≡ true → (g.started ≡ true) ⊎ (closing ≡ closings.End)
 
+-- a command is out of place: `start` is needed before it; or it is a second one
+abbrev pub IsOutOfPlace : (needs_start : Bool) → Heard → Gathering → Fatal → Type 0
+IsOutOfPlace needs_start heard s fatals.Closed =
+    (needs_start ≡ true) × (s.started ≡ false) × (heard ≢ Start)
+IsOutOfPlace needs_start heard s fatals.Restarted = (heard ≡ Start) × (s.started ≡ true)
+IsOutOfPlace needs_start heard s fatal = ⊥
+
+-- it gives no edit
+abbrev pub GivesNoEdit : Heard → Gathering → Fatal → Type 0
+GivesNoEdit (Edit name ask) s fatal = IsNoEdit s.deref name ask fatal
+GivesNoEdit heard s fatal = ⊥
+
+-- why a command is not done
+abbrev pub IsNotDone : (needs_start : Bool) → Heard → Gathering → Fatal → Type 0
+IsNotDone needs_start heard s fatal = IsStopped fatal
+    ⊎ (IsOutOfPlace needs_start heard s fatal ⊎ GivesNoEdit heard s fatal)
+
+-- why the next one is not: none is read, or it is not done
+abbrev pub CannotGoOn : Session → (needs_start : Bool) → Gathering → Fatal → Type 0
+CannotGoOn session needs_start s fatal = IsUnheard session s.input fatal
+    ⊎ ((heard : Heard) × (rest : Option (List ℕ))
+    × Hears session.format session.object_hash heard s.input rest
+    × IsNotDone needs_start heard s fatal)
+
 -- what was gathered so far, with what is known of the input and the output
 abbrev pub as_gathering : (input output : Option (List ℕ)) → Gathered → Gathering
 as_gathering input output gathered = record {
@@ -90,16 +140,17 @@ as_gathering input output gathered = record {
 pub record Stays (s t : Gathering) : Type 0 where
   pub edits : t.edits ≡ s.edits
   pub started : t.started ≡ s.started
-  pub output : Appends s.output t.output []
+  pub output : t.output ≡ s.output
 
 -- a command is done, or it ends the commands
-abbrev pub TakesOrCloses : Session → Heard → Option Closing → (s t : Gathering) → Type 0
+abbrev pub TakesOrCloses : Session → Heard → Option Closing →
+    (s t : Gathering) → Type 0
 TakesOrCloses session heard None s t = Takes session heard s t
-TakesOrCloses session heard (Some closing) s t =
-    (heard ≡ closing_of closing) × (closing ≢ closings.End) × Stays s t
+TakesOrCloses session heard (Some closing) s t = IsClosing closing heard × Stays s t
 
 -- the next command is read and done, or it ends the commands
-abbrev pub GathersOrCloses : Session → (needs_start : Bool) → Option Closing → (s t : Gathering) → Type 0
+abbrev pub GathersOrCloses : Session → (needs_start : Bool) → Option Closing →
+    (s t : Gathering) → Type 0
 GathersOrCloses session needs_start None s t =
     (heard : Heard) × Gathers session needs_start heard s t
 GathersOrCloses session needs_start (Some closing) s t =
@@ -112,6 +163,7 @@ pub record StopsShort (session : Session) (needs_start : Bool) (input output now
   pub heards : List Heard
   pub gathered : Gathering
   pub were : AreDone (Gathers session needs_start) heards (nothing_gathered input output) gathered
+  pub why : CannotGoOn session needs_start gathered fatal
   pub said : IsUnsaid fatal ⊎ Appends gathered.output now []
 
 -- they were

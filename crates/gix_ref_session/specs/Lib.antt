@@ -4,5 +4,7 @@ pub mod Gathering
 pub mod Input
 pub mod Leading
 pub mod Quotes
+pub mod Runs
 pub mod Sessions
 pub mod Transactions
+pub mod Waiting

@@ -1,5 +1,5 @@
 -- A session: transactions one after the other, with an answer to each command (`git update-ref --stdin`).
-use Rattle.std.specs.Prelude.{◌≡◌, ◌⊎◌, ℕ, List, [], ◌∷◌, ◌++◌, Bool, true, false, ◌||◌, codes, Option, Result, Ok, Err, IsErr}
+use Rattle.std.specs.Prelude.{◌≡◌, ◌⊎◌, ℕ, List, [], ◌∷◌, ◌++◌, Bool, true, false, ◌||◌, codes, Option, is_some, Result, Ok, Err}
 use Rattle.std.specs.Io.KnownBytes.{Appends, IsAtEnd, Keeps}
 use Rattle.gix_ref_files.specs.declared.files.FileError.{FileError}
 use Rattle.gix_ref_files.specs.Files.{Meaning, FaultCounts, Leaves}
@@ -13,9 +13,10 @@ use Rattle.gix_ref_store.specs.Store.{files_of}
 use Rattle.gix_ref_store.specs.declared.file.store.Store.{Store}
 use Rattle.gix_ref_program.specs.declared.update.UpdateError.TheVariants as errors
 use Rattle.gix_ref_session.specs.Commands.{Heard, Commit, Abort}
-use Rattle.gix_ref_session.specs.Gathering.{AreGathered, Gathering, IsUnsaid, StopsShort}
+use Rattle.gix_ref_session.specs.Gathering.{AreGathered, Gathering, IsUnheard, IsUnsaid, StopsShort}
 use Rattle.gix_ref_session.specs.Input.{Hears}
-use Rattle.gix_ref_session.specs.Transactions.{AfterTries, CommitFailed, IsCommitted, IsRefused, IsRolledBack, IsTransactionStop, Led}
+use Rattle.gix_ref_session.specs.Transactions.{CommitFailed, IsCommitted, IsRefused, IsRolledBack, IsTransactionStop, IsTried, Led}
+use Rattle.gix_ref_session.specs.Waiting.{HasWaited}
 use Rattle.gix_ref_session.specs.declared.fatal.Fatal.{Fatal}
 use Rattle.gix_ref_session.specs.declared.fatal.Fatal.TheVariants as fatals
 use Rattle.gix_ref_session.specs.declared.gather.Closing.{Closing}
@@ -38,17 +39,22 @@ pub record Turn : Type 0 where
   pub gathered : Gathering
   pub rest : Option (List ℕ)
 
--- a point of a session
-abbrev pub way : {F : Type 0} → (input output : Option (List ℕ)) → Store F → Way F
-way input output store = record {
+-- a point of a session, before a transaction that `start` has to begin, or need not
+abbrev pub way_on : {F : Type 0} → (needs_start : Bool) → (input output : Option (List ℕ)) →
+    Store F → Way F
+way_on needs_start input output store = record {
   input = input;
   output = output;
   store = store;
-  needs_start = false;
+  needs_start = needs_start;
 }
 
+abbrev pub way : {F : Type 0} → (input output : Option (List ℕ)) → Store F → Way F
+way = way_on false
+
 -- how `commit` is answered: it was done and that was said; or the writer failed; or it failed
-abbrev pub AnswersCommit : Result (Unit {0}) Fatal → (out now : Option (List ℕ)) → Result Bool Fatal → Type 0
+abbrev pub AnswersCommit : Result (Unit {0}) Fatal → (out now : Option (List ℕ)) →
+    Result Bool Fatal → Type 0
 AnswersCommit (Ok done) out now (Ok true) = Appends out now (codes "commit: ok\n")
 AnswersCommit (Ok done) out now (Err fatal) = IsUnsaid fatal
 AnswersCommit (Err fatal) out now (Err error) = (error ≡ fatal) × Appends out now []
@@ -60,8 +66,17 @@ AnswersAbort out now (Ok true) = Appends out now (codes "abort: ok\n")
 AnswersAbort out now (Ok false) = ⊥
 AnswersAbort out now (Err fatal) = IsUnsaid fatal
 
+-- why what is prepared is not closed: another command than `commit` and `abort` is read, or none
+abbrev pub IsUnclosed : Session → (input : Option (List ℕ)) → Fatal → Type 0
+IsUnclosed session input fatal = (fatal ≡ fatals.Prepared) ⊎ IsUnheard session input fatal
+
+-- that it is prepared was said, and no more; or the writer failed
+abbrev pub IsPreparedSaid : Fatal → (out now : Option (List ℕ)) → Type 0
+IsPreparedSaid fatal out now = IsUnsaid fatal ⊎ Appends out now (codes "prepare: ok\n")
+
 -- what is heard after `prepare: ok`
-abbrev pub HeardClosing : Session → (input rest out now : Option (List ℕ)) → Result Closing Fatal → Type 0
+abbrev pub HeardClosing : Session → (input rest out now : Option (List ℕ)) →
+    Result Closing Fatal → Type 0
 HeardClosing session input rest out now (Ok closings.Commit) =
     Hears session.format session.object_hash Commit input rest
     × Appends out now (codes "prepare: ok\n")
@@ -71,7 +86,16 @@ HeardClosing session input rest out now (Ok closings.Abort) =
 HeardClosing session input rest out now (Ok closings.End) =
     IsAtEnd input × Appends out now (codes "prepare: ok\n")
 HeardClosing session input rest out now (Ok closings.Prepare) = ⊥
-HeardClosing session input rest out now (Err fatal) = Unit {0}
+HeardClosing session input rest out now (Err fatal) =
+    IsUnclosed session input fatal × IsPreparedSaid fatal out now
+
+-- why a try ends before its edits are begun: there was no memory; a look failed; or a name is in the way of another
+abbrev pub IsLookFailure : Fatal → Type 0
+IsLookFailure fatals.Memory = Unit {0}
+IsLookFailure (fatals.Find error) = Unit {0}
+IsLookFailure (fatals.List error) = Unit {0}
+IsLookFailure (fatals.Clash name) = Unit {0}
+IsLookFailure fatal = ⊥
 
 -- what was answered before a commit
 abbrev pub said_before : Closing → List ℕ
@@ -101,7 +125,8 @@ module _ {F : Type 0} (honest : Type 0) (read : FileError → Type 0) (means : F
   -- How edits that were prepared from a store end, after this command. With `true` the session goes on: they were committed, before
   -- that was answered; or, after `prepare`, given up by `abort`. With `false` the input has ended: without `start` they were
   -- committed, and after `prepare` given up.
-  abbrev pub PreparedEnds : Closing → (s t : Way F) → (edits : List RefEdit) → Result Bool Fatal → Type 0
+  abbrev pub PreparedEnds : Closing → (s t : Way F) → (edits : List RefEdit) →
+      Result Bool Fatal → Type 0
   PreparedEnds closings.Commit s t edits (Ok true) =
       IsCommitted honest means faults session.committer s.store t.store edits
       × Keeps s.input t.input × Appends s.output t.output (codes "commit: ok\n")
@@ -118,45 +143,54 @@ module _ {F : Type 0} (honest : Type 0) (read : FileError → Type 0) (means : F
   PreparedEnds closings.Prepare s t edits (Ok false) =
       IsRolledBack honest means faults s.store t.store edits
       × IsAtEnd s.input × Appends s.output t.output (codes "prepare: ok\n")
-  -- their commit failed; or after `prepare` they were given up; or the writer failed after they were committed
+  -- their commit failed; or after `prepare` they were not closed, and given up; or the writer failed after they were committed
   PreparedEnds closing s t edits (Err fatal) =
       (CommitFailed honest means faults session.committer read fatal s.store t.store edits
       × Appends s.output t.output (said_before closing))
-      ⊎ (((closing ≡ closings.Prepare) × IsRolledBack honest means faults s.store t.store edits)
+      ⊎ (((closing ≡ closings.Prepare) × IsRolledBack honest means faults s.store t.store edits
+      × IsUnclosed session s.input fatal × IsPreparedSaid fatal s.output t.output)
       ⊎ (IsUnsaid fatal × IsCommitted honest means faults session.committer s.store t.store edits))
   PreparedEnds closing s t edits result = ⊥
 
   -- edits were not prepared, by the first cause against them
-  pub record NotPrepared (edits : List RefEdit) (s t : Way F) (result : Result Bool Fatal) : Type 0 where
+  pub record NotPrepared (edits : List RefEdit) (s t : Way F)
+      (result : Result Bool Fatal) : Type 0 where
     pub error : Cause
     pub is : result ≡ Err (fatals.Update (errors.Prepare error))
     pub refused : IsRefused honest means faults session.committer read (errors.Prepare error)
         s.store t.store edits
-    pub input : Keeps s.input t.input
-    pub output : Appends s.output t.output []
+    pub input : t.input ≡ s.input
+    pub output : t.output ≡ s.output
 
   -- how edits end: they were not prepared; or they were, and ended as above
-  abbrev pub MakeEnds : Closing → (edits : List RefEdit) → (s t : Way F) → Result Bool Fatal → Type 0
+  abbrev pub MakeEnds : Closing → (edits : List RefEdit) → (s t : Way F) →
+      Result Bool Fatal → Type 0
   MakeEnds closing edits s t result = NotPrepared edits s t result
       ⊎ PreparedEnds closing s t edits result
 
-  -- a look failed, or a name is in the way of another
+  -- it ends before they are begun
   pub record OnlyLooked (s t : Way F) (result : Result Bool Fatal) : Type 0 where
-    pub failed : IsErr result
+    pub fatal : Fatal
+    pub is : result ≡ Err fatal
+    pub why : IsLookFailure fatal
     pub looked : LooksUp honest means s.store t.store
-    pub input : Keeps s.input t.input
-    pub output : Appends s.output t.output []
+    pub input : t.input ≡ s.input
+    pub output : t.output ≡ s.output
 
   -- How a try of these edits ends: it was only looked; or symbolic references led them to others, which ended as above.
   abbrev pub TryEnds : Closing → (edits : List RefEdit) → (s t : Way F) → Result Bool Fatal → Type 0
   TryEnds closing edits s t result = OnlyLooked s t result
-      ⊎ Led honest means faults (λ at new led. MakeEnds closing led
+      ⊎ Led honest means faults (is_some session.committer) (λ at new led. MakeEnds closing led
       (way s.input s.output at) (way t.input t.output new) result) edits s.store t.store
 
-  -- how a transaction ends: as a try, after some that another's lock refused
-  abbrev pub Settles : Closing → (edits : List RefEdit) → (s t : Way F) → Result Bool Fatal → Type 0
-  Settles closing edits s t result = AfterTries honest means faults session.committer read edits
-      (λ mid new. TryEnds closing edits (record s { store = mid }) t result) s.store t.store
+  -- how a transaction ends: as a try, after some that a lock of another's refused, which was waited for
+  pub record Settles (closing : Closing) (edits : List RefEdit) (s t : Way F)
+      (result : Result Bool Fatal) : Type 0 where
+    pub tries : List Cause
+    pub mid : Store F
+    pub were : AreDone (IsTried honest means faults session.committer read edits) tries s.store mid
+    pub ends : TryEnds closing edits (record s { store = mid }) t result
+    pub waited : HasWaited session tries result
 
   -- Its end. Given up by `abort`, or since the input ends after `start`, or before a command, it changes nothing.
   abbrev pub Closes : Closing → (edits : List RefEdit) → (gives_up : Bool) → (s t : Way F) →
@@ -177,6 +211,18 @@ module _ {F : Type 0} (honest : Type 0) (read : FileError → Type 0) (means : F
     pub ends : Closes turn.closing turn.gathered.edits (turn.gathered.started || s.needs_start)
         (record s { input = turn.rest; output = turn.gathered.output }) t result
 
+  -- a stop in a transaction leaves this tree
+  abbrev pub IsTurnStop : Tree → Turn → Way F → Type 0
+  IsTurnStop T turn s = (T ≡ tree_of means s.store)
+      ⊎ IsTransactionStop honest means faults session.committer read turn.gathered.edits s.store T
+
+  -- how the next transaction went, and what a stop in it leaves
+  pub record Turns (s t : Way F) (result : Result Bool Fatal) : Type 0 where
+    pub turn : Turn
+    pub ends : TurnEnds turn s t result
+    pub leaves : honest → Leaves (means (files_of s.store)) (means (files_of t.store))
+        (λ T. IsTurnStop T turn s)
+
   -- it was closed, and only `start` begins the next one
   pub record TurnDone (turn : Turn) (s t : Way F) : Type 0 where
     pub ends : TurnEnds turn s t (Ok true)
@@ -187,17 +233,18 @@ module _ {F : Type 0} (honest : Type 0) (read : FileError → Type 0) (means : F
     pub store : t.store ≡ s.store
     pub short : StopsShort session s.needs_start s.input s.output t.output fatal
 
+  -- how a step of a session comes out: a transaction, or the commands of none
+  abbrev pub TurnComes : (s t : Way F) → Result Bool Fatal → Type 0
+  TurnComes s t result = Turns s t result
+      ⊎ ((fatal : Fatal) × (result ≡ Err fatal) × NotHeard s t fatal)
+
   -- how a session ends: with this transaction, or before the commands of one were heard
-  abbrev pub SessionEnds : {E : Type 0} → (rest : List Turn) → (s t : Way F) → Result E Fatal → Type 0
+  abbrev pub SessionEnds : {E : Type 0} → (rest : List Turn) → (s t : Way F) →
+      Result E Fatal → Type 0
   SessionEnds (turn ∷ []) s t (Ok value) = TurnEnds turn s t (Ok false)
   SessionEnds (turn ∷ []) s t (Err fatal) = TurnEnds turn s t (Err fatal)
   SessionEnds [] s t (Err fatal) = NotHeard s t fatal
   SessionEnds rest s t result = ⊥
-
-  -- a stop in a transaction leaves this tree
-  abbrev pub IsTurnStop : Tree → Turn → Way F → Type 0
-  IsTurnStop T turn s = (T ≡ tree_of means s.store)
-      ⊎ IsTransactionStop honest means faults session.committer read turn.gathered.edits s.store T
 
   -- A stop in a session of these transactions: each was closed after the one before, up to one, in which the stop comes, or after
   -- the last of them.

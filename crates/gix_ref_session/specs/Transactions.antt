@@ -1,5 +1,5 @@
 -- One transaction of a session: tried, and tried again where another holds a lock, up to its end.
-use Rattle.std.specs.Prelude.{◌≡◌, ◌⊎◌, List, Option, Result, Ok, Err}
+use Rattle.std.specs.Prelude.{◌≡◌, ◌⊎◌, List, Bool, Option, is_some, Result, Ok, Err}
 use Rattle.gix_ref_files.specs.declared.files.FileError.{FileError}
 use Rattle.gix_ref_files.specs.Files.{Meaning, FaultCounts}
 use Rattle.gix_ref_files.specs.Tree.{Path, Tree}
@@ -25,7 +25,7 @@ use Rattle.gix_ref_store.specs.declared.file.transaction.outcome.Failed.{Failed}
 use Rattle.gix_ref_program.specs.Updates.{IsBegun, IsStopOf, IsUpdateError, UpdateMade}
 use Rattle.gix_ref_program.specs.declared.update.UpdateError.{UpdateError}
 use Rattle.gix_ref_program.specs.declared.update.UpdateError.TheVariants.{Prepare, Commit}
-use Rattle.gix_ref_session.specs.Leading.{AreLed}
+use Rattle.gix_ref_session.specs.Leading.{AreLed, LeadsIn}
 use Rattle.gix_ref_session.specs.declared.fatal.Fatal.{Fatal}
 use Rattle.gix_ref_session.specs.declared.fatal.Fatal.TheVariants as fatals
 
@@ -40,7 +40,8 @@ IsLocked causes.PackedTransactionAcquire = Unit {0}
 IsLocked cause = ⊥
 
 -- what a commit returns, as a result of the session
-abbrev pub IsCommitResult : {T : Type 0} → Result (Done T) (Failed T) → Result (Unit {0}) Fatal → Type 0
+abbrev pub IsCommitResult : {T : Type 0} → Result (Done T) (Failed T) →
+    Result (Unit {0}) Fatal → Type 0
 IsCommitResult (Ok done) result = result ≡ Ok tt
 IsCommitResult (Err failed) result = result ≡ Err (fatals.Update (Commit failed.error))
 
@@ -95,39 +96,30 @@ module _ {F : Type 0} (honest : Type 0) (means : F → Meaning) (faults : F → 
       × RemovesLocks (held_locks begun.packed begun.held) (tree_of means begun.mid) T)
 
   -- Symbolic references were looked up, which changes nothing, and lead these edits to others, which end so.
-  pub record Led (Ends : (old new : Store F) → List RefEdit → Type 0) (edits : List RefEdit)
-      (old new : Store F) : Type 0 where
+  pub record Led (writes_lines : Bool) (Ends : (old new : Store F) → List RefEdit → Type 0)
+      (edits : List RefEdit) (old new : Store F) : Type 0 where
     pub at : Store F
     pub led : List RefEdit
     pub looked : LooksUp honest means old at
-    pub are_led : AreLed edits led
+    pub are_led : AreLed (LeadsIn honest means old writes_lines) edits led
     pub ends : Ends at new led
 
-  module _ (committer : Option SignatureRef) (read : FileError → Type 0) (edits : List RefEdit) where
-    -- the edits were made; given up; or refused
-    abbrev pub IsMade : (old new : Store F) → Type 0
-    IsMade = Led (IsCommitted committer) edits
-
-    abbrev pub IsGivenUp : (old new : Store F) → Type 0
-    IsGivenUp = Led IsRolledBack edits
-
+  module _ (committer : Option SignatureRef) (read : FileError → Type 0)
+      (edits : List RefEdit) where
+    -- the edits were refused
     abbrev pub IsNotMade : UpdateError → (old new : Store F) → Type 0
-    IsNotMade error = Led (IsRefused committer read error) edits
+    IsNotMade error = Led (is_some committer) (IsRefused committer read error) edits
 
     -- A stop in a try leaves this tree: the one before, or what one leaves once its edits were begun.
     abbrev pub IsTryStop : Store F → Tree → Type 0
     IsTryStop old T = (T ≡ tree_of means old)
         ⊎ ((at : Store F) × (led : List RefEdit) × LooksUp honest means old at
-        × AreLed edits led × IsEditStop committer at led T)
+        × AreLed (LeadsIn honest means old (is_some committer)) edits led
+        × IsEditStop committer at led T)
 
     -- a try that was refused since another holds a lock
     abbrev pub IsTried : Cause → (old new : Store F) → Type 0
     IsTried cause old new = IsLocked cause × IsNotMade (Prepare cause) old new
-
-    -- after so many tries that were refused
-    abbrev pub AfterTries : (Ends : (old new : Store F) → Type 0) → (old new : Store F) → Type 0
-    AfterTries Ends old new = (tries : List Cause) × (mid : Store F)
-        × AreDone IsTried tries old mid × Ends mid new
 
     -- A stop in a transaction leaves this tree: what a stop in a try leaves, after some that were refused.
     abbrev pub IsTransactionStop : Store F → Tree → Type 0

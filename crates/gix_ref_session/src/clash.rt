@@ -1,20 +1,53 @@
 //! Names that are in one another's way: of `refs/heads/a` and `refs/heads/a/b` only one may exist (`git update-ref`).
 
+ghost use Rattle.std.specs.Prelude.{IfErr};
 ghost use Rattle.gix_ref_store.specs.Lookup.{LooksUp};
+ghost use Rattle.gix_ref_session.specs.Sessions.{IsLookFailure};
 
 use crate::fatal::Fatal;
-use crate::lead::target_of;
 use gix_ref_edits::transaction::{PreviousValue, RefEdit};
 use gix_ref_files::files::Files;
 use gix_ref_name::name::{FullName, FullNameRef};
 use gix_ref_packed::packed::Buffer;
+use gix_ref_queries::resolve::{End, Followed, NameRead, follow, read_name};
 use gix_ref_store::file::Store;
 use gix_ref_store::file::iter::{self, LooseNames};
-use gix_ref_target::target::Target;
 use std::alloc::{AllocError, Global};
 
-/// How many symbolic references are followed.
-const MOST_STEPS: u8 = 5;
+/// Whether there is a reference of this full name.
+fn exists<F: Files>(
+    alloc: Global,
+    store: &mut Store<F>,
+    name: FullNameRef<'_>,
+) -> Result<bool, Fatal>
+    ensures unchanged { LooksUp F.honest F.means store.old store.new }
+    ensures fails { IfErr result IsLookFailure }
+{
+    match read_name(alloc, store, name) {
+        NameRead::Is(_) => Ok(true),
+        NameRead::Absent => Ok(false),
+        NameRead::Unread(error) => Err(Fatal::Find(error)),
+        NameRead::Memory => Err(Fatal::Memory),
+    }
+}
+
+/// The last name that symbolic references lead this one to, where there is no reference of it.
+fn missing_end<F: Files>(
+    alloc: Global,
+    store: &mut Store<F>,
+    name: &FullName,
+) -> Result<Option<FullName>, Fatal>
+    ensures unchanged { LooksUp F.honest F.means store.old store.new }
+    ensures fails { IfErr result IsLookFailure }
+{
+    let Followed { name: last, end } = follow(alloc, store, name.clone()?);
+    match end {
+        End::Absent => Ok(Some(last)),
+        End::Object(_) | End::TooDeep => Ok(None),
+        End::Unread(error) => Err(Fatal::Find(error)),
+        End::Memory => Err(Fatal::Memory),
+    }
+}
 
 /// The name of the reference that an edit is of in the end, where it is not there. One that has to be there is not looked for.
 #[tactic(auto, using(crate::proofs::Looking::looks_on, crate::proofs::Looking::looks_same))]
@@ -24,6 +57,7 @@ fn missing_name<F: Files>(
     edit: &RefEdit,
 ) -> Result<Option<FullName>, Fatal>
     ensures unchanged { LooksUp F.honest F.means store.old store.new }
+    ensures fails { IfErr result IsLookFailure }
 {
     if matches!(
         edit.change.expectation(),
@@ -31,15 +65,13 @@ fn missing_name<F: Files>(
     ) {
         return Ok(None);
     }
-    let mut name = edit.name.clone()?;
-    'steps: for _ in 0..MOST_STEPS {
-        match target_of(alloc, store, name.as_ref())? {
-            None => return Ok(Some(name)),
-            Some(Target::Symbolic(next)) if edit.deref => name = next,
-            Some(_) => return Ok(None),
-        }
+    if edit.deref {
+        return missing_end(alloc, store, &edit.name);
     }
-    Ok(None)
+    if exists(alloc, store, edit.name.as_ref())? {
+        return Ok(None);
+    }
+    Ok(Some(edit.name.clone()?))
 }
 
 /// Whether there is a reference of this name, or an edit of it.
@@ -51,14 +83,12 @@ fn is_taken<F: Files>(
     edited: &[&[u8]],
 ) -> Result<bool, Fatal>
     ensures unchanged { LooksUp F.honest F.means store.old store.new }
+    ensures fails { IfErr result IsLookFailure }
 {
     if edited.binary_search(&name.to_path()).is_ok() {
         return Ok(true);
     }
-    match target_of(alloc, store, name) {
-        Ok(target) => Ok(target.is_some()),
-        Err(fatal) => Err(fatal),
-    }
+    exists(alloc, store, name)
 }
 
 /// Whether a folder of the name is a reference, or has an edit.
@@ -70,8 +100,9 @@ fn is_below_one<F: Files>(
     edited: &[&[u8]],
 ) -> Result<bool, Fatal>
     ensures unchanged { LooksUp F.honest F.means store.old store.new }
+    ensures fails { IfErr result IsLookFailure }
 {
-    'bytes: for (at, byte) in name.iter().enumerate() {
+    for (at, byte) in name.iter().enumerate() {
         if *byte == b'/' {
             if let Ok(folder) = FullNameRef::try_from(&name[..at]) {
                 if is_taken(alloc, store, folder, edited)? {
@@ -92,6 +123,7 @@ fn lists_one<F: Files>(
     packed: Option<&Buffer>,
 ) -> Result<bool, Fatal>
     ensures unchanged { LooksUp F.honest F.means store.old store.new }
+    ensures fails { IfErr result IsLookFailure }
 {
     match store.iter_walked(alloc, names, packed) {
         Ok(mut items) => {
@@ -108,6 +140,7 @@ fn lists_one<F: Files>(
 #[tactic(auto, using(crate::proofs::Looking::looks_on, crate::proofs::Looking::looks_same))]
 fn has_below<F: Files>(alloc: Global, store: &mut Store<F>, prefix: &[u8]) -> Result<bool, Fatal>
     ensures unchanged { LooksUp F.honest F.means store.old store.new }
+    ensures fails { IfErr result IsLookFailure }
 {
     let names = match store.walk_prefixed(alloc, prefix) {
         Ok(names) => names,
@@ -128,6 +161,7 @@ fn check_name<F: Files>(
     edited: &[&[u8]],
 ) -> Result<(), Fatal>
     ensures unchanged { LooksUp F.honest F.means store.old store.new }
+    ensures fails { IfErr result IsLookFailure }
 {
     let Some(name) = missing_name(alloc, store, edit)? else {
         return Ok(());
@@ -161,6 +195,7 @@ pub(crate) fn check_names<F: Files>(
     edits: &[RefEdit],
 ) -> Result<(), Fatal>
     ensures unchanged { LooksUp F.honest F.means store.old store.new }
+    ensures fails { IfErr result IsLookFailure }
 {
     let edited = names_of(alloc, edits)?;
     for edit in edits {

@@ -1,7 +1,9 @@
 //! The commands of `git update-ref --stdin`, read from the words of their texts.
-ghost use Rattle.std.specs.Prelude.{◌≡◌, [], ◌∷◌, IfOk, IfSome, codes};
+ghost use Rattle.std.specs.Prelude.{◌≡◌, ◌≢◌, [], ◌∷◌, List, ℕ, Option, IfOk, IfErr, MatchOption, codes};
 ghost use Rattle.std.specs.Option.{option_map};
-ghost use Rattle.gix_ref_session.specs.Commands.{IsAsk, IsCommand, IsIdField, IsNewId, IsOldId, IsOldName, IsOldTarget, IsTarget, IsVerbAndName, IsWord, ask_of, fields_after, heard_of, no_deref_words, old_target_of, texts, words_of};
+ghost use Rattle.gix_ref_hash.specs.Bytes.{NoByte};
+ghost use Rattle.gix_ref_hash.specs.declared.hash.ObjectId.{ObjectId};
+ghost use Rattle.gix_ref_session.specs.Commands.{Ask, Edit, Heard, IsAsk, IsCommand, IsIdField, IsNewId, IsNoAsk, IsNoCommand, IsOldId, IsOldName, IsOldTarget, IsOneWord, IsSymbolic, IsTarget, IsVerbAndName, IsWord, OldAsk, ask_of, fields_after, heard_of, no_deref_words, old_target_of, texts, words_of};
 
 use crate::input::Format;
 use gix_ref_hash::bytes::cut;
@@ -127,7 +129,8 @@ pub(crate) fn words_of(alloc: Global, text: &[u8], format: Format) -> Result<Vec
 
 /// The id that a field is; an empty one is the null id.
 fn id_of(field: &[u8], kind: Kind) -> Result<ObjectId, Malformed>
-    ensures { IfOk result (IsIdField kind field.now) }
+    ensures parsed { IfOk result (IsIdField kind field.now) }
+    ensures refused { IfErr result (λ _. (id : ObjectId) → IsIdField kind field.now id → ⊥) }
 {
     if field.is_empty() {
         return Ok(kind.null());
@@ -140,7 +143,8 @@ fn id_of(field: &[u8], kind: Kind) -> Result<ObjectId, Malformed>
 
 /// That no field is left.
 fn end(fields: &[&[u8]]) -> Result<(), Malformed>
-    ensures { IfOk result (λ _. texts fields.now ≡ []) }
+    ensures parsed { IfOk result (λ _. texts fields.now ≡ []) }
+    ensures refused { IfErr result (λ _. texts fields.now ≢ []) }
 {
     if fields.is_empty() {
         Ok(())
@@ -151,7 +155,8 @@ fn end(fields: &[&[u8]]) -> Result<(), Malformed>
 
 /// A field, and those after it.
 fn next<'a, 't>(fields: &'a [&'t [u8]]) -> Result<(&'t [u8], &'a [&'t [u8]]), Malformed>
-    ensures { IfOk result (λ r. texts fields.now ≡ r.0.now ∷ texts r.1.now) }
+    ensures parsed { IfOk result (λ r. texts fields.now ≡ r.0.now ∷ texts r.1.now) }
+    ensures refused { IfErr result (λ _. texts fields.now ≡ []) }
 {
     match fields.split_first() {
         Some((field, rest)) => Ok((*field, rest)),
@@ -164,7 +169,9 @@ fn new_id<'a, 't>(
     fields: &'a [&'t [u8]],
     kind: Kind,
 ) -> Result<(ObjectId, &'a [&'t [u8]]), Malformed>
-    ensures { IfOk result (λ r. IsNewId kind (texts fields.now) r.0 (texts r.1.now)) }
+    ensures parsed { IfOk result (λ r. IsNewId kind (texts fields.now) r.0 (texts r.1.now)) }
+    ensures refused { IfErr result (λ _. (id : ObjectId) (rest : List (List ℕ)) →
+        IsNewId kind (texts fields.now) id rest → ⊥) }
 {
     let (field, rest) = next(fields)?;
     Ok((id_of(field, kind)?, rest))
@@ -172,7 +179,9 @@ fn new_id<'a, 't>(
 
 /// `[OLD]`: an empty field is a missing one with NULs, and the null id in lines.
 fn old_id(fields: &[&[u8]], format: Format, kind: Kind) -> Result<Option<ObjectId>, Malformed>
-    ensures { IfOk result (IsOldId format kind (texts fields.now)) }
+    ensures parsed { IfOk result (IsOldId format kind (texts fields.now)) }
+    ensures refused { IfErr result (λ _. (old : Option ObjectId) →
+        IsOldId format kind (texts fields.now) old → ⊥) }
 {
     if fields.is_empty() && format == Format::Lines {
         return Ok(None);
@@ -187,7 +196,9 @@ fn old_id(fields: &[&[u8]], format: Format, kind: Kind) -> Result<Option<ObjectI
 
 /// `NEW-TARGET`, and the fields after it.
 fn new_target<'a, 't>(fields: &'a [&'t [u8]]) -> Result<(&'t [u8], &'a [&'t [u8]]), Malformed>
-    ensures { IfOk result (λ r. IsTarget (texts fields.now) r.0.now (texts r.1.now)) }
+    ensures parsed { IfOk result (λ r. IsTarget (texts fields.now) r.0.now (texts r.1.now)) }
+    ensures refused { IfErr result (λ _. (target : List ℕ) (rest : List (List ℕ)) →
+        IsTarget (texts fields.now) target rest → ⊥) }
 {
     let (field, rest) = next(fields)?;
     if field.is_empty() {
@@ -198,8 +209,10 @@ fn new_target<'a, 't>(fields: &'a [&'t [u8]]) -> Result<(&'t [u8], &'a [&'t [u8]
 
 /// `[OLD-TARGET]`
 fn old_name<'t>(fields: &[&'t [u8]], format: Format) -> Result<Option<&'t [u8]>, Malformed>
-    ensures { IfOk result
+    ensures parsed { IfOk result
         (λ old. IsOldName format (texts fields.now) (option_map (λ name. name.now) old)) }
+    ensures refused { IfErr result (λ _. (old : Option (List ℕ)) →
+        IsOldName format (texts fields.now) old → ⊥) }
 {
     if fields.is_empty() && format == Format::Lines {
         return Ok(None);
@@ -218,8 +231,10 @@ fn old_target<'t>(
     format: Format,
     kind: Kind,
 ) -> Result<Option<OldTarget<'t>>, Malformed>
-    ensures { IfOk result
+    ensures parsed { IfOk result
         (λ old. IsOldTarget format kind (texts fields.now) (option_map old_target_of old)) }
+    ensures refused { IfErr result (λ _. (old : Option OldAsk) →
+        IsOldTarget format kind (texts fields.now) old → ⊥) }
 {
     if fields.is_empty() && format == Format::Lines {
         return Ok(None);
@@ -241,8 +256,9 @@ fn old_target<'t>(
 
 /// `update REF NEW [OLD]`, after REF.
 fn update_of(fields: &[&[u8]], format: Format, kind: Kind) -> Result<Asked<'static>, Malformed>
-    ensures { IfOk result
+    ensures parsed { IfOk result
         (λ asked. IsAsk format kind (codes "update") (texts fields.now) (ask_of asked)) }
+    ensures refused { IfErr result (λ _. IsNoAsk format kind (codes "update") (texts fields.now)) }
 {
     let (new, rest) = new_id(fields, kind)?;
     let old = old_id(rest, format, kind)?;
@@ -251,8 +267,9 @@ fn update_of(fields: &[&[u8]], format: Format, kind: Kind) -> Result<Asked<'stat
 
 /// `create REF NEW`, after REF.
 fn create_of(fields: &[&[u8]], format: Format, kind: Kind) -> Result<Asked<'static>, Malformed>
-    ensures { IfOk result
+    ensures parsed { IfOk result
         (λ asked. IsAsk format kind (codes "create") (texts fields.now) (ask_of asked)) }
+    ensures refused { IfErr result (λ _. IsNoAsk format kind (codes "create") (texts fields.now)) }
 {
     let (new, rest) = new_id(fields, kind)?;
     end(rest)?;
@@ -264,8 +281,9 @@ fn create_of(fields: &[&[u8]], format: Format, kind: Kind) -> Result<Asked<'stat
 
 /// `delete REF [OLD]`, after REF.
 fn delete_of(fields: &[&[u8]], format: Format, kind: Kind) -> Result<Asked<'static>, Malformed>
-    ensures { IfOk result
+    ensures parsed { IfOk result
         (λ asked. IsAsk format kind (codes "delete") (texts fields.now) (ask_of asked)) }
+    ensures refused { IfErr result (λ _. IsNoAsk format kind (codes "delete") (texts fields.now)) }
 {
     let old = old_id(fields, format, kind)?;
     if let Some(id) = old {
@@ -278,8 +296,9 @@ fn delete_of(fields: &[&[u8]], format: Format, kind: Kind) -> Result<Asked<'stat
 
 /// `verify REF [OLD]`, after REF.
 fn verify_of(fields: &[&[u8]], format: Format, kind: Kind) -> Result<Asked<'static>, Malformed>
-    ensures { IfOk result
+    ensures parsed { IfOk result
         (λ asked. IsAsk format kind (codes "verify") (texts fields.now) (ask_of asked)) }
+    ensures refused { IfErr result (λ _. IsNoAsk format kind (codes "verify") (texts fields.now)) }
 {
     Ok(Asked::Verify {
         old: old_id(fields, format, kind)?,
@@ -292,8 +311,10 @@ fn symref_update_of<'t>(
     format: Format,
     kind: Kind,
 ) -> Result<Asked<'t>, Malformed>
-    ensures { IfOk result
+    ensures parsed { IfOk result
         (λ asked. IsAsk format kind (codes "symref-update") (texts fields.now) (ask_of asked)) }
+    ensures refused { IfErr result
+        (λ _. IsNoAsk format kind (codes "symref-update") (texts fields.now)) }
 {
     let (target, rest) = new_target(fields)?;
     let old = old_target(rest, format, kind)?;
@@ -306,8 +327,10 @@ fn symref_create_of<'t>(
     format: Format,
     kind: Kind,
 ) -> Result<Asked<'t>, Malformed>
-    ensures { IfOk result
+    ensures parsed { IfOk result
         (λ asked. IsAsk format kind (codes "symref-create") (texts fields.now) (ask_of asked)) }
+    ensures refused { IfErr result
+        (λ _. IsNoAsk format kind (codes "symref-create") (texts fields.now)) }
 {
     let (target, rest) = new_target(fields)?;
     end(rest)?;
@@ -320,8 +343,10 @@ fn symref_delete_of<'t>(
     format: Format,
     kind: Kind,
 ) -> Result<Asked<'t>, Malformed>
-    ensures { IfOk result
+    ensures parsed { IfOk result
         (λ asked. IsAsk format kind (codes "symref-delete") (texts fields.now) (ask_of asked)) }
+    ensures refused { IfErr result
+        (λ _. IsNoAsk format kind (codes "symref-delete") (texts fields.now)) }
 {
     Ok(Asked::SymrefDelete {
         old: old_name(fields, format)?,
@@ -334,8 +359,10 @@ fn symref_verify_of<'t>(
     format: Format,
     kind: Kind,
 ) -> Result<Asked<'t>, Malformed>
-    ensures { IfOk result
+    ensures parsed { IfOk result
         (λ asked. IsAsk format kind (codes "symref-verify") (texts fields.now) (ask_of asked)) }
+    ensures refused { IfErr result
+        (λ _. IsNoAsk format kind (codes "symref-verify") (texts fields.now)) }
 {
     Ok(Asked::SymrefVerify {
         old: old_name(fields, format)?,
@@ -349,8 +376,10 @@ fn symref_of<'t>(
     format: Format,
     kind: Kind,
 ) -> Result<Asked<'t>, Malformed>
-    ensures { IfOk result
+    ensures parsed { IfOk result
         (λ asked. IsAsk format kind verb.now (texts fields.now) (ask_of asked)) }
+    ensures refused { IfErr result (λ _. (ask : Ask) → IsSymbolic ask →
+        IsAsk format kind verb.now (texts fields.now) ask → ⊥) }
 {
     if verb == b"symref-update".as_slice() {
         return symref_update_of(fields, format, kind);
@@ -374,8 +403,9 @@ fn asked_of<'t>(
     format: Format,
     kind: Kind,
 ) -> Result<Asked<'t>, Malformed>
-    ensures { IfOk result
+    ensures parsed { IfOk result
         (λ asked. IsAsk format kind verb.now (texts fields.now) (ask_of asked)) }
+    ensures refused { IfErr result (λ _. IsNoAsk format kind verb.now (texts fields.now)) }
 {
     if verb == b"update".as_slice() {
         return update_of(fields, format, kind);
@@ -397,8 +427,11 @@ fn verb_and_name<'a, 't>(
     words: &'a [&'t [u8]],
     format: Format,
 ) -> Result<(&'t [u8], &'t [u8], &'a [&'t [u8]]), Malformed>
-    ensures { IfOk result
+    ensures parsed { IfOk result
         (λ r. IsVerbAndName format (texts words.now) r.0.now r.1.now (texts r.2.now)) }
+    ensures first_space { IfOk result (λ r. format ≡ Format.Nul → NoByte 32 r.0.now) }
+    ensures refused { IfErr result (λ _. (verb name : List ℕ) (fields : List (List ℕ)) →
+        IsVerbAndName format (texts words.now) verb name fields → ⊥) }
 {
     let (first, rest) = next(words)?;
     match format {
@@ -415,8 +448,10 @@ fn verb_and_name<'a, 't>(
 
 /// A command that asks something of a reference.
 fn edit_of<'t>(words: &[&'t [u8]], format: Format, kind: Kind) -> Result<Command<'t>, Malformed>
-    ensures { IfOk result
+    ensures parsed { IfOk result
         (λ command. IsCommand format kind (texts words.now) (heard_of command)) }
+    ensures refused { IfErr result (λ _. (name : List ℕ) (ask : Ask) →
+        IsCommand format kind (texts words.now) (Edit name ask) → ⊥) }
 {
     let (verb, name, fields) = verb_and_name(words, format)?;
     if name.is_empty() {
@@ -428,17 +463,17 @@ fn edit_of<'t>(words: &[&'t [u8]], format: Format, kind: Kind) -> Result<Command
 
 /// The words after the first, if that is this one.
 fn strip_word<'a, 't>(words: &'a [&'t [u8]], word: &[u8]) -> Option<&'a [&'t [u8]]>
-    ensures { IfSome result (λ rest. texts words.now ≡ word.now ∷ texts rest.now) }
+    ensures { MatchOption result ((rest : List (List ℕ)) → texts words.now ≢ word.now ∷ rest)
+        (λ rest. texts words.now ≡ word.now ∷ texts rest.now) }
 {
-    match words.split_first() {
-        Some((first, rest)) if *first == word => Some(rest),
-        _ => None,
-    }
+    let (first, rest) = words.split_first()?;
+    if *first == word { Some(rest) } else { None }
 }
 
 /// `option no-deref` of a line.
 fn line_option(words: &[&[u8]]) -> Option<()>
-    ensures { IfSome result (λ _. texts words.now ≡ no_deref_words Format.Lines) }
+    ensures { MatchOption result (texts words.now ≢ no_deref_words Format.Lines)
+        (λ _. texts words.now ≡ no_deref_words Format.Lines) }
 {
     let rest = strip_word(words, b"option")?;
     let rest = strip_word(rest, b"no-deref")?;
@@ -447,7 +482,8 @@ fn line_option(words: &[&[u8]]) -> Option<()>
 
 /// `option no-deref` with NULs.
 fn nul_option(words: &[&[u8]]) -> Option<()>
-    ensures { IfSome result (λ _. texts words.now ≡ no_deref_words Format.Nul) }
+    ensures { MatchOption result (texts words.now ≢ no_deref_words Format.Nul)
+        (λ _. texts words.now ≡ no_deref_words Format.Nul) }
 {
     let rest = strip_word(words, b"option no-deref")?;
     end(rest).ok()
@@ -455,7 +491,8 @@ fn nul_option(words: &[&[u8]]) -> Option<()>
 
 /// `option no-deref`.
 fn no_deref(words: &[&[u8]], format: Format) -> Option<()>
-    ensures { IfSome result (λ _. texts words.now ≡ no_deref_words format) }
+    ensures { MatchOption result (texts words.now ≢ no_deref_words format)
+        (λ _. texts words.now ≡ no_deref_words format) }
 {
     match format {
         Format::Lines => line_option(words),
@@ -465,7 +502,8 @@ fn no_deref(words: &[&[u8]], format: Format) -> Option<()>
 
 /// The command that one word is.
 fn word_of(word: &[u8]) -> Result<Command<'static>, Malformed>
-    ensures { IfOk result (λ command. IsWord word.now (heard_of command)) }
+    ensures parsed { IfOk result (λ command. IsWord word.now (heard_of command)) }
+    ensures refused { IfErr result (λ _. (heard : Heard) → IsWord word.now heard → ⊥) }
 {
     if word == b"start".as_slice() {
         return Ok(Command::Start);
@@ -482,23 +520,31 @@ fn word_of(word: &[u8]) -> Result<Command<'static>, Malformed>
     Err(Malformed::Unknown)
 }
 
+/// The command that words are, if they are one word.
+fn one_word(words: &[&[u8]]) -> Result<Command<'static>, Malformed>
+    ensures parsed { IfOk result (λ command. IsOneWord (texts words.now) (heard_of command)) }
+    ensures refused { IfErr result (λ _. (heard : Heard) → IsOneWord (texts words.now) heard → ⊥) }
+{
+    let (first, rest) = next(words)?;
+    end(rest)?;
+    word_of(first)
+}
+
 /// The command that these words are.
 pub(crate) fn parse<'t>(
     words: &[&'t [u8]],
     format: Format,
     kind: Kind,
 ) -> Result<Command<'t>, Malformed>
-    ensures { IfOk result
+    ensures parsed { IfOk result
         (λ command. IsCommand format kind (texts words.now) (heard_of command)) }
+    ensures refused { IfErr result (λ _. IsNoCommand format kind (texts words.now)) }
 {
     if no_deref(words, format).is_some() {
         return Ok(Command::NoDeref);
     }
-    let (first, rest) = next(words)?;
-    if rest.is_empty() {
-        if let Ok(command) = word_of(first) {
-            return Ok(command);
-        }
+    if let Ok(command) = one_word(words) {
+        return Ok(command);
     }
     edit_of(words, format, kind)
 }

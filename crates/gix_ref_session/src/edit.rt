@@ -1,13 +1,13 @@
 //! The edit that a command asks for.
-ghost use Rattle.std.specs.Prelude.{◌≡◌, ◌≢◌, false, None, Some, IfOk, MatchResult};
+ghost use Rattle.std.specs.Prelude.{◌≡◌, ◌≢◌, ℕ, List, false, None, Some, IfOk, IfErr, MatchBool, MatchResult};
 ghost use Rattle.std.specs.Option.{option_map};
 ghost use Rattle.gix_ref_hash.specs.Ids.{null_id};
 ghost use Rattle.gix_ref_name.specs.NameGrammar.{full_error};
 ghost use Rattle.gix_ref_name.specs.Names.{full_bytes};
 ghost use Rattle.gix_ref_target.specs.Targets.{target_value};
 ghost use Rattle.gix_ref_target.specs.Targets.TargetValue.{object_id, symbolic_name};
-ghost use Rattle.gix_ref_session.specs.Commands.{SymrefDelete, SymrefVerify, ask_of, old_target_of};
-ghost use Rattle.gix_ref_session.specs.Edits.{IsAbsence, IsAbsenceCheck, IsChangeOf, IsCheck, IsDeletion, IsEditOf, IsExpected, IsExpectedTarget, IsMatch, IsUpdateTo, follows};
+ghost use Rattle.gix_ref_session.specs.Commands.{SymrefDelete, SymrefUpdate, SymrefVerify, ask_of, old_target_of};
+ghost use Rattle.gix_ref_session.specs.Edits.{IsAbsence, IsAbsenceCheck, IsChangeOf, IsCheck, IsDeletion, IsEditOf, IsExpected, IsExpectedTarget, IsMatch, IsNoChange, IsNoEdit, IsNoName, IsUpdateTo, NeedsNoDeref, follows};
 
 use crate::command::{Asked, OldTarget};
 use crate::fatal::Fatal;
@@ -39,7 +39,9 @@ fn expected(old: Option<ObjectId>, kind: Kind) -> PreviousValue
 
 /// The full name that a text is.
 fn full_name(alloc: Global, text: &[u8]) -> Result<FullName, Fatal>
-    ensures { IfOk result (λ name. (full_error text.now ≡ None) × (full_bytes name ≡ text.now)) }
+    ensures named { IfOk result
+        (λ name. (full_error text.now ≡ None) × (full_bytes name ≡ text.now)) }
+    ensures fails { IfErr result (IsNoName text.now) }
 {
     match FullNameRef::try_from(text) {
         Ok(name) => match name.to_owned(alloc) {
@@ -58,7 +60,9 @@ fn update(
     expected: PreviousValue,
     new: Target,
 ) -> Result<Change, Fatal>
-    ensures { IfOk result (λ change. IsUpdateTo session.now mode (target_value new) (λ e. e ≡ expected) change) }
+    ensures made { IfOk result (λ change. IsUpdateTo session.now mode (target_value new)
+        (λ e. e ≡ expected) change) }
+    ensures fails { IfErr result (λ fatal. fatal ≡ Fatal.Memory) }
 {
     let Ok(message) = session.message.to_vec(alloc) else {
         return Err(Fatal::Memory);
@@ -78,7 +82,9 @@ fn update_to(
     new: ObjectId,
     expected: PreviousValue,
 ) -> Result<Change, Fatal>
-    ensures { IfOk result (λ change. IsUpdateTo session.now RefLog.AndReference (object_id new) (λ e. e ≡ expected) change) }
+    ensures made { IfOk result (λ change. IsUpdateTo session.now RefLog.AndReference
+        (object_id new) (λ e. e ≡ expected) change) }
+    ensures fails { IfErr result (λ fatal. fatal ≡ Fatal.Memory) }
 {
     update(
         alloc,
@@ -91,8 +97,9 @@ fn update_to(
 
 /// The symbolic target that a text is.
 fn symbolic(alloc: Global, text: &[u8]) -> Result<Target, Fatal>
-    ensures { IfOk result (λ target. (full_error text.now ≡ None)
+    ensures named { IfOk result (λ target. (full_error text.now ≡ None)
         × (target_value target ≡ symbolic_name text.now)) }
+    ensures fails { IfErr result (IsNoName text.now) }
 {
     match full_name(alloc, text) {
         Ok(name) => Ok(Target::Symbolic(name)),
@@ -103,7 +110,8 @@ fn symbolic(alloc: Global, text: &[u8]) -> Result<Target, Fatal>
 /// The check that there is no reference: the update of its log alone to a symbolic target, of which no line is due. One that leads to
 /// itself counts as none.
 fn check_absence(alloc: Global, session: &Session<'_>, name: &[u8]) -> Result<Change, Fatal>
-    ensures { IfOk result (IsAbsenceCheck session.now name.now) }
+    ensures made { IfOk result (IsAbsenceCheck session.now name.now) }
+    ensures fails { IfErr result (IsNoName name.now) }
 {
     let target = symbolic(alloc, name)?;
     update(
@@ -122,7 +130,8 @@ fn check(
     name: &[u8],
     old: Option<ObjectId>,
 ) -> Result<Change, Fatal>
-    ensures { IfOk result (IsCheck session.now name.now old) }
+    ensures made { IfOk result (IsCheck session.now name.now old) }
+    ensures fails { IfErr result (IsNoName name.now) }
 {
     match old {
         Some(id) if id != session.object_hash.null() => {
@@ -149,7 +158,10 @@ fn expected_target(
     session: &Session<'_>,
     old: Option<OldTarget<'_>>,
 ) -> Result<PreviousValue, Fatal>
-    ensures { IfOk result (IsExpectedTarget session.now.object_hash (option_map old_target_of old.entry)) }
+    ensures expects { IfOk result
+        (IsExpectedTarget session.now.object_hash (option_map old_target_of old.entry)) }
+    ensures fails { (name target : List ℕ) → IfErr result
+        (IsNoChange name (SymrefUpdate target (option_map old_target_of old.entry))) }
 {
     match old {
         None => Ok(PreviousValue::Any),
@@ -167,7 +179,9 @@ fn symbolic_update(
     target: &[u8],
     expected: PreviousValue,
 ) -> Result<Change, Fatal>
-    ensures { IfOk result (λ change. IsUpdateTo session.now RefLog.AndReference (symbolic_name target.now) (λ e. e ≡ expected) change) }
+    ensures made { IfOk result (λ change. IsUpdateTo session.now RefLog.AndReference
+        (symbolic_name target.now) (λ e. e ≡ expected) change) }
+    ensures fails { IfErr result (IsNoName target.now) }
 {
     let target = symbolic(alloc, target)?;
     update(alloc, session, RefLog::AndReference, expected, target)
@@ -180,7 +194,10 @@ fn symbolic_deletion(
     name: &[u8],
     old: Option<&[u8]>,
 ) -> Result<Change, Fatal>
-    ensures { IfOk result (IsChangeOf session.now name.now (SymrefDelete (option_map (λ name. name.now) old.entry))) }
+    ensures made { IfOk result (IsChangeOf session.now name.now
+        (SymrefDelete (option_map (λ name. name.now) old.entry))) }
+    ensures fails { IfErr result (IsNoChange name.now
+        (SymrefDelete (option_map (λ name. name.now) old.entry))) }
 {
     match old {
         None => Ok(deletion(PreviousValue::Any)),
@@ -198,7 +215,9 @@ fn symbolic_check(
     name: &[u8],
     old: Option<&[u8]>,
 ) -> Result<Change, Fatal>
-    ensures { IfOk result (IsChangeOf session.now name.now
+    ensures made { IfOk result (IsChangeOf session.now name.now
+        (SymrefVerify (option_map (λ name. name.now) old.entry))) }
+    ensures fails { IfErr result (IsNoChange name.now
         (SymrefVerify (option_map (λ name. name.now) old.entry))) }
 {
     match old {
@@ -218,7 +237,8 @@ fn change_of(
     name: &[u8],
     asked: Asked<'_>,
 ) -> Result<Change, Fatal>
-    ensures { IfOk result (IsChangeOf session.now name.now (ask_of asked.entry)) }
+    ensures made { IfOk result (IsChangeOf session.now name.now (ask_of asked.entry)) }
+    ensures fails { IfErr result (IsNoChange name.now (ask_of asked.entry)) }
 {
     let kind = session.object_hash;
     match asked {
@@ -258,7 +278,10 @@ fn follows(asked: Asked<'_>, deref: bool) -> bool
 }
 
 /// Whether what is asked is refused where symbolic references are followed.
-fn needs_no_deref(asked: Asked<'_>) -> bool {
+fn needs_no_deref(asked: Asked<'_>) -> bool
+    ensures { MatchBool result (NeedsNoDeref (ask_of asked.entry))
+        (NeedsNoDeref (ask_of asked.entry) → ⊥) }
+{
     matches!(
         asked,
         Asked::SymrefDelete { .. } | Asked::SymrefVerify { .. }
@@ -273,7 +296,8 @@ pub(crate) fn edit_of(
     name: &[u8],
     asked: Asked<'_>,
 ) -> Result<RefEdit, Fatal>
-    ensures { IfOk result (IsEditOf session.now deref name.now (ask_of asked.entry)) }
+    ensures made { IfOk result (IsEditOf session.now deref name.now (ask_of asked.entry)) }
+    ensures fails { IfErr result (IsNoEdit deref name.now (ask_of asked.entry)) }
 {
     if deref && needs_no_deref(asked) {
         return Err(Fatal::Deref);

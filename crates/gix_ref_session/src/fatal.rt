@@ -97,12 +97,22 @@ impl fmt::Display for Text {
 }
 
 impl From<io::Error> for Fatal {
+    ghost use Rattle.std.specs.Prelude.{◌≡◌};
+    ghost use Rattle.gix_ref_session.specs.declared.fatal.Fatal.TheVariants.{Io};
+
+    ghost from_gives = { λ error fatal. fatal ≡ Io error };
+
     fn from(error: io::Error) -> Fatal {
         Fatal::Io(error)
     }
 }
 
 impl From<AllocError> for Fatal {
+    ghost use Rattle.std.specs.Prelude.{◌≡◌};
+    ghost use Rattle.gix_ref_session.specs.declared.fatal.Fatal.TheVariants.{Memory};
+
+    ghost from_gives = { λ _ fatal. fatal ≡ Memory };
+
     fn from(_: AllocError) -> Fatal {
         Fatal::Memory
     }

@@ -1,11 +1,11 @@
 //! The commands of a transaction, up to the one that ends them.
-ghost use Rattle.std.specs.Prelude.{◌≡◌, ◌⊎◌, ◌++◌, ◌∷◌, ℕ, List, [], true, Option, IfOk, IfErr, OnOk, IsTrue, MatchOption};
+ghost use Rattle.std.specs.Prelude.{◌≡◌, ◌≢◌, ◌⊎◌, ◌++◌, ◌∷◌, ℕ, List, [], Bool, true, false, Option, IfOk, IfErr, OnOk, MatchBool, MatchOption};
 ghost use Rattle.std.specs.Io.KnownBytes.{Appends, IsAtEnd, Keeps};
-ghost use Rattle.gix_ref_session.specs.Commands.{IsCommand, Start, ask_of, heard_of, texts};
+ghost use Rattle.gix_ref_session.specs.Commands.{IsCommand, IsNoCommand, Start, ask_of, heard_of, texts};
 ghost use Rattle.gix_ref_session.specs.Quotes.{ArePlain};
-ghost use Rattle.gix_ref_session.specs.Edits.{IsEditOf};
+ghost use Rattle.gix_ref_session.specs.Edits.{IsEditOf, IsNoEdit};
 ghost use Rattle.gix_ref_edits.specs.declared.transaction.RefEdit.{RefEdit as AnEdit};
-ghost use Rattle.gix_ref_session.specs.Gathering.{GathersOrCloses, IsGathered, IsUnsaid, StopsShort, TakesOrCloses, as_gathering};
+ghost use Rattle.gix_ref_session.specs.Gathering.{CannotGoOn, GathersOrCloses, IsGathered, IsMalformed, IsNotDone, IsStopped, IsToldOf, IsUnheard, IsUnsaid, StopsShort, TakesOrCloses, as_gathering};
 ghost use Rattle.gix_ref_session.specs.Input.{AreWords, Hears};
 
 use crate::command::{Asked, Command, Malformed, parse, words_of};
@@ -61,7 +61,9 @@ pub(crate) fn say<W: Write>(out: &mut W, answer: &[u8]) -> Result<(), Fatal>
 }
 
 /// A text that is no command.
-fn malformed(text: &[u8], why: Malformed, alloc: Global) -> Fatal {
+fn malformed(text: &[u8], why: Malformed, alloc: Global) -> Fatal
+    ensures { IsStopped result ⊎ IsToldOf text.now result }
+{
     let why = match text.first() {
         None => Malformed::Empty,
         Some(byte) if byte.is_ascii_whitespace() => Malformed::Whitespace,
@@ -83,8 +85,10 @@ fn command_in<'t>(
     text: &[u8],
     words: &[&'t [u8]],
 ) -> Result<Command<'t>, Fatal>
-    ensures { IfOk result (λ command. IsCommand session.now.format session.now.object_hash
+    ensures parsed { IfOk result (λ command. IsCommand session.now.format session.now.object_hash
         (texts words.now) (heard_of command)) }
+    ensures fails { IfErr result (λ fatal. IsStopped fatal ⊎ (IsToldOf text.now fatal
+        × IsNoCommand session.now.format session.now.object_hash (texts words.now))) }
 {
     match parse(words, session.format, session.object_hash) {
         Ok(command) => Ok(command),
@@ -100,8 +104,12 @@ fn quoted_command<'t>(
     words: &[&[u8]],
     plain: &'t mut Vec<Vec<u8>>,
 ) -> Result<Command<'t>, Fatal>
-    ensures { IfOk result (λ command. (plain : List (List ℕ)) × ArePlain (texts words.now) plain
+    ensures parsed { IfOk result (λ command. (plain : List (List ℕ))
+        × ArePlain (texts words.now) plain
         × IsCommand session.now.format session.now.object_hash plain (heard_of command)) }
+    ensures fails { IfErr result (λ fatal. IsStopped fatal ⊎ (IsToldOf text.now fatal
+        × ((plain : List (List ℕ)) → ArePlain (texts words.now) plain →
+        IsNoCommand session.now.format session.now.object_hash plain))) }
 {
     if !unquote_words(alloc, words, plain)? {
         return Err(malformed(text, Malformed::Quoted, alloc));
@@ -118,8 +126,12 @@ fn line_command<'t>(
     words: &[&'t [u8]],
     plain: &'t mut Vec<Vec<u8>>,
 ) -> Result<Command<'t>, Fatal>
-    ensures { IfOk result (λ command. (plain : List (List ℕ)) × ArePlain (texts words.now) plain
+    ensures parsed { IfOk result (λ command. (plain : List (List ℕ))
+        × ArePlain (texts words.now) plain
         × IsCommand session.now.format session.now.object_hash plain (heard_of command)) }
+    ensures fails { IfErr result (λ fatal. IsStopped fatal ⊎ (IsToldOf text.now fatal
+        × ((plain : List (List ℕ)) → ArePlain (texts words.now) plain →
+        IsNoCommand session.now.format session.now.object_hash plain))) }
 {
     if !has_quotes(words) {
         return command_in(alloc, session, text, words);
@@ -134,9 +146,11 @@ fn command_of<'t>(
     text: &'t [u8],
     plain: &'t mut Vec<Vec<u8>>,
 ) -> Result<Command<'t>, Fatal>
-    ensures { IfOk result (λ command. (words : List (List ℕ))
+    ensures parsed { IfOk result (λ command. (words : List (List ℕ))
         × AreWords session.now.format text.now words
         × IsCommand session.now.format session.now.object_hash words (heard_of command)) }
+    ensures fails { IfErr result
+        (λ fatal. IsStopped fatal ⊎ IsMalformed session.now text.now fatal) }
 {
     let words = words_of(alloc, text, session.format)?;
     match session.format {
@@ -152,9 +166,11 @@ pub(crate) fn next_command<'t, R: BufRead>(
     input: &mut R,
     texts: &'t mut Texts,
 ) -> Result<Option<Command<'t>>, Fatal>
-    ensures { IfOk result (λ found. MatchOption found (IsAtEnd (R.remaining input.old)
-        × Keeps (R.remaining input.old) (R.remaining input.new)) (λ command. Hears session.now.format
-        session.now.object_hash (heard_of command) (R.remaining input.old) (R.remaining input.new))) }
+    ensures read { IfOk result (λ found. MatchOption found (IsAtEnd (R.remaining input.old)
+        × Keeps (R.remaining input.old) (R.remaining input.new))
+        (λ command. Hears session.now.format session.now.object_hash (heard_of command)
+        (R.remaining input.old) (R.remaining input.new))) }
+    ensures fails { IfErr result (IsUnheard session.now (R.remaining input.old)) }
 {
     let Texts { text, field, plain } = texts;
     if !read_command(input, session.format, field, text)? {
@@ -181,10 +197,12 @@ fn add(
     asked: Asked<'_>,
     gathered: &mut Gathered,
 ) -> Result<(), Fatal>
-    ensures { IfOk result (λ _. (edit : AnEdit)
+    ensures added { IfOk result (λ _. (edit : AnEdit)
         × IsEditOf session.now gathered.old.deref name.now (ask_of asked.entry) edit
         × (gathered.new.edits.items ≡ gathered.old.edits.items ++ edit ∷ [])
         × (gathered.new.is_started ≡ gathered.old.is_started) × (gathered.new.deref ≡ true)) }
+    ensures fails { IfErr result (λ fatal. IsStopped fatal
+        ⊎ IsNoEdit gathered.old.deref name.now (ask_of asked.entry) fatal) }
 {
     let edit = edit_of(alloc, session, gathered.deref, name, asked)?;
     push_edit(&mut gathered.edits, edit)?;
@@ -204,8 +222,10 @@ fn take<W: Write>(
         session.now (heard_of command.entry) closing
         (as_gathering input (W.contents out.old) gathered.old)
         (as_gathering rest (W.contents out.new) gathered.new)) }
-    ensures fails { IfErr result
+    ensures unsaid { IfErr result
         (λ fatal. IsUnsaid fatal ⊎ Appends (W.contents out.old) (W.contents out.new) []) }
+    ensures fails { (input output : Option (List ℕ)) (needs_start : Bool) → IfErr result
+        (IsNotDone needs_start (heard_of command.entry) (as_gathering input output gathered.old)) }
 {
     match command {
         Command::Start if gathered.is_started => Err(Fatal::Restarted),
@@ -230,15 +250,16 @@ fn take<W: Write>(
 
 /// Whether a command is `start`.
 fn is_start(command: Command<'_>) -> bool
-    ensures { IsTrue result → heard_of command.entry ≡ Start }
+    ensures { MatchBool result (heard_of command.entry ≡ Start) (heard_of command.entry ≢ Start) }
 {
     matches!(command, Command::Start)
 }
 
 /// Whether a command may come: where `start` is needed it comes first.
 fn may_come(needs_start: bool, is_started: bool, command: Command<'_>) -> bool
-    ensures { IsTrue result → needs_start ≡ true →
-        (is_started ≡ true) ⊎ (heard_of command.entry ≡ Start) }
+    ensures { MatchBool result
+        (needs_start ≡ true → (is_started ≡ true) ⊎ (heard_of command.entry ≡ Start))
+        ((needs_start ≡ true) × (is_started ≡ false) × (heard_of command.entry ≢ Start)) }
 {
     if !needs_start {
         return true;
@@ -262,8 +283,10 @@ fn hear<R: BufRead, W: Write>(
     ensures hears { IfOk result (λ closing. GathersOrCloses session.now needs_start closing
         (as_gathering (R.remaining input.old) (W.contents out.old) gathered.old)
         (as_gathering (R.remaining input.new) (W.contents out.new) gathered.new)) }
-    ensures fails { IfErr result
+    ensures unsaid { IfErr result
         (λ fatal. IsUnsaid fatal ⊎ Appends (W.contents out.old) (W.contents out.new) []) }
+    ensures fails { IfErr result (CannotGoOn session.now needs_start
+        (as_gathering (R.remaining input.old) (W.contents out.old) gathered.old)) }
 {
     match next_command(alloc, session, input, texts) {
         Err(fatal) => Err(fatal),

@@ -1,10 +1,14 @@
 //! Where symbolic references lead the edits of a transaction, as git has it: an update of the branch that `HEAD` leads to is made through
 //! `HEAD`, whose log has its line too, and a deletion that follows is of the reference at the end.
-ghost use Rattle.std.specs.Prelude.{◌≡◌, codes, IfOk, IsSome, IsTrue};
-ghost use Rattle.gix_ref_edits.specs.RefEdits.{new_of};
-ghost use Rattle.gix_ref_name.specs.Names.{full_bytes};
-ghost use Rattle.gix_ref_store.specs.Lookup.{LooksUp};
-ghost use Rattle.gix_ref_session.specs.Leading.{AreLed, IsLed};
+ghost use Rattle.std.specs.Prelude.{◌≡◌, List, codes, is_none, is_some, IfErr, IfOk};
+ghost use Rattle.std.specs.Option.{option_map};
+ghost use Rattle.gix_ref_edits.specs.RefEdits.{SameChange, name_of};
+ghost use Rattle.gix_ref_name.specs.Names.{full_bytes, full_ref_bytes};
+ghost use Rattle.gix_ref_target.specs.PackedRecords.{Record};
+ghost use Rattle.gix_ref_store.specs.Lookup.{AreRecordsIn, LooksUp};
+ghost use Rattle.gix_ref_queries.specs.Resolving.{finds_in, reads, resolved};
+ghost use Rattle.gix_ref_session.specs.Leading.{AreLed, LeadsTo, branch_of, is_followed, is_through_head, last_of, next_of, updates, LeadsIn};
+ghost use Rattle.gix_ref_session.specs.Sessions.{IsLookFailure};
 
 use crate::clash::check_names;
 use crate::fatal::Fatal;
@@ -12,92 +16,90 @@ use crate::gather::push_edit;
 use gix_ref_edits::transaction::{Change, RefEdit, RefLog};
 use gix_ref_files::files::Files;
 use gix_ref_name::name::{FullName, FullNameRef};
-use gix_ref_store::file::{Store, find};
-use gix_ref_store::raw::Reference;
+use gix_ref_queries::resolve::{End, Followed, NameRead, follow, read_name};
+use gix_ref_store::file::Store;
 use gix_ref_target::target::Target;
 use std::alloc::Global;
 
-/// How many symbolic references are followed.
-const MOST_STEPS: u8 = 5;
-
-/// The target of the reference of this full name; `None` where there is none, and where it holds no target.
-#[tactic(auto, using(crate::proofs::Looking::looks_on, crate::proofs::Looking::looks_same))]
-pub(crate) fn target_of<F: Files>(
-    alloc: Global,
-    store: &mut Store<F>,
-    name: FullNameRef<'_>,
-) -> Result<Option<Target>, Fatal>
-    ensures unchanged { LooksUp F.honest F.means store.old store.new }
-{
-    match store.try_find(alloc, name.as_partial_name()) {
-        Ok(Some(reference)) => {
-            let Reference {
-                name: found,
-                target,
-                peeled: _,
-            } = reference;
-            if found.eq_bytes(name.to_path()) {
-                Ok(Some(target))
-            } else {
-                Ok(None)
-            }
-        }
-        Ok(None) | Err(find::Error::ReferenceCreation { .. }) => Ok(None),
-        Err(find::Error::Memory) => Err(Fatal::Memory),
-        Err(error) => Err(Fatal::Find(error)),
-    }
-}
-
 /// The name that the reference of this full name leads to, if it is symbolic.
-#[tactic(auto, using(crate::proofs::Looking::looks_on, crate::proofs::Looking::looks_same))]
 fn next_name<F: Files>(
     alloc: Global,
     store: &mut Store<F>,
     name: FullNameRef<'_>,
 ) -> Result<Option<FullName>, Fatal>
+    ensures reads { F.honest → (records : List Record) → AreRecordsIn F.means store.old records →
+        IfOk result (λ next. option_map full_bytes next
+        ≡ next_of (reads (finds_in F.means store.old records) (full_ref_bytes name.entry))) }
     ensures unchanged { LooksUp F.honest F.means store.old store.new }
+    ensures fails { IfErr result IsLookFailure }
 {
-    match target_of(alloc, store, name) {
-        Ok(Some(Target::Symbolic(next))) => Ok(Some(next)),
-        Ok(_) => Ok(None),
-        Err(fatal) => Err(fatal),
+    match read_name(alloc, store, name) {
+        NameRead::Is(Target::Symbolic(next)) => Ok(Some(next)),
+        NameRead::Is(Target::Object(_)) => Ok(None),
+        NameRead::Absent => Ok(None),
+        NameRead::Unread(error) => Err(Fatal::Find(error)),
+        NameRead::Memory => Err(Fatal::Memory),
     }
 }
 
-/// The name at the end of a chain of symbolic references; `None` where it has more than five.
-#[tactic(auto, using(crate::proofs::Looking::looks_on, crate::proofs::Looking::looks_same))]
+/// The last name of a chain of symbolic references; `None` where it has more than five.
 fn end_of_chain<F: Files>(
     alloc: Global,
     store: &mut Store<F>,
     name: &FullName,
 ) -> Result<Option<FullName>, Fatal>
+    ensures ends { F.honest → (records : List Record) → AreRecordsIn F.means store.old records →
+        IfOk result (λ last. option_map full_bytes last
+        ≡ last_of (resolved (finds_in F.means store.old records) 5 (full_bytes name.now))) }
     ensures unchanged { LooksUp F.honest F.means store.old store.new }
+    ensures fails { IfErr result IsLookFailure }
 {
-    let mut name = name.clone()?;
-    'steps: for _ in 0..MOST_STEPS {
-        match next_name(alloc, store, name.as_ref())? {
-            Some(next) => name = next,
-            None => return Ok(Some(name)),
-        }
+    let Followed { name: last, end } = follow(alloc, store, name.clone()?);
+    match end {
+        End::Object(_) => Ok(Some(last)),
+        End::Absent => Ok(Some(last)),
+        End::TooDeep => Ok(None),
+        End::Unread(error) => Err(Fatal::Find(error)),
+        End::Memory => Err(Fatal::Memory),
     }
-    Ok(None)
 }
 
 /// The name `HEAD`.
 fn head(alloc: Global) -> Result<FullName, Fatal>
-    ensures { IfOk result (λ name. full_bytes name ≡ codes "HEAD") }
+    ensures is_head { IfOk result (λ name. full_bytes name ≡ codes "HEAD") }
+    ensures fails { IfErr result IsLookFailure }
 {
     match FullNameRef::try_from(b"HEAD".as_slice()) {
         Ok(head) => Ok(head.to_owned(alloc)?),
-        Err(error) => Err(Fatal::Name(error)),
+        Err(_) => unreachable!(),
     }
 }
 
-/// Whether an edit updates a reference to an object.
-fn updates(edit: &RefEdit) -> bool
-    ensures { IsTrue result → IsSome (new_of edit.now.change) }
+/// The branch that `HEAD` leads to, where lines are written.
+#[tactic(auto, using(crate::proofs::Looking::looks_on, crate::proofs::Looking::looks_same))]
+fn head_branch<F: Files>(
+    alloc: Global,
+    store: &mut Store<F>,
+    writes_lines: bool,
+) -> Result<Option<FullName>, Fatal>
+    ensures branch { F.honest → (records : List Record) → AreRecordsIn F.means store.old records →
+        IfOk result (λ branch. option_map full_bytes branch
+        ≡ branch_of (finds_in F.means store.old records) writes_lines) }
+    ensures unchanged { LooksUp F.honest F.means store.old store.new }
+    ensures fails { IfErr result IsLookFailure }
 {
-    match &edit.change {
+    if !writes_lines {
+        return Ok(None);
+    }
+    let head = head(alloc)?;
+    next_name(alloc, store, head.as_ref())
+}
+
+/// Whether a change is an update of a reference to an object.
+fn updates(change: &Change) -> bool
+    ensures { result ≡ updates change.now }
+{
+    match change {
         Change::Update { log, new, .. } => {
             log.mode == RefLog::AndReference && matches!(new, Target::Object(_))
         }
@@ -105,7 +107,14 @@ fn updates(edit: &RefEdit) -> bool
     }
 }
 
-/// Whether an edit is an update of the reference that `HEAD` leads to, itself no symbolic one if the edit does not follow.
+/// Whether an edit is a deletion that follows symbolic references.
+fn is_followed(edit: &RefEdit) -> bool
+    ensures { result ≡ is_followed edit.now }
+{
+    edit.deref && matches!(edit.change, Change::Delete { .. })
+}
+
+/// Whether an edit is an update that is made through `HEAD`, which leads to this branch.
 #[tactic(auto, using(crate::proofs::Looking::looks_on, crate::proofs::Looking::looks_same))]
 fn is_through_head<F: Files>(
     alloc: Global,
@@ -113,20 +122,24 @@ fn is_through_head<F: Files>(
     edit: &RefEdit,
     branch: &Option<FullName>,
 ) -> Result<bool, Fatal>
+    ensures through { F.honest → (records : List Record) → AreRecordsIn F.means store.old records →
+        IfOk result (λ through. through ≡ is_through_head (finds_in F.means store.old records)
+        (option_map full_bytes branch.now) edit.now) }
     ensures unchanged { LooksUp F.honest F.means store.old store.new }
-    ensures updates { IfOk result (λ through. IsTrue through → IsSome (new_of edit.now.change)) }
+    ensures fails { IfErr result IsLookFailure }
 {
-    match branch {
-        Some(branch) if updates(edit) && edit.name.eq_bytes(branch.to_path()) => {
-            if edit.deref {
-                return Ok(true);
-            }
-            match next_name(alloc, store, edit.name.as_ref()) {
-                Ok(next) => Ok(next.is_none()),
-                Err(fatal) => Err(fatal),
-            }
-        }
-        _ => Ok(false),
+    let Some(branch) = branch else {
+        return Ok(false);
+    };
+    if !branch.eq_bytes(edit.name.to_path()) || !updates(&edit.change) {
+        return Ok(false);
+    }
+    if edit.deref {
+        return Ok(true);
+    }
+    match next_name(alloc, store, edit.name.as_ref()) {
+        Ok(next) => Ok(next.is_none()),
+        Err(fatal) => Err(fatal),
     }
 }
 
@@ -138,8 +151,12 @@ fn led_edit<F: Files>(
     edit: &RefEdit,
     branch: &Option<FullName>,
 ) -> Result<RefEdit, Fatal>
+    ensures leads { F.honest → (records : List Record) → AreRecordsIn F.means store.old records →
+        IfOk result (LeadsTo (finds_in F.means store.old records)
+        (option_map full_bytes branch.now) edit.now) }
+    ensures change { IfOk result (λ led. SameChange edit.now.change led.change) }
     ensures unchanged { LooksUp F.honest F.means store.old store.new }
-    ensures led { IfOk result (IsLed edit.now) }
+    ensures fails { IfErr result IsLookFailure }
 {
     let mut led = edit.clone()?;
     if is_through_head(alloc, store, edit, branch)? {
@@ -147,40 +164,13 @@ fn led_edit<F: Files>(
         led.deref = true;
         return Ok(led);
     }
-    if edit.deref && matches!(edit.change, Change::Delete { .. }) {
+    if is_followed(edit) {
         if let Some(name) = end_of_chain(alloc, store, &edit.name)? {
             led.name = name;
             led.deref = false;
         }
     }
     Ok(led)
-}
-
-/// Whether a log line may be due for one of these edits.
-fn any_updates(edits: &[RefEdit]) -> bool {
-    for edit in edits {
-        if updates(edit) {
-            return true;
-        }
-    }
-    false
-}
-
-/// The branch that `HEAD` leads to, where an edit may be of it and lines are written.
-#[tactic(auto, using(crate::proofs::Looking::looks_on, crate::proofs::Looking::looks_same))]
-fn head_branch<F: Files>(
-    alloc: Global,
-    store: &mut Store<F>,
-    writes_lines: bool,
-    edits: &[RefEdit],
-) -> Result<Option<FullName>, Fatal>
-    ensures unchanged { LooksUp F.honest F.means store.old store.new }
-{
-    if !writes_lines || !any_updates(edits) {
-        return Ok(None);
-    }
-    let head = head(alloc)?;
-    next_name(alloc, store, head.as_ref())
 }
 
 /// The edits as they are made. Refused where the name of one is in the way of another.
@@ -191,11 +181,13 @@ pub(crate) fn led_edits<F: Files>(
     writes_lines: bool,
     edits: &[RefEdit],
 ) -> Result<Vec<RefEdit>, Fatal>
+    ensures led { IfOk result (λ led. AreLed
+        (LeadsIn F.honest F.means store.old writes_lines) edits.now led.items) }
     ensures unchanged { LooksUp F.honest F.means store.old store.new }
-    ensures led { IfOk result (λ led. AreLed edits.now led.items) }
+    ensures fails { IfErr result IsLookFailure }
 {
     check_names(alloc, store, edits)?;
-    let branch = head_branch(alloc, store, writes_lines, edits)?;
+    let branch = head_branch(alloc, store, writes_lines)?;
     let mut led = Vec::new(alloc);
     for edit in edits {
         let edit = led_edit(alloc, store, edit, &branch)?;

@@ -1,5 +1,16 @@
 //! What the program `refs-session` does: transactions that commands on its input begin, prepare and commit, with an answer to each
 //! (`git update-ref --stdin`).
+//!
+//! # What is proved
+//!
+//! - the commands that the bytes of an input spell, and that a text is refused only where it is none: `command::parse`
+//!   (`Commands.antt`, `Input.antt`, `Quotes.antt`)
+//! - the edit of each command (`Edits.antt`), and the reference that it is made of, by what lookups find (`Leading.antt`)
+//! - transactions one after the other, with an answer to each command; `commit: ok` after a commit that was done, and only then; each
+//!   stop: `session::serve`, `run::run` (`Sessions.antt`, `Runs.antt`)
+//! - that the lock of another is given up on only after a try for each millisecond that is given (`Waiting.antt`)
+//!
+//! Not proved: what the words of the program mean (`words::parse`), and that names which clash are refused, and others not.
 #![tactic(auto)]
 
 mod clash;

@@ -1,8 +1,9 @@
 //! Words in quotes, as C writes texts (`core.quotePath` of `git help config`).
-ghost use Rattle.std.specs.Prelude.{◌≡◌, ◌++◌, ◌∷◌, [], List, ℕ, IfOk, IfSome, IsTrue, false};
+ghost use Rattle.std.specs.Prelude.{◌≡◌, ◌≢◌, ◌++◌, ◌∷◌, [], List, ℕ, IfOk, MatchOption, IsTrue, false};
 ghost use Rattle.gix_ref_session.specs.Commands.{texts};
 ghost use Rattle.gix_ref_session.specs.Quotes.{ArePlain, IsEscape, IsOctal, IsPlain, Unquotes, escaped, plain_texts};
 
+use gix_ref_hash::bytes::strip_front;
 use std::alloc::{AllocError, Global};
 
 /// The byte that a letter after a backslash is for.
@@ -25,7 +26,8 @@ fn escaped(letter: u8) -> Option<u8>
 
 /// The byte of three octal digits, if it is not NUL.
 fn octal(high: u8, middle: u8, low: u8) -> Option<u8>
-    ensures { IfSome result (IsOctal high middle low) }
+    ensures { MatchOption result ((byte : ℕ) → IsOctal high middle low byte → ⊥)
+        (IsOctal high middle low) }
 {
     if !(b'0'..=b'3').contains(&high)
         || !(b'0'..=b'7').contains(&middle)
@@ -41,7 +43,8 @@ fn octal(high: u8, middle: u8, low: u8) -> Option<u8>
 
 /// The byte that the text after a backslash is for, and what follows it.
 fn escape(text: &[u8]) -> Option<(u8, &[u8])>
-    ensures { IfSome result (λ r. IsEscape text.now r.0 r.1.now) }
+    ensures { MatchOption result ((byte : ℕ) (rest : List ℕ) → IsEscape text.now byte rest → ⊥)
+        (λ r. IsEscape text.now r.0 r.1.now) }
 {
     let (letter, rest) = text.split_first()?;
     if let Some(byte) = escaped(*letter) {
@@ -55,7 +58,8 @@ fn escape(text: &[u8]) -> Option<(u8, &[u8])>
 
 /// The bytes that a text between quotes is for; `None` where it is badly quoted.
 fn unquote(alloc: Global, quoted: &[u8]) -> Result<Option<Vec<u8>>, AllocError>
-    ensures { IfOk result (λ plain. IfSome plain (λ p. Unquotes quoted.now p.items)) }
+    ensures { IfOk result (λ plain. MatchOption plain ((p : List ℕ) → Unquotes quoted.now p → ⊥)
+        (λ p. Unquotes quoted.now p.items)) }
 {
     let mut plain = Vec::new(alloc);
     let mut rest = quoted;
@@ -77,14 +81,26 @@ fn unquote(alloc: Global, quoted: &[u8]) -> Result<Option<Vec<u8>>, AllocError>
     Ok(Some(plain))
 }
 
+/// The text before a quote at its end.
+fn before_quote(text: &[u8]) -> Option<&[u8]>
+    ensures { MatchOption result ((front : List ℕ) → text.now ≢ front ++ 34 ∷ [])
+        (λ front. text.now ≡ front.now ++ 34 ∷ []) }
+{
+    let (last, front) = text.split_last()?;
+    if *last == b'"' { Some(front) } else { None }
+}
+
 /// The bytes that a word is for; `None` where it is badly quoted.
 fn unquote_word(alloc: Global, word: &[u8]) -> Result<Option<Vec<u8>>, AllocError>
-    ensures { IfOk result (λ plain. IfSome plain (λ p. IsPlain word.now p.items)) }
+    ensures { IfOk result (λ plain. MatchOption plain ((p : List ℕ) → IsPlain word.now p → ⊥)
+        (λ p. IsPlain word.now p.items)) }
 {
-    match word {
-        [b'"', quoted @ .., b'"'] => unquote(alloc, quoted),
-        [b'"', ..] => Ok(None),
-        _ => Ok(Some(word.to_vec(alloc)?)),
+    let Some(rest) = strip_front(word, b"\"") else {
+        return Ok(Some(word.to_vec(alloc)?));
+    };
+    match before_quote(rest) {
+        Some(quoted) => unquote(alloc, quoted),
+        None => Ok(None),
     }
 }
 
@@ -116,7 +132,10 @@ pub(crate) fn unquote_words(
     words: &[&[u8]],
     plain: &mut Vec<Vec<u8>>,
 ) -> Result<bool, AllocError>
-    ensures { IfOk result (λ good. IsTrue good → ArePlain (texts words.now) (plain_texts plain.new.items)) }
+    ensures unquoted { IfOk result (λ good. IsTrue good →
+        ArePlain (texts words.now) (plain_texts plain.new.items)) }
+    ensures refused { IfOk result (λ good. good ≡ false → (plain : List (List ℕ)) →
+        ArePlain (texts words.now) plain → ⊥) }
 {
     plain.clear();
     for word in words {

@@ -1,11 +1,18 @@
 //! A session: transactions one after the other, each begun, prepared and committed by commands, with an answer to each
 //! (`git update-ref --stdin`).
-ghost use Rattle.std.specs.Prelude.{◌≢◌};
+ghost use Rattle.std.specs.Prelude.{◌≡◌, ◌≢◌, ◌⊎◌, MatchOption, true, false};
+ghost use Rattle.gix_ref_files.specs.Files.{Leaves};
+ghost use Rattle.gix_ref_packed.specs.OpenFiles.{HasReadFault};
+ghost use Rattle.gix_ref_store.specs.Prepared.{tree_of};
+ghost use Rattle.gix_ref_store.specs.Store.{files_of};
+ghost use Rattle.gix_ref_session.specs.Sessions.{Closes, Serves, Settles, TurnComes, way, way_on};
+ghost use Rattle.gix_ref_session.specs.Transactions.{IsTransactionStop};
+ghost use Rattle.gix_ref_session.specs.Waiting.{IsLessAfter, NoneIsLeft};
 
 use crate::fatal::Fatal;
-use crate::gather::{Closing, Texts, gather, say};
+use crate::gather::{Closing, Texts, gather};
 use crate::input::Format;
-use crate::try_once::try_once;
+use crate::try_once::{answer_abort, try_once};
 use gix_ref_edits::transaction::RefEdit;
 use gix_ref_files::files::Files;
 use gix_ref_hash::hash::Kind;
@@ -46,7 +53,9 @@ struct Patience {
 
 impl Patience {
     /// One millisecond less for the lock that another holds; `None` where it is no lock, or none is left.
-    fn after(self, fatal: &Fatal) -> Option<Patience> {
+    fn after(self, fatal: &Fatal) -> Option<Patience>
+        ensures { MatchOption result (NoneIsLeft fatal.now self) (IsLessAfter fatal.now self) }
+    {
         match fatal {
             Fatal::Update(UpdateError::Prepare(prepare::Error::LockAcquire { .. })) => {
                 Some(Patience {
@@ -65,7 +74,7 @@ impl Patience {
     }
 }
 
-/// Makes a transaction. A lock that another holds is tried again each millisecond. False at the end of the input.
+/// Prepares and closes a transaction. A lock that another holds is tried again each millisecond. False at the end of the input.
 fn settle<F: Files, C: Clock, R: BufRead, W: Write>(
     alloc: Global,
     clock: &C,
@@ -78,12 +87,18 @@ fn settle<F: Files, C: Clock, R: BufRead, W: Write>(
     texts: &mut Texts,
 ) -> Result<bool, Fatal>
     requires { closing ≢ Closing.Abort }
+    ensures ends { Settles F.honest (HasReadFault F.Reader.faults) F.means F.faults session.now
+        closing edits.now (way (R.remaining input.old) (W.contents out.old) store.old)
+        (way (R.remaining input.new) (W.contents out.new) store.new) result }
+    ensures leaves { F.honest → Leaves (F.means (files_of store.old)) (F.means (files_of store.new))
+        (IsTransactionStop F.honest F.means F.faults session.now.committer
+        (HasReadFault F.Reader.faults) edits.now store.old) }
 {
     let mut patience = Patience {
         lock: session.lock_timeout,
         packed: session.packed_lock_timeout,
     };
-    for _ in 0..u64::MAX {
+    'tries: loop {
         match try_once(alloc, session, store, edits, closing, input, out, texts) {
             Ok(goes_on) => return Ok(goes_on),
             Err(fatal) => match patience.after(&fatal) {
@@ -93,7 +108,35 @@ fn settle<F: Files, C: Clock, R: BufRead, W: Write>(
         }
         thread::sleep(clock, Duration::from_millis(1));
     }
-    Err(Fatal::Memory)
+}
+
+/// Ends a transaction as the command has it that closed it. False at the end of the input.
+fn close<F: Files, C: Clock, R: BufRead, W: Write>(
+    alloc: Global,
+    clock: &C,
+    session: &Session<'_>,
+    store: &mut Store<F>,
+    edits: &[RefEdit],
+    gives_up: bool,
+    closing: Closing,
+    input: &mut R,
+    out: &mut W,
+    texts: &mut Texts,
+) -> Result<bool, Fatal>
+    ensures ends { Closes F.honest (HasReadFault F.Reader.faults) F.means F.faults session.now
+        closing edits.now gives_up (way (R.remaining input.old) (W.contents out.old) store.old)
+        (way (R.remaining input.new) (W.contents out.new) store.new) result }
+    ensures leaves { F.honest → Leaves (F.means (files_of store.old)) (F.means (files_of store.new))
+        (λ T. (T ≡ tree_of F.means store.old) ⊎ IsTransactionStop F.honest F.means F.faults
+        session.now.committer (HasReadFault F.Reader.faults) edits.now store.old T) }
+{
+    match closing {
+        Closing::Abort => answer_abort(out),
+        Closing::End if gives_up => Ok(false),
+        Closing::Prepare | Closing::Commit | Closing::End => settle(
+            alloc, clock, session, store, edits, closing, input, out, texts,
+        ),
+    }
 }
 
 /// Hears the commands of one transaction, and makes it. False at the end of the input.
@@ -106,29 +149,39 @@ fn transaction<F: Files, C: Clock, R: BufRead, W: Write>(
     input: &mut R,
     out: &mut W,
     texts: &mut Texts,
-) -> Result<bool, Fatal> {
-    let (gathered, closing) = gather(alloc, session, needs_start, input, out, texts)?;
-    match closing {
-        Closing::Abort => {
-            say(out, b"abort: ok\n")?;
-            Ok(true)
+) -> Result<bool, Fatal>
+    ensures { TurnComes F.honest (HasReadFault F.Reader.faults) F.means F.faults session.now
+        (way_on needs_start (R.remaining input.old) (W.contents out.old) store.old)
+        (way_on true (R.remaining input.new) (W.contents out.new) store.new) result }
+{
+    match gather(alloc, session, needs_start, input, out, texts) {
+        Ok((gathered, closing)) => {
+            let gives_up = gathered.is_started || needs_start;
+            close(
+                alloc,
+                clock,
+                session,
+                store,
+                &gathered.edits,
+                gives_up,
+                closing,
+                input,
+                out,
+                texts,
+            )
         }
-        Closing::End if gathered.is_started || needs_start => Ok(false),
-        Closing::Prepare | Closing::Commit | Closing::End => settle(
-            alloc,
-            clock,
-            session,
-            store,
-            &gathered.edits,
-            closing,
-            input,
-            out,
-            texts,
-        ),
+        Err(fatal) => Err(fatal),
     }
 }
 
-/// Serves commands until the input ends, or one of them is refused.
+/// Serves commands until the input ends, or one of them is refused: transactions one after the other, each over the store that the one
+/// before left. `commit: ok` is written after a transaction was committed, `abort: ok` after it was given up. A lock that another holds is
+/// tried again each millisecond, as long as the session says. What `start` began is given up at the end of the input; commands without
+/// it are committed. (`git update-ref --stdin`)
+///
+/// The error is that of the reader or the writer (`Io`); of a command that is none, out of place, or of a name that breaks a rule; of a
+/// lookup that failed, or names in one another's way; or of a transaction that was refused, or whose commit failed (`Update`). No command is
+/// done after it. A transaction costs what `prepare` and `commit` do, and two lookups more for each of its edits.
 pub fn serve<F: Files, C: Clock, R: BufRead, W: Write>(
     alloc: Global,
     clock: &C,
@@ -136,15 +189,19 @@ pub fn serve<F: Files, C: Clock, R: BufRead, W: Write>(
     store: &mut Store<F>,
     input: &mut R,
     out: &mut W,
-) -> Result<(), Fatal> {
+) -> Result<(), Fatal>
+    ensures { Serves F.honest (HasReadFault F.Reader.faults) F.means F.faults session.now
+        (way (R.remaining input.old) (W.contents out.old) store.old)
+        (way_on true (R.remaining input.new) (W.contents out.new) store.new) result }
+{
     let mut texts = Texts {
         text: Vec::new(alloc),
         field: Vec::new(alloc),
         plain: Vec::new(alloc),
     };
     let mut needs_start = false;
-    for _ in 0..u64::MAX {
-        if !transaction(
+    'transactions: for _ in 0..u64::MAX {
+        match transaction(
             alloc,
             clock,
             session,
@@ -153,10 +210,11 @@ pub fn serve<F: Files, C: Clock, R: BufRead, W: Write>(
             input,
             out,
             &mut texts,
-        )? {
-            return Ok(());
+        ) {
+            Ok(true) => needs_start = true,
+            Ok(false) => return Ok(()),
+            Err(fatal) => return Err(fatal),
         }
-        needs_start = true;
     }
-    Ok(())
+    Err(Fatal::Memory)
 }

@@ -82,7 +82,7 @@ fn answer_commit<W: Write>(committed: Result<(), Fatal>, out: &mut W) -> Result<
 }
 
 /// The answer to `abort`.
-fn answer_abort<W: Write>(out: &mut W) -> Result<bool, Fatal>
+pub(crate) fn answer_abort<W: Write>(out: &mut W) -> Result<bool, Fatal>
     ensures { AnswersAbort (W.contents out.old) (W.contents out.new) result }
 {
     match say(out, b"abort: ok\n") {
@@ -188,9 +188,9 @@ fn commit_at_end<F: Files>(
     session: &Session<'_>,
     prepared: Prepared<'_, F>,
 ) -> Result<bool, Fatal>
-    ensures ends { (input out : Option (List ℕ)) (old : AStore F) (edits : List AnEdit) → Prepares F.honest F.means F.faults old
-        prepared.entry.store.now edits (held_packed prepared.entry.plan)
-        (held_edits prepared.entry.plan) → PreparedEnds F.honest
+    ensures ends { (input out : Option (List ℕ)) (old : AStore F) (edits : List AnEdit) →
+        Prepares F.honest F.means F.faults old prepared.entry.store.now edits
+        (held_packed prepared.entry.plan) (held_edits prepared.entry.plan) → PreparedEnds F.honest
         (HasReadFault F.Reader.faults) F.means F.faults session.now Closing.End
         (way input out old) (way input out prepared.exit.0.now) edits result }
     ensures leaves { (old : AStore F) (edits : List AnEdit) → Prepares F.honest F.means F.faults old
@@ -212,9 +212,9 @@ fn commit_and_answer<F: Files, W: Write>(
     prepared: Prepared<'_, F>,
     out: &mut W,
 ) -> Result<bool, Fatal>
-    ensures ends { (input : Option (List ℕ)) (old : AStore F) (edits : List AnEdit) → Prepares F.honest F.means F.faults old
-        prepared.entry.store.now edits (held_packed prepared.entry.plan)
-        (held_edits prepared.entry.plan) → PreparedEnds F.honest
+    ensures ends { (input : Option (List ℕ)) (old : AStore F) (edits : List AnEdit) →
+        Prepares F.honest F.means F.faults old prepared.entry.store.now edits
+        (held_packed prepared.entry.plan) (held_edits prepared.entry.plan) → PreparedEnds F.honest
         (HasReadFault F.Reader.faults) F.means F.faults session.now Closing.Commit
         (way input (W.contents out.old) old) (way input (W.contents out.new) prepared.exit.0.now)
         edits result }

@@ -2,8 +2,9 @@
 
 use gix_ref_files::files::Files;
 use gix_ref_queries::answer::Answer;
+use gix_ref_queries::for_each_ref::for_each_ref;
 use gix_ref_queries::locks::{list_locks, remove_locks};
-use gix_ref_queries::reflog::log_exists;
+use gix_ref_queries::reflog::{log_exists, show_log};
 use gix_ref_queries::verify::{symbolic, verify};
 use gix_ref_store::file::Store;
 use std::alloc::{AllocError, Global};
@@ -34,7 +35,7 @@ fn two_words<F: Files>(
     }
 }
 
-/// `show-ref --verify NAME`, `reflog exists NAME`.
+/// `show-ref --verify NAME`, `reflog exists NAME`, `reflog show NAME`.
 fn three_words<F: Files>(
     alloc: Global,
     store: &mut Store<F>,
@@ -45,7 +46,108 @@ fn three_words<F: Files>(
     match (word, second) {
         (b"show-ref", b"--verify") => Ok(Some(verify(alloc, store, name)?)),
         (b"reflog", b"exists") => Ok(Some(log_exists(alloc, store, name)?)),
+        (b"reflog", b"show") => Ok(Some(show_log(alloc, store, name, None)?)),
         _ => Ok(None),
+    }
+}
+
+/// The words after `for-each-ref`.
+#[derive(Drop)]
+struct Each<'w> {
+    format: &'w [u8],
+    descending: bool,
+    count: Option<usize>,
+    patterns: Vec<&'w [u8]>,
+}
+
+/// A number in decimal digits; `None` for other bytes, and for one that does not fit.
+fn number(digits: &[u8]) -> Option<usize> {
+    if digits.is_empty() {
+        return None;
+    }
+    let mut number = 0usize;
+    for digit in digits {
+        if !digit.is_ascii_digit() {
+            return None;
+        }
+        number = number
+            .checked_mul(10)?
+            .checked_add((*digit - b'0') as usize)?;
+    }
+    Some(number)
+}
+
+/// Takes an option; false for another word.
+fn take_option<'w>(each: &mut Each<'w>, word: &'w [u8]) -> bool {
+    if let Some(format) = word.strip_prefix(b"--format=".as_slice()) {
+        each.format = format;
+        return true;
+    }
+    if let Some(digits) = word.strip_prefix(b"--count=".as_slice()) {
+        let Some(count) = number(digits) else {
+            return false;
+        };
+        // All where it is 0.
+        each.count = if count == 0 { None } else { Some(count) };
+        return true;
+    }
+    match word {
+        b"--sort=refname" => each.descending = false,
+        b"--sort=-refname" => each.descending = true,
+        _ => return false,
+    }
+    true
+}
+
+/// What is asked by the words after `for-each-ref`: options and patterns, in any order; `None` where they are wrong. With no format it
+/// is that of Git, which has a field that is not supported.
+fn each_of<'w>(alloc: Global, words: &[&'w [u8]]) -> Result<Option<Each<'w>>, AllocError> {
+    let mut each = Each {
+        format: b"%(objectname) %(objecttype)\t%(refname)",
+        descending: false,
+        count: None,
+        patterns: Vec::new(alloc),
+    };
+    for word in words {
+        if word.first() != Some(&b'-') {
+            each.patterns.push(*word)?;
+        } else if !take_option(&mut each, word) {
+            return Ok(None);
+        }
+    }
+    Ok(Some(each))
+}
+
+/// `for-each-ref [--count=N] [--sort=[-]refname] --format=FORMAT [PATTERN..]`.
+fn for_each<F: Files>(
+    alloc: Global,
+    store: &mut Store<F>,
+    words: &[&[u8]],
+) -> Result<Option<Answer>, AllocError> {
+    let Some(each) = each_of(alloc, words)? else {
+        return Ok(None);
+    };
+    let answer = for_each_ref(
+        alloc,
+        store,
+        each.format,
+        &each.patterns,
+        each.descending,
+        each.count,
+    )?;
+    Ok(Some(answer))
+}
+
+/// `reflog show -n N NAME`.
+fn show_some<F: Files>(
+    alloc: Global,
+    store: &mut Store<F>,
+    digits: &[u8],
+    name: &[u8],
+) -> Result<Option<Answer>, AllocError> {
+    match number(digits) {
+        Some(count) => Ok(Some(show_log(alloc, store, name, Some(count))?)),
+        None => Ok(None),
     }
 }
 
@@ -56,9 +158,11 @@ pub fn answer_to<F: Files>(
     words: &[&[u8]],
 ) -> Result<Option<Answer>, AllocError> {
     match words {
+        [b"for-each-ref", rest @ ..] => for_each(alloc, store, rest),
         [word] => one_word(alloc, store, word),
         [word, last] => two_words(alloc, store, word, last),
         [word, second, name] => three_words(alloc, store, word, second, name),
+        [b"reflog", b"show", b"-n", digits, name] => show_some(alloc, store, digits, name),
         _ => Ok(None),
     }
 }

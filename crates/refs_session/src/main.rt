@@ -9,8 +9,9 @@ mod ask;
 use ask::answer_to;
 use bstr::ByteSlice;
 use gix_ref_files::disk::Disk;
+use gix_ref_program::open::lent_words;
 use gix_ref_session::fatal::Fatal;
-use gix_ref_session::run::{lent_words, open, run};
+use gix_ref_session::run::{open, run};
 use gix_ref_session::words::{Line, Parsed, parse};
 use std::io::{BufReader, Write};
 use std::process::ExitCode;
@@ -39,14 +40,17 @@ fn serve_input(rt: &HostRuntime, line: &Line<'_>) -> Result<u8, Fatal> {
     let files = disk(rt, line)?;
     let mut input = BufReader::new(rt.alloc(), rt.reader())?;
     let mut out = io::writer(rt);
-    run(rt.alloc(), files, rt, line, &mut input, &mut out)?;
+    run(rt.alloc(), files, rt, line, &mut input, &mut out).result?;
     Ok(0)
 }
 
 /// Answers a command of the command line, and returns its status: 129 for one that is none.
 fn answer_words(rt: &HostRuntime, parsed: &Parsed<'_, '_>) -> Result<u8, Fatal> {
     let files = disk(rt, &parsed.line)?;
-    let mut store = open(rt.alloc(), files, &parsed.line)?;
+    let mut store = match open(rt.alloc(), files, &parsed.line) {
+        Ok(store) => store,
+        Err((_, fatal)) => return Err(fatal),
+    };
     let Some(answer) = answer_to(rt.alloc(), &mut store, parsed.rest)? else {
         let _ = eprintln!(rt; "usage: refs-session GITDIR [options] [command]");
         return Ok(129);

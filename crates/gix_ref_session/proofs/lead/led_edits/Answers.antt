@@ -1,13 +1,32 @@
-use Rattle.std.proofs.Common.{subst}
+use Rattle.std.proofs.Common.{subst, sym, List, []}
 use Rattle.gix_ref_edits.specs.declared.transaction.RefEdit.{RefEdit}
-use Rattle.gix_ref_session.specs.Leading.{IsLed}
-use Rattle.gix_ref_session.proofs.LeadLemmas.{led_more}
+use Rattle.gix_ref_session.specs.Leading.{AreLed, IsLed, LeadsIn}
+use Rattle.gix_ref_session.proofs.LeadLemmas.{branch_in, leads_in, led_more}
 use Rattle.gix_ref_session.proofs.Looking.{looks_on}
 use Rattle.gix_ref_session.proofs.lead.led_edits.Goals as goal
 
+pub loop-edit-init : goal.loop-edit-init
+loop-edit-init g c =
+    let F = g.F.Files in
+    let first = c.args.store.now in
+    let at = c.check_names.new.store in
+    let looked = c.check_names.ensures.unchanged in (
+      looks_on F.honest F.means first at c.head_branch.new.store looked c.head_branch.ensures.unchanged,
+      subst (λ (led : List RefEdit). AreLed (LeadsIn F.honest F.means first c.args.writes_lines) [] led) (sym c.new-led.ensures.items) tt,
+      branch_in F.honest F.means first at looked c.args.writes_lines c.in_ok-branch.branch c.in_ok-branch.ensures.branch,
+    )
+
 pub loop-edit-preserved : goal.loop-edit-preserved
 loop-edit-preserved g c =
-    let F = g.F.Files in (
-      looks_on F.honest F.means c.args.store.now c.loop-edit.store c.led_edit.new.store c.loop-edit.invariant.0 c.led_edit.ensures.unchanged,
-      led_more c.args.edits.now c.loop-edit.edit-index c.edit-item.result c.loop-edit.led.items c.push_edit.new.edits.items c.in_ok-edit.edit c.loop-edit-test.true c.loop-edit.invariant.1 (subst (λ (e : RefEdit). IsLed e c.in_ok-edit.edit) c.edit-item.is c.in_ok-edit.ensures.led) c.in_ok-push_edit.ensures,
+    let F = g.F.Files in
+    let first = c.args.store.now in
+    let mid = c.loop-edit.store in
+    let Leads = LeadsIn F.honest F.means first c.args.writes_lines in
+    let looked = c.loop-edit.invariant.0 in
+    let branch = c.loop-edit.invariant.2 in (
+      looks_on F.honest F.means first mid c.led_edit.new.store looked c.led_edit.ensures.unchanged,
+      led_more Leads c.args.edits.now c.loop-edit.edit-index c.edit-item.result c.loop-edit.led.items c.push_edit.new.edits.items c.in_ok-edit.edit c.loop-edit-test.true c.loop-edit.invariant.1
+          (subst (λ (e : RefEdit). IsLed Leads e c.in_ok-edit.edit) c.edit-item.is
+          (record { change = c.in_ok-edit.ensures.change; leads = leads_in F.honest F.means first mid looked c.args.writes_lines c.loop-edit.branch-1 c.edit-item.result c.in_ok-edit.edit branch c.in_ok-edit.ensures.leads })) c.in_ok-push_edit.ensures,
+      branch,
     )

@@ -1,7 +1,4 @@
-use Rattle.std.proofs.Common.{sym, subst}
 use Rattle.gix_ref_packed.specs.OpenFiles.{HasReadFault}
-use Rattle.gix_ref_session.specs.Sessions.{ClosedBy}
-use Rattle.gix_ref_session.specs.declared.gather.Closing.{Closing}
 use Rattle.gix_ref_session.proofs.AnswerLemmas.{append_none}
 use Rattle.gix_ref_session.proofs.Closing.{aborted, answered}
 use Rattle.gix_ref_session.proofs.try_once.close_by.Goals as goal

@@ -9,9 +9,6 @@ use Rattle.gix_ref_store.specs.Store.{files_of}
 use Rattle.gix_ref_store.proofs.SameStores.{at_same}
 use Rattle.gix_ref_session.specs.Sessions.{MakeEnds, way}
 use Rattle.gix_ref_session.specs.Transactions.{IsEditStop, Prepares, uses}
-use Rattle.gix_ref_session.specs.declared.fatal.Fatal.TheVariants as fatals
-use Rattle.gix_ref_program.specs.declared.update.UpdateError.TheVariants as errors
-use Rattle.gix_ref_session.proofs.AnswerLemmas.{append_none, keeps_same}
 use Rattle.gix_ref_session.proofs.Committing.{refused_leaves}
 use Rattle.gix_ref_session.proofs.try_once.make.Goals as goal
 
@@ -51,7 +48,7 @@ returns-in-Err-clause-ends g c =
     let from : RefusesGiven F.honest read F.means F.faults (OfFinder claims-value.it uses) (ends_of meaning-value.it uses) (mode_in uses) old new edits c.in-Err.refused.error left = rw (c.transaction_with.ensures.packed_refs, c.transaction_with.ensures.value) at seen in
     at_same (λ now. MakeEnds F.honest read F.means F.faults c.args.session.now c.args.closing edits (way i x old) (way i x now) (Err c.refusal_of.result))
     {x = c.store-in-Err-2.given.0} {y = new} same
-    (inl (record { error = c.in-Err.refused.error; is = ap Err c.refusal_of.ensures; refused = record { left = left; fails = from }; input = keeps_same i; output = append_none x }))
+    (inl (record { error = c.in-Err.refused.error; is = ap Err c.refusal_of.ensures; refused = record { left = left; fails = from }; input = refl; output = refl }))
 
 pub returns-in-Err-clause-leaves : goal.returns-in-Err-clause-leaves
 returns-in-Err-clause-leaves g c =

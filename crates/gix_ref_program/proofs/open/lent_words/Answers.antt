@@ -2,7 +2,7 @@ use Rattle.std.proofs.Common.{◌∙◌, ap, sym, List, ℕ, take, ◌++◌, ◌
 use Rattle.std.specs.String.{string_bytes}
 use Rattle.gix_ref_program.specs.Words.{string_texts, texts}
 use Rattle.gix_ref_program.proofs.ScriptWords.{next_part, one_mapped}
-use Rattle.gix_ref_program.proofs.run.lent_words.Goals as goal
+use Rattle.gix_ref_program.proofs.open.lent_words.Goals as goal
 
 pub loop-word-preserved : goal.loop-word-preserved
 loop-word-preserved c =

@@ -1,0 +1,235 @@
+-- The rows of `git for-each-ref`: one for each reference that is asked for and leads to an object.
+use Rattle.std.specs.Prelude.{◌≡◌, ◌⊎◌, ℕ, Bool, false, List, [], ◌∷◌, ◌++◌, Option, Some, None, Result, Ok, Err, Vec, map, reverse, take, codes, if◌then◌else◌}
+use Rattle.std.specs.Iterator.{Yields}
+use Rattle.std.specs.List.{AllByRecursion, Any, filter, filter_map, find, flat_map}
+use Rattle.std.specs.declared.alloc.Global.{Global}
+use Rattle.gix_ref_files.specs.Files.{Meaning, FaultCounts}
+use Rattle.gix_ref_files.specs.declared.files.ReadAt.{Ghosts}
+use Rattle.gix_ref_name.specs.Names.{full_bytes, full_ref_bytes}
+use Rattle.gix_ref_target.specs.PackedRecords.{Record}
+use Rattle.gix_ref_target.specs.Targets.{TargetValue, target_value}
+use Rattle.gix_ref_target.specs.Targets.TargetValue.{object_id, symbolic_name}
+use Rattle.gix_ref_theory.specs.Views.{View}
+use Rattle.gix_ref_packed_text.specs.declared.raw.Reference.{Reference}
+use Rattle.gix_ref_lookup.specs.declared.settings.Settings.{Settings}
+use Rattle.gix_ref_listing.specs.CleanPrefixes.{IsAcceptedPrefix}
+use Rattle.gix_ref_listing.specs.Listings.{Listed}
+use Rattle.gix_ref_listing.specs.WholeListings.{IsListing, IsNameOrMet}
+use Rattle.gix_ref_listing.specs.declared.error.Error.{Error as ItemError}
+use Rattle.gix_ref_listing.specs.declared.error.Error.TheVariants as item
+use Rattle.gix_ref_listing.specs.declared.list.LooseNames.{LooseNames}
+use Rattle.gix_ref_listing.specs.declared.prefix.Error.TheVariants as list
+use Rattle.gix_ref_store.specs.Listings.{AreFirst, IsNoListing, IsWalkedIn, NextItem, walked_prefix}
+use Rattle.gix_ref_store.specs.Lookup.{AreRecordsIn, LooksUp, settings_of, view_in}
+use Rattle.gix_ref_store.specs.Store.{files_of}
+use Rattle.gix_ref_store.specs.declared.file.iter.LooseThenPacked.{LooseThenPacked}
+use Rattle.gix_ref_store.specs.declared.file.iter.Remaining.{Remaining}
+use Rattle.gix_ref_store.specs.declared.file.store.Store.{Store}
+use Rattle.gix_ref_queries.specs.Answers.{Says, Fails}
+use Rattle.gix_ref_queries.specs.Formats.{format_parts, row_text}
+use Rattle.gix_ref_queries.specs.Patterns.{has_other_sign, is_asked_by}
+use Rattle.gix_ref_queries.specs.Resolving.{HitsByName, NameEnd, IsUnread, finds_in, resolved}
+use Rattle.gix_ref_queries.specs.Resolving.NameEnd.{Reached}
+use Rattle.gix_ref_queries.specs.declared.answer.Answer.{Answer}
+use Rattle.gix_ref_queries.specs.declared.format.Part.{Part}
+use Rattle.gix_ref_queries.specs.declared.listing.Unlisted.{Unlisted}
+use Rattle.gix_ref_queries.specs.declared.listing.Unlisted.TheVariants as unlisted
+use Rattle.gix_ref_queries.specs.declared.rows.RowError.{RowError}
+use Rattle.gix_ref_queries.specs.declared.rows.RowError.TheVariants as row_error
+
+-- the row of a symbolic reference, where its following ends at an object
+abbrev pub followed_row : List Part → (name : List ℕ) → NameEnd → Option (List ℕ)
+followed_row parts name (Reached last id) =
+    Some (row_text parts (record { name = name; id = id; symref = last }))
+followed_row parts name end = None
+
+abbrev pub target_row : HitsByName → List Part → (name : List ℕ) → TargetValue → Option (List ℕ)
+target_row find parts name (object_id id) =
+    Some (row_text parts (record { name = name; id = id; symref = [] }))
+target_row find parts name (symbolic_name target) =
+    followed_row parts name (resolved find 5 name)
+
+-- the row of a reference, if it leads to an object
+abbrev pub row_of : HitsByName → List Part → Reference → Option (List ℕ)
+row_of find parts reference =
+    target_row find parts (full_bytes reference.name) (target_value reference.target)
+
+-- the rows of these references
+abbrev pub rows_of : HitsByName → List Part → List Reference → List (List ℕ)
+rows_of find parts references = filter_map (row_of find parts) references
+
+-- a reference is asked for
+abbrev pub is_asked : (patterns : List (List ℕ)) → Reference → Bool
+is_asked patterns reference = is_asked_by patterns (full_bytes reference.name)
+
+-- by ascending names, as a listing has them, or by descending ones
+abbrev pub ordered : (descending : Bool) → List (List ℕ) → List (List ℕ)
+ordered descending rows = if descending then reverse rows else rows
+
+-- the first so many rows, or all
+abbrev pub counted : Option ℕ → List (List ℕ) → List (List ℕ)
+counted None rows = rows
+counted (Some count) rows = take count rows
+
+-- the bytes of rows
+abbrev pub row_texts : List (Vec ℕ Global) → List (List ℕ)
+row_texts rows = map (λ (row : Vec ℕ Global). row.items) rows
+
+-- the text of rows
+abbrev pub row_lines : List (List ℕ) → List ℕ
+row_lines rows = flat_map (λ (row : List ℕ). row ++ codes "\n") rows
+
+-- an item for each reference
+abbrev pub as_items : List Reference → List (Result Reference ItemError)
+as_items references =
+    map (λ (reference : Reference). let made : Result Reference ItemError = Ok reference in made)
+    references
+
+-- the path of a fault in a listing, after what it means
+abbrev pub fault_text : ItemError → List ℕ
+fault_text (item.Traversal source path) =
+    codes "cannot list the folder '" ++ (path.items ++ codes "'")
+fault_text (item.ReadFileContents source path) = codes "cannot read '" ++ (path.items ++ codes "'")
+fault_text (item.ReferenceCreation source path) =
+    codes "no reference in '" ++ (path.items ++ codes "'")
+fault_text (item.PackedReference line number) =
+    codes "unexpected line in packed-refs: " ++ line.items
+fault_text item.Memory = []
+
+-- the error for references that are not listed; want of memory has none
+abbrev pub IsItemFault : ItemError → Answer → Type 0
+IsItemFault item.Memory answer = ⊥
+IsItemFault error answer = Fails (fault_text error) answer
+
+abbrev pub IsUnlistedAs : Unlisted → Answer → Type 0
+IsUnlistedAs (unlisted.Prefix (list.PackedOpen error)) answer =
+    Fails (codes "cannot read packed-refs") answer
+IsUnlistedAs (unlisted.Prefix list.Memory) answer = ⊥
+IsUnlistedAs (unlisted.Prefix error) answer = Fails (codes "cannot list 'refs/'") answer
+IsUnlistedAs (unlisted.Item error) answer = IsItemFault error answer
+
+-- the error for a reference that cannot be followed
+abbrev pub IsUnfollowedAs : RowError → Answer → Type 0
+IsUnfollowedAs (row_error.Unread name) answer =
+    Fails (codes "cannot follow '" ++ (full_ref_bytes name ++ codes "'")) answer
+IsUnfollowedAs row_error.Memory answer = ⊥
+
+module _ {F : Type 0} (honest : Type 0) (means : F → Meaning) (faults : F → FaultCounts) where
+  -- What the next call of an iterator gives: a reference or none, or a fault.
+  abbrev pub GivesReference : (old new : LooseThenPacked F Remaining) →
+      Result (Option Reference) ItemError → Type 0
+  GivesReference old new (Ok None) = NextItem honest means faults old None new
+  GivesReference old new (Ok (Some reference)) =
+      NextItem honest means faults old (Some (Ok reference)) new
+  GivesReference old new (Err error) = NextItem honest means faults old (Some (Err error)) new
+
+  -- What an iterator gave up to its end, of which these references were asked for.
+  pub record Collects (patterns : List (List ℕ)) (old new : LooseThenPacked F Remaining)
+      (found : List Reference) : Type 0 where
+    pub all : List Reference
+    pub last : LooseThenPacked F Remaining
+    pub gives : Yields (NextItem honest means faults) old (as_items all) last
+    pub ends : NextItem honest means faults last None new
+    pub asked : found ≡ filter (is_asked patterns) all
+
+  -- An iterator gave references, and then this fault; or there was no memory.
+  abbrev pub StopsAtItem : (old new : LooseThenPacked F Remaining) → ItemError → Type 0
+  StopsAtItem old new error = (error ≡ item.Memory) ⊎ ((all : List Reference)
+      × Yields (NextItem honest means faults) old (as_items all ++ Err error ∷ []) new)
+
+  -- Items of the listing of a prefix, between two counts of faults: the first ones, before `rest`. A folder that could not be listed is
+  -- among them only with a fault that was counted.
+  pub record AreListed (settings : Settings) (view : View) (before now : FaultCounts)
+      (records : List Record) (prefix : List ℕ) (rest : List Listed)
+      (items : List (Result Reference ItemError)) : Type 0 where
+    pub listed : List Listed
+    pub is : IsListing settings view records prefix listed
+    pub names : AllByRecursion (IsNameOrMet before now) listed
+    pub first : AreFirst honest means faults settings view before now listed rest items
+
+  -- and so of a store, up to another state of it
+  abbrev pub AreListedIn : (old new : Store F) → List Record → (prefix : List ℕ) →
+      (rest : List Listed) → List (Result Reference ItemError) → Type 0
+  AreListedIn old new records prefix rest items = AreListed (settings_of old) (view_in means old)
+      (faults (files_of old)) (faults (files_of new)) records prefix rest items
+
+  -- the references of a whole listing that are asked for
+  abbrev pub AreAsked : (old new : Store F) → List Record → (prefix : List ℕ) →
+      (patterns : List (List ℕ)) → List Reference → Type 0
+  AreAsked old new records prefix patterns references = (all : List Reference)
+      × AreListedIn old new records prefix [] (as_items all)
+      × (references ≡ filter (is_asked patterns) all)
+
+  -- a listing goes up to this fault; or there was no memory
+  abbrev pub EndsAtItem : (old new : Store F) → List Record → (prefix : List ℕ) → ItemError → Type 0
+  EndsAtItem old new records prefix error = (error ≡ item.Memory) ⊎ ((all : List Reference)
+      × (rest : List Listed)
+      × AreListedIn old new records prefix rest (as_items all ++ Err error ∷ []))
+
+  -- what is found of the references of a listing
+  abbrev pub FindsAsked : (old new : Store F) → List Record → (prefix : List ℕ) →
+      (patterns : List (List ℕ)) → Result (Vec Reference Global) ItemError → Type 0
+  FindsAsked old new records prefix patterns (Ok found) =
+      AreAsked old new records prefix patterns found.items
+  FindsAsked old new records prefix patterns (Err error) = EndsAtItem old new records prefix error
+
+  -- and so among the names of a walk and these records
+  abbrev pub FindsAmongNames : (old new : Store F) → LooseNames → (Are : List Record → Type 0) →
+      (patterns : List (List ℕ)) → Result (Vec Reference Global) ItemError → Type 0
+  FindsAmongNames old new names Are patterns found = honest → (start : Store F)
+      (records : List Record) → IsWalkedIn honest means faults start old names → Are records →
+      FindsAsked start new records (walked_prefix names) patterns found
+
+  -- the references of a prefix that are asked for
+  abbrev pub ListsAsked : (old new : Store F) → (prefix : List ℕ) → (patterns : List (List ℕ)) →
+      List Reference → Type 0
+  ListsAsked old new prefix patterns references = IsAcceptedPrefix old.namespace prefix
+      × (honest → (records : List Record) → AreRecordsIn means old records →
+      AreAsked old new records prefix patterns references)
+
+  module _ {R : Type 0} (G : Ghosts R) where
+    -- why the references of a prefix are not listed
+    abbrev pub IsUnlisted : (old new : Store F) → (prefix : List ℕ) → Unlisted → Type 0
+    IsUnlisted old new prefix (unlisted.Prefix error) =
+        IsNoListing honest means faults G old new prefix error
+    IsUnlisted old new prefix (unlisted.Item error) = honest → (records : List Record) →
+        AreRecordsIn means old records → EndsAtItem old new records prefix error
+
+    -- why the row of a reference of this name is not made: a lookup failed; or there was no memory
+    abbrev pub IsRowError : (old : Store F) → (name : List ℕ) → RowError → Type 0
+    IsRowError old name (row_error.Unread unread) = IsUnread G honest means faults old
+        × (full_ref_bytes unread ≡ name)
+    IsRowError old name row_error.Memory = Unit {0}
+
+    -- why rows of these references are not made: the following of one of them did not end, since a lookup failed; or there was no memory
+    abbrev pub IsUnfollowed : (old : Store F) → List Reference → RowError → Type 0
+    IsUnfollowed old references (row_error.Unread name) = IsUnread G honest means faults old
+        × Any (λ (reference : Reference). full_bytes reference.name ≡ full_ref_bytes name)
+        references
+    IsUnfollowed old references row_error.Memory = Unit {0}
+
+    -- `for-each-ref` where the format and the patterns are supported: the references are not listed; or one of them cannot be followed; or
+    -- a row for each that leads to an object, in the order that was asked for, and so many
+    abbrev pub EachListed : (old new : Store F) → List Part → (patterns : List (List ℕ)) →
+        (descending : Bool) → (count : Option ℕ) → Answer → Type 0
+    EachListed old new parts patterns descending count answer =
+        ((why : Unlisted) × IsUnlisted old new (codes "refs/") why × IsUnlistedAs why answer)
+        ⊎ ((mid : Store F) × (references : List Reference) × LooksUp honest means old mid
+        × ListsAsked old mid (codes "refs/") patterns references
+        × (((why : RowError) × IsUnfollowed old references why × IsUnfollowedAs why answer)
+        ⊎ ((rows : List (List ℕ))
+        × Says (row_lines (counted count (ordered descending rows))) 0 answer
+        × (honest → (records : List Record) → AreRecordsIn means old records →
+        rows ≡ rows_of (finds_in means old records) parts references))))
+
+    -- `for-each-ref`: a field of the format or a pattern is not supported; or what is answered of the references
+    abbrev pub EachAnswer : (old new : Store F) → (format : List ℕ) → (patterns : List (List ℕ)) →
+        (descending : Bool) → (count : Option ℕ) → Answer → Type 0
+    EachAnswer old new format patterns descending count answer =
+        ((field : List ℕ) × (format_parts format ≡ Err field)
+        × Fails (codes "unsupported field: %" ++ field) answer)
+        ⊎ ((parts : List Part) × (format_parts format ≡ Ok parts)
+        × (((pattern : List ℕ) × (find (has_other_sign false) patterns ≡ Some pattern)
+        × Fails (codes "unsupported pattern: " ++ pattern) answer)
+        ⊎ ((find (has_other_sign false) patterns ≡ None)
+        × EachListed old new parts patterns descending count answer)))

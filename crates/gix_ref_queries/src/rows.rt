@@ -1,0 +1,153 @@
+//! The rows of references (`git for-each-ref`).
+ghost use Rattle.std.specs.Prelude.{◌≡◌, ◌++◌, List, IfOk, IfErr, OnOk};
+ghost use Rattle.std.specs.Option.{option_map, option_to_list};
+ghost use Rattle.gix_ref_name.specs.Names.{full_bytes, full_ref_bytes};
+ghost use Rattle.gix_ref_target.specs.PackedRecords.{Record};
+ghost use Rattle.gix_ref_store.specs.Lookup.{AreRecordsIn, LooksUp};
+ghost use Rattle.gix_ref_queries.specs.Resolving.{finds_in, resolved};
+ghost use Rattle.gix_ref_queries.specs.Rows.{IsRowError, IsUnfollowed, counted, followed_row, ordered, row_of, row_texts, rows_of};
+
+use crate::format::{Part, row};
+use crate::resolve::{End, Followed, follow};
+use gix_ref_files::files::Files;
+use gix_ref_name::name::FullNameRef;
+use gix_ref_store::file::Store;
+use gix_ref_store::raw::Reference;
+use gix_ref_target::target::Target;
+use std::alloc::{AllocError, Global};
+
+/// Why rows of references were not made.
+#[derive(Debug, Drop)]
+pub enum RowError<'r> {
+    /// This symbolic reference was not followed to its end: a lookup failed.
+    Unread(FullNameRef<'r>),
+    /// There was no memory.
+    Memory,
+}
+
+impl From<AllocError> for RowError<'_> {
+    ghost use Rattle.std.specs.Prelude.{◌≡◌};
+    ghost use Rattle.gix_ref_queries.specs.declared.rows.RowError.TheVariants.{Memory};
+
+    ghost from_gives = { λ _ e. e ≡ Memory };
+
+    fn from(_error: AllocError) -> Self {
+        RowError::Memory
+    }
+}
+
+/// The row of a symbolic reference, if it leads to an object.
+fn followed_row<'r, F: Files>(
+    alloc: Global,
+    store: &mut Store<F>,
+    parts: &[Part],
+    name: FullNameRef<'r>,
+) -> Result<Option<Vec<u8>>, RowError<'r>>
+    ensures rows { F.honest → (records : List Record) → AreRecordsIn F.means store.old records →
+        IfOk result (λ row. option_map (λ text. text.items) row ≡ followed_row parts.now
+        (full_ref_bytes name.entry)
+        (resolved (finds_in F.means store.old records) 5 (full_ref_bytes name.entry))) }
+    ensures failed { IfErr result (IsRowError F.honest F.means F.faults F.Reader.ReadAt store.old
+        (full_ref_bytes name.entry)) }
+    ensures unchanged { LooksUp F.honest F.means store.old store.new }
+{
+    let owned = name.to_owned(alloc)?;
+    let Followed { name: last, end } = follow(alloc, store, owned);
+    match end {
+        End::Object(id) => {
+            let text = row(alloc, parts, name.to_path(), &id, last.to_path())?;
+            Ok(Some(text))
+        }
+        End::Absent | End::TooDeep => Ok(None),
+        End::Unread(_) => Err(RowError::Unread(name)),
+        End::Memory => Err(RowError::Memory),
+    }
+}
+
+/// The row of a reference, if it leads to an object.
+fn row_of<'r, F: Files>(
+    alloc: Global,
+    store: &mut Store<F>,
+    parts: &[Part],
+    reference: &'r Reference,
+) -> Result<Option<Vec<u8>>, RowError<'r>>
+    ensures rows { F.honest → (records : List Record) → AreRecordsIn F.means store.old records →
+        IfOk result (λ row. option_map (λ text. text.items) row
+        ≡ row_of (finds_in F.means store.old records) parts.now reference.now) }
+    ensures failed { IfErr result (IsRowError F.honest F.means F.faults F.Reader.ReadAt store.old
+        (full_bytes reference.now.name)) }
+    ensures unchanged { LooksUp F.honest F.means store.old store.new }
+{
+    match &reference.target {
+        Target::Object(id) => {
+            let text = row(alloc, parts, reference.name.to_path(), id, b"")?;
+            Ok(Some(text))
+        }
+        Target::Symbolic(_) => followed_row(alloc, store, parts, reference.name.as_ref()),
+    }
+}
+
+/// Adds a row, if there is one.
+fn keep(rows: &mut Vec<Vec<u8>>, row: Option<Vec<u8>>) -> Result<(), AllocError>
+    ensures { OnOk result (row_texts rows.new.items ≡ row_texts rows.old.items
+        ++ option_to_list (option_map (λ text. text.items) row)) }
+{
+    if let Some(row) = row {
+        rows.push(row)?;
+    }
+    Ok(())
+}
+
+/// The rows of references, each without a line feed; none for a symbolic reference that leads to no object. A symbolic reference is
+/// looked up with the names on its way, five at most. The error names a symbolic reference of which a lookup failed, or reports that
+/// there was no memory.
+pub fn rows<'r, F: Files>(
+    alloc: Global,
+    store: &mut Store<F>,
+    parts: &[Part],
+    references: &'r [Reference],
+) -> Result<Vec<Vec<u8>>, RowError<'r>>
+    ensures rows { F.honest → (records : List Record) → AreRecordsIn F.means store.old records →
+        IfOk result (λ rows. row_texts rows.items
+        ≡ rows_of (finds_in F.means store.old records) parts.now references.now) }
+    ensures failed { IfErr result (IsUnfollowed F.honest F.means F.faults F.Reader.ReadAt
+        store.old references.now) }
+    ensures unchanged { LooksUp F.honest F.means store.old store.new }
+{
+    let mut rows = Vec::new(alloc);
+    for reference in references {
+        let row = match row_of(alloc, store, parts, reference) {
+            Ok(row) => row,
+            Err(error) => return Err(error),
+        };
+        keep(&mut rows, row)?;
+    }
+    Ok(rows)
+}
+
+/// Turns rows round where they are to descend.
+fn order(rows: &mut Vec<Vec<u8>>, descending: bool)
+    ensures { row_texts rows.new.items ≡ ordered descending (row_texts rows.old.items) }
+{
+    if descending {
+        rows.reverse();
+    }
+}
+
+/// Keeps the first so many rows, or all.
+fn limit(rows: &mut Vec<Vec<u8>>, count: Option<usize>)
+    ensures { row_texts rows.new.items ≡ counted count (row_texts rows.old.items) }
+{
+    if let Some(count) = count {
+        rows.truncate(count);
+    }
+}
+
+/// Puts rows that ascend into the order that is asked for, and keeps the first so many.
+pub(crate) fn choose(rows: &mut Vec<Vec<u8>>, descending: bool, count: Option<usize>)
+    ensures { row_texts rows.new.items
+        ≡ counted count (ordered descending (row_texts rows.old.items)) }
+{
+    order(rows, descending);
+    limit(rows, count);
+}

@@ -1,0 +1,28 @@
+use Rattle.std.proofs.Common.{rules, ◌∙◌, sym, Some, None}
+use Rattle.std.specs.Option.{option_map}
+use Rattle.gix_ref_edits.specs.RefEdits.{name_of}
+use Rattle.gix_ref_name.specs.Names.{full_bytes}
+use Rattle.gix_ref_queries.specs.Resolving.{finds_in}
+use Rattle.gix_ref_queries.proofs.Names.{same_records}
+use Rattle.gix_ref_session.proofs.LeadLemmas.{ends_in, to_end, to_itself}
+use Rattle.gix_ref_session.proofs.lead.led_edit.Goals.{then-is_followed+in_ok-name+in-Some, then-is_followed+in_ok-name+in_default, else-is_followed}
+use Rattle.gix_ref_session.proofs.lead.led_edit.Goals as goal
+
+pub returns-clause-leads : goal.returns-clause-leads
+returns-clause-leads g c h records are =
+    let F = g.F.Files in
+    let first = c.args.store.now in
+    let mid = c.is_through_head.new.store in
+    let find = finds_in F.means first records in
+    let branch = option_map full_bytes c.args.branch.now in
+    let edit = c.args.edit.now in
+    let looked = c.is_through_head.ensures.unchanged in
+    let then_are = same_records F.honest F.means first mid records looked h are in
+    let not = sym (c.in_ok-is_through_head.ensures.through h records are) ∙ c.if-branch.false in
+    elim c.if-is_followed.branch [
+      | then-is_followed+in_ok-name+in-Some w ↦ to_end find branch edit c.if-is_followed.led not (sym c.is_followed.ensures ∙ w.if-is_followed.true) (Some w.in-Some.name)
+          (ends_in F.honest F.means first mid looked records (name_of edit) (Some (full_bytes w.in-Some.name)) h (rw w.in-Some.is at (w.in_ok-name.ensures.ends h records then_are))) (search rules) (search rules)
+      | then-is_followed+in_ok-name+in_default w ↦ to_end find branch edit c.if-is_followed.led not (sym c.is_followed.ensures ∙ w.if-is_followed.true) None
+          (ends_in F.honest F.means first mid looked records (name_of edit) None h (rw w.in_default.is at (w.in_ok-name.ensures.ends h records then_are))) (search rules) (search rules)
+      | else-is_followed w ↦ to_itself find branch edit c.if-is_followed.led not (sym c.is_followed.ensures ∙ w.if-is_followed.false) (search rules) (search rules)
+    ]
