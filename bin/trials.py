@@ -136,7 +136,8 @@ def kills():
 def side_by_side(count=4, updates=300):
     branches = {'refs/heads/b%d' % number: '%040x' % number for number in range(1, count + 1)}
     folder = new_repository('side', branches)
-    started = {name: session(folder) for name in branches}
+    # Without syncs, so that what is tried is the waiting for locks, and not the disk.
+    started = {name: session(folder, '--without-syncs') for name in branches}
     last = {}
     for name, it in started.items():
         old, lines = branches[name], []
