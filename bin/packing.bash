@@ -19,7 +19,8 @@ shown() {
 
 # by_pack_refs [--all [--namespace NAME]]: packs the copy of `refs`.
 by_pack_refs() {
-    table refs | "$top/bin/pack-refs" "$work/refs/.git" ${1:+"$1"} $option "${@:2}" >"$work/refs.out" 2>&1
+    table refs >"$work/table"
+    "$top/bin/refs-session" "$work/refs/.git" $option "${@:2}" pack-refs ${1:+"$1"} --peeled "$work/table" >"$work/refs.out" 2>&1
 }
 
 # compare_packed FILES: just these files differ in the copies, and git shows the same of both; with `!` in front it may show something else.
@@ -30,7 +31,7 @@ compare_packed() {
     if [ "${1#!}" != "$1" ]; then return; fi
     shown git >"$work/wanted"
     shown refs >"$work/listed"
-    same "$title" "$work/wanted" "$work/listed" "lines of git after $(tail -n 1 "$work/refs.out")"
+    same "$title" "$work/wanted" "$work/listed" "lines of git after packing"
 }
 
 # pack FILES REPOSITORY [--all]: packs a copy by git and another by `pack-refs`, and compares them.
@@ -112,7 +113,7 @@ known_packing() {
 
 # packing REPOSITORY: all of it, where there is nothing yet.
 packing() {
-    local repository=$1
+    local name repository=$1
     make "$format" "$repository"
     fill "$repository"
     pack_both "$format, loose" "$repository"
@@ -123,7 +124,22 @@ packing() {
     title="$format, pack-refs --namespace"
     pack_namespace "$repository"
     break_some "$repository"
-    pack_both "$format, with broken references" "$repository"
+    title="$format, with broken references, pack-refs"
+    pack "" "$repository"
+    # a branch counts as a commit, also where that object is missing
+    title="$format, with broken references, pack-refs --all"
+    pack "!packed-refs refs/heads/missing" "$repository" --all
+    # without a table branches are packed, and annotated tags stay loose
+    copies "$repository"
+    "$top/bin/refs-session" "$work/refs/.git" $option pack-refs --all 2>"$work/refs.out"
+    for name in $(git -C "$repository" for-each-ref --format='%(objecttype) %(refname)' 2>"$work/git.out" | sed -n 's/^tag //p'); do
+        grep " $name\$" "$work/refs/.git/packed-refs" && fail "an annotated tag is packed without a table"
+    done
+    find "$work/refs/.git/refs/heads" -type f -exec grep -L '^ref:' {} + | grep . && fail "branches stay loose"
+    # with --no-prune their files stay
+    copies "$repository"
+    "$top/bin/refs-session" "$work/refs/.git" $option pack-refs --all --no-prune 2>"$work/refs.out"
+    grep -q ' refs/heads/main$' "$work/refs/.git/packed-refs" && [ -f "$work/refs/.git/refs/heads/main" ] || fail "files are pruned"
     rm "$repository/.git/refs/heads/missing" "$repository"/.git/refs/tags/{null,broken}
     git -C "$repository" pack-refs --all
     pack_both "$format, all packed" "$repository"

@@ -114,16 +114,15 @@ time_deletion() {
 time_packing() {
     fresh=1
     git_task() { git -C "$work/timed" pack-refs --all; }
-    refs_task() { echo "$id" | "$packer" "$work/timed/.git" --all; }
+    refs_task() { "$session" "$work/timed/.git" pack-refs --all; }
     repository 0
-    id=$(git -C "$work/timed" rev-parse HEAD)
     loose 10000 "$work/timed"
     time_task "pack 10,000 loose references"
 }
 
 # times: a table of all, least and median in milliseconds.
 times() {
-    local fresh id program=$top/crates/refs/out/refs packer=$top/crates/pack_refs/out/pack_refs
+    local fresh program=$top/crates/refs/out/refs session=$top/crates/refs_session/out/refs_session
     echo "$script: $rounds rounds, least / median in milliseconds, on $(nproc) processors: $(sed -n 's/^model name.*: //p' /proc/cpuinfo | head -1)"
     echo "| task | refs | git $(git --version | sed 's/git version //') |"
     echo "|---|---|---|"

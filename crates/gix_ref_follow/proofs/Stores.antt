@@ -5,7 +5,7 @@ use Rattle.gix_ref_name.specs.Names.{full_bytes}
 use Rattle.gix_ref_files.specs.Files.{Meaning, FaultCounts}
 use Rattle.gix_ref_files.specs.Tree.{Tree}
 use Rattle.gix_ref_files.specs.declared.files.ReadAt.{Ghosts}
-use Rattle.gix_ref_files.proofs.Moments.{joins, weaken}
+use Rattle.gix_ref_files.proofs.Moments.{joins, weaken, passes_joins, passes_weaken}
 use Rattle.gix_ref_theory.specs.OnRealTrees.{view_of}
 use Rattle.gix_ref_theory.specs.Readings.{reading_among}
 use Rattle.gix_ref_theory.specs.Readings.Reading.{Absent}
@@ -59,6 +59,7 @@ module _ {F : Type 0} (honest : Type 0) (means : F → Meaning) where
   pub looks_up : (first mid last : Store F) → LooksUp honest means first mid → LooksUp honest means mid last → LooksUp honest means first last
   looks_up first mid last a b = record {
     leaves = λ h. joins (a.leaves h) (weaken (b.leaves h) (λ T is. is ∙ (a.leaves h).tree));
+    passes = λ h. passes_joins (a.passes h) (passes_weaken (b.passes h) (λ D is. is ∙ (a.passes h).disk));
     same = same_on first mid last a.same b.same;
   }
 

@@ -16,8 +16,9 @@ use Rattle.gix_ref_target.specs.Locations.{cut_at_slash}
 use Rattle.gix_ref_files.specs.Tree.{Tree, Path, Content, IsShaped, is_folder, fronts, fronts_after}
 use Rattle.gix_ref_files.specs.Tree.Content.{File, Folder}
 use Rattle.gix_ref_files.specs.Calls.{ListsFolder, IsEntryOf, IsEntryName, entry_name, Unchanged}
-use Rattle.gix_ref_files.specs.Files.{Leaves, Meaning, count_with, FaultCounts, NoFewer}
-use Rattle.gix_ref_files.proofs.Moments.{joins}
+use Rattle.gix_ref_files.specs.DiskCalls.{Untouched}
+use Rattle.gix_ref_files.specs.Files.{Leaves, Passes, Meaning, disk_of, count_with, FaultCounts, NoFewer}
+use Rattle.gix_ref_files.proofs.Moments.{joins, passes_joins}
 use Rattle.gix_ref_files.specs.declared.files.Entry.{Entry as ListedEntry}
 use Rattle.gix_ref_files.specs.declared.files.FileError.{FileError}
 use Rattle.gix_ref_theory.specs.OnRealTrees.{view_of, file_of}
@@ -189,6 +190,9 @@ met_on a b c es later all = λ k d below. by (slice_index_or es k d) (all k d be
 -- nothing changed, and then nothing more
 pub unchanged_on : (old mid new : Meaning) → Leaves old mid (Unchanged old.tree) → Leaves mid new (Unchanged mid.tree) → Leaves old new (Unchanged old.tree)
 unchanged_on old mid new first second = joins first (subst (λ T. Leaves mid new (Unchanged T)) first.tree second)
+
+pub untouched_on : (old mid new : Meaning) → Passes old mid (Untouched (disk_of old)) → Passes mid new (Untouched (disk_of mid)) → Passes old new (Untouched (disk_of old))
+untouched_on old mid new first second = passes_joins first (subst (λ D. Passes mid new (Untouched D)) first.disk second)
 
 -- one of a list is there, or later
 pub among_next : {A : Type 0} (P : A → Type 0) (xs : List A) (i : ℕ) (x : A) → i < length xs → x ≡ slice_index_or xs i x → Among P (drop i xs) → P x ⊎ Among P (drop (i + 1) xs)

@@ -1,7 +1,8 @@
 -- One item of a listing after the other.
 use Rattle.std.specs.Prelude.{◌≡◌, ℕ, List, [], ◌∷◌, Option, Some, None, Result, Ok, Err}
-use Rattle.gix_ref_files.specs.Files.{Meaning, Leaves, FaultCounts, NoFewer}
+use Rattle.gix_ref_files.specs.Files.{Meaning, disk_of, Leaves, Passes, FaultCounts, NoFewer}
 use Rattle.gix_ref_files.specs.Calls.{Unchanged}
+use Rattle.gix_ref_files.specs.DiskCalls.{Untouched}
 use Rattle.gix_ref_theory.specs.OnRealTrees.{view_of}
 use Rattle.gix_ref_name.specs.Names.{full_ref_bytes}
 use Rattle.gix_ref_packed_text.specs.declared.raw.Reference.{Reference}
@@ -52,8 +53,8 @@ module _ {F : Type 0} (honest : Type 0) (means : F → Meaning) (faults : F → 
       × IsGivenItem honest settings (view_of (means before).tree) (faults before) (faults now) one
       item
 
-  -- What giving an item does: it is the first of those that are yet to come; no file changes; a fault that is counted is told by
-  -- the item; and what has ended stays ended, whatever the texts are.
+  -- What giving an item does: it is the first of those that are yet to come; no file changes, and the disk does not; a fault that is
+  -- counted is told by the item; and what has ended stays ended, whatever the texts are.
   pub record GivesNext (settings : Settings) (before now : F) (s : Merge)
       (r : Option (Result Reference Error)) (t : Merge) : Type 0 where
     pub gives : (listed : List Listed) → AreYet settings s listed →
@@ -64,5 +65,6 @@ module _ {F : Type 0} (honest : Type 0) (means : F → Meaning) (faults : F → 
     pub rises : NoFewer (faults before) (faults now)
     pub counts : CountsNone (faults before) (faults now) r
     pub leaves : honest → Leaves (means before) (means now) (Unchanged (means before).tree)
+    pub passes : honest → Passes (means before) (means now) (Untouched (disk_of (means before)))
     pub ends : r ≡ None → IsDrained t
     pub stays_ended : IsDrained s → r ≡ None

@@ -8,7 +8,7 @@ ghost use Rattle.gix_ref_theory.specs.OnRealTrees.{contents};
 ghost use Rattle.gix_ref_theory.specs.Readings.{reading_by};
 ghost use Rattle.gix_ref_theory.specs.Readings.Reading.{Absent};
 ghost use Rattle.gix_ref_lookup.specs.Lookups.{ArePackedRecordsWith, OfKey, meaning_in, packed_refs_in};
-ghost use Rattle.gix_ref_lookup.specs.Looks.{OnlyLooks};
+ghost use Rattle.gix_ref_files.specs.ReadOnly.{OnlyReads};
 ghost use Rattle.gix_ref_listing.specs.GoneFiles.{HitsNow, IsAskedAgain, IsGone, IsPackedAgain, IsPackedUnread};
 
 use crate::error::{Error, of_reading};
@@ -81,7 +81,7 @@ fn find_key<F: Files>(
     ensures hit { F.honest → IfOk result (λ found. IfSome found (HitsNow settings.entry.kind
         (packed_refs_in settings.entry (F.means files.old)) (full_ref_bytes key.entry))) }
     ensures no_fault { OnOk result (F.faults files.new ≡ F.faults files.old) }
-    ensures looks { OnlyLooks F.honest F.means F.faults files.old files.new }
+    ensures looks { OnlyReads F.honest F.means F.faults files.old files.new }
 {
     let mut records = Records::Unopened;
     match records.open(alloc, files, settings) {
@@ -106,7 +106,7 @@ fn find_record<F: Files>(
         (λ key. HitsNow settings.entry.kind (packed_refs_in settings.entry (F.means files.old))
         key found))) }
     ensures no_fault { OnOk result (F.faults files.new ≡ F.faults files.old) }
-    ensures looks { OnlyLooks F.honest F.means F.faults files.old files.new }
+    ensures looks { OnlyReads F.honest F.means F.faults files.old files.new }
 {
     match settings.key_name(alloc, name)? {
         Some(key) => find_key(alloc, files, settings, key.as_ref()),
@@ -123,7 +123,7 @@ fn find_packed<F: Files>(
 ) -> Result<Reference, Error>
     ensures item { IsPackedAgain F.honest settings.entry (contents F.means files.old) name result }
     ensures no_fault { OnOk result (F.faults files.new ≡ F.faults files.old) }
-    ensures looks { OnlyLooks F.honest F.means F.faults files.old files.new }
+    ensures looks { OnlyReads F.honest F.means F.faults files.old files.new }
 {
     match find_record(alloc, files, settings, name.as_ref()) {
         Ok(Some(found)) => Ok(Reference {
@@ -148,7 +148,7 @@ pub(crate) fn find_again<F: Files>(
     ensures item { IsAskedAgain F.honest settings.entry (contents F.means files.old)
         (F.faults files.old) (F.faults files.new) name result }
     ensures no_fault { OnOk result (F.faults files.new ≡ F.faults files.old) }
-    ensures looks { OnlyLooks F.honest F.means F.faults files.old files.new }
+    ensures looks { OnlyReads F.honest F.means F.faults files.old files.new }
 {
     let place = settings.place(alloc, name.as_ref())?;
     match read_at(alloc, files, settings, name.as_ref(), place) {

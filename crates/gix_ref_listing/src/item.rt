@@ -4,7 +4,7 @@ ghost use Rattle.std.specs.Option.{option_len};
 ghost use Rattle.gix_ref_name.specs.Names.{full_ref_bytes};
 ghost use Rattle.gix_ref_theory.specs.OnRealTrees.{contents};
 ghost use Rattle.gix_ref_lookup.specs.Lookups.{meaning_in};
-ghost use Rattle.gix_ref_lookup.specs.Looks.{OnlyLooks};
+ghost use Rattle.gix_ref_files.specs.ReadOnly.{OnlyReads};
 ghost use Rattle.gix_ref_listing.specs.OwnRecords.{own_of};
 ghost use Rattle.gix_ref_listing.specs.GoneFiles.{IsFoundOrGone, IsTakenItem};
 ghost use Rattle.gix_ref_listing.specs.Items.{IsAllowed, IsRecordFault, IsRecordItem};
@@ -38,7 +38,7 @@ fn file_item<F: Files>(
     ensures item { IsFoundOrGone F.honest settings.entry (contents F.means files.old)
         (F.faults files.old) (F.faults files.new) (File name path) result }
     ensures no_fault { OnOk result (F.faults files.new ≡ F.faults files.old) }
-    ensures looks { OnlyLooks F.honest F.means F.faults files.old files.new }
+    ensures looks { OnlyReads F.honest F.means F.faults files.old files.new }
 {
     match read_at(alloc, files, settings, name.as_ref(), path) {
         Ok(Some(target)) => Ok(Reference {
@@ -98,7 +98,7 @@ fn item<F: Files>(
     ensures item { IsTakenItem F.honest settings.entry (contents F.means files.old)
         (F.faults files.old) (F.faults files.new) taken.entry result }
     ensures no_fault { OnOk result (F.faults files.new ≡ F.faults files.old) }
-    ensures looks { OnlyLooks F.honest F.means F.faults files.old files.new }
+    ensures looks { OnlyReads F.honest F.means F.faults files.old files.new }
 {
     match taken {
         Taken::Walked(Found::File { name, path }) => file_item(alloc, files, settings, name, path),

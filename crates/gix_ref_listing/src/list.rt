@@ -5,7 +5,7 @@ ghost use Rattle.gix_ref_target.specs.PackedRecords.{Record};
 ghost use Rattle.gix_ref_theory.specs.OnRealTrees.{contents};
 ghost use Rattle.gix_ref_theory.specs.Views.{View};
 ghost use Rattle.gix_ref_lookup.specs.StoreLayout.{namespace_text};
-ghost use Rattle.gix_ref_lookup.specs.Looks.{OnlyLooks};
+ghost use Rattle.gix_ref_files.specs.ReadOnly.{OnlyReads};
 ghost use Rattle.gix_ref_listing.specs.OwedNames.{Text, IsTextFor, OwesOthers, OwesNames};
 ghost use Rattle.gix_ref_listing.specs.PlainSettings.{plain};
 ghost use Rattle.gix_ref_lookup.specs.declared.settings.Settings.{Settings as ListingOf};
@@ -66,7 +66,7 @@ pub fn walk<F: Files>(
     ensures walks { F.honest → IfOk result (IsWalkOf (plain settings.entry)
         (contents F.means files.old) (F.faults files.old) (F.faults files.new)) }
     ensures asked { IfOk result (λ names. names.prefix.items ≡ prefix.now) }
-    ensures looks { OnlyLooks F.honest F.means F.faults files.old files.new }
+    ensures looks { OnlyReads F.honest F.means F.faults files.old files.new }
     ensures memory { IfErr result (λ error. error ≡ Memory) }
 {
     let Ok(found) = walk_store(alloc, files, settings, prefix) else {
@@ -120,7 +120,7 @@ pub fn list<'p, F: Files>(
     ensures owes { F.honest → (text : Text) →
         IsTextFor (key_in settings.entry prefix.now) packed.entry text →
         IfOk result (OwesNames (plain settings.entry) text []) }
-    ensures looks { OnlyLooks F.honest F.means F.faults files.old files.new }
+    ensures looks { OnlyReads F.honest F.means F.faults files.old files.new }
     ensures memory { IfErr result (λ error. error ≡ Memory) }
 {
     match walk(alloc, files, settings, prefix) {

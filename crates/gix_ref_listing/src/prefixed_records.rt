@@ -1,8 +1,8 @@
 //! The records of a prefix, read from `packed-refs`.
 ghost use Rattle.std.specs.Prelude.{◌≡◌, ℕ, List, IfOk, IfErr, OnOk, is_some};
 ghost use Rattle.gix_ref_target.specs.PackedRecords.{Record};
-ghost use Rattle.gix_ref_files.specs.Files.{AtEveryStop, FaultCounts};
-ghost use Rattle.gix_ref_files.specs.Calls.{Unchanged};
+ghost use Rattle.gix_ref_files.specs.Files.{FaultCounts};
+ghost use Rattle.gix_ref_files.specs.ReadOnly.{OnlyReads};
 ghost use Rattle.gix_ref_files.specs.Tree.{is_file};
 ghost use Rattle.gix_ref_hash.specs.declared.hash.Kind.{Kind};
 ghost use Rattle.gix_ref_packed.specs.Buffers.{HoldsRecords, IsRefusedBytes, IsRefusedFile, buffer_kind, buffer_text};
@@ -79,7 +79,7 @@ pub fn open_prefixed<F: Files>(
     ensures no_fault { OnOk result (F.faults files.new ≡ F.faults files.old) }
     ensures failed { F.honest →
         IfErr result (CountsRefusal F.Reader.faults (F.faults files.old) (F.faults files.new)) }
-    ensures leaves { F.honest → AtEveryStop F.means files.old files.new Unchanged }
+    ensures reads { OnlyReads F.honest F.means F.faults files.old files.new }
 {
     let path = settings.packed_refs_path(alloc)?;
     let key = joined(alloc, text_of(settings.namespace), prefix)?;

@@ -11,7 +11,7 @@ ghost use Rattle.gix_ref_listing.specs.PristineStores.{Says, IsReading, IsReadab
 ghost use Rattle.gix_ref_listing.specs.Walks.{IsFile, IsAnyMet};
 ghost use Rattle.gix_ref_listing.specs.declared.pristine.Reading.TheVariants.{Fault};
 ghost use Rattle.gix_ref_lookup.specs.Lookups.{Among};
-ghost use Rattle.gix_ref_lookup.specs.Looks.{OnlyLooks};
+ghost use Rattle.gix_ref_files.specs.ReadOnly.{OnlyReads};
 
 use crate::found::{Found, FoundByKey};
 use crate::store_walk::walk_store;
@@ -47,7 +47,7 @@ fn reading_at<F: Files>(
         IfOk result (IsReading (plain settings.entry) (contents F.means files.old) path.items) }
     ensures fault { IfOk result (λ reading. reading ≡ Fault →
         IsAnyMet (F.faults files.old) (F.faults files.new)) }
-    ensures looks { OnlyLooks F.honest F.means F.faults files.old files.new }
+    ensures looks { OnlyReads F.honest F.means F.faults files.old files.new }
 {
     match read_at(alloc, files, settings, name, path) {
         Ok(Some(target)) => Ok(Reading::Is(target)),
@@ -85,7 +85,7 @@ fn head_points_to<F: Files>(
         (contents F.means files.old) (full_ref_bytes name.entry))
         ((F.honest → ReadsNone (plain settings.entry) (contents F.means files.old)
         (head_path (plain settings.entry))) ⊎ IsAnyMet (F.faults files.old) (F.faults files.new))) }
-    ensures looks { OnlyLooks F.honest F.means F.faults files.old files.new }
+    ensures looks { OnlyReads F.honest F.means F.faults files.old files.new }
 {
     let Some(head) = FullNameRef::from_path(b"HEAD") else {
         return Ok(None);
@@ -107,7 +107,7 @@ fn has_packed_refs<F: Files>(
     ensures says { IfOk result (Says (F.honest → has_packed_refs (plain settings.entry)
         (F.means files.old).tree ≡ true) (F.honest → has_packed_refs (plain settings.entry)
         (F.means files.old).tree ≡ false) (IsAnyMet (F.faults files.old) (F.faults files.new))) }
-    ensures looks { OnlyLooks F.honest F.means F.faults files.old files.new }
+    ensures looks { OnlyReads F.honest F.means F.faults files.old files.new }
 {
     let path = settings.packed_refs_path(alloc)?;
     match files.kind(&path) {
@@ -129,7 +129,7 @@ fn is_readable<F: Files>(
         IsReadableFile (plain settings.entry) (contents F.means files.old) found)) ((other ≡ false)
         × (F.honest → IsUnreadableFile (plain settings.entry) (contents F.means files.old) found))
         (IsFoundFile found → IsAnyMet (F.faults files.old) (F.faults files.new))) }
-    ensures looks { OnlyLooks F.honest F.means F.faults files.old files.new }
+    ensures looks { OnlyReads F.honest F.means F.faults files.old files.new }
 {
     match found {
         Found::Unlisted { .. } => Ok(None),
@@ -156,7 +156,7 @@ fn any_readable<F: Files>(
         (contents F.means files.old) e.1) found.entries) (F.honest → All (λ e. IsUnreadableFile
         (plain settings.entry) (contents F.means files.old) e.1) found.entries)
         (All IsFile found.entries → IsAnyMet (F.faults files.old) (F.faults files.new))) }
-    ensures looks { OnlyLooks F.honest F.means F.faults files.old files.new }
+    ensures looks { OnlyReads F.honest F.means F.faults files.old files.new }
 {
     let mut any = false;
     while let Some((_, one)) = found.pop_first() {
@@ -179,7 +179,7 @@ fn has_loose<F: Files>(
         (Says (F.honest → HasLoose (plain settings.entry) (contents F.means files.old) prefix.now)
         (F.honest → HasNoLoose (plain settings.entry) (contents F.means files.old) prefix.now)
         (IsAnyMet (F.faults files.old) (F.faults files.new))) }
-    ensures looks { OnlyLooks F.honest F.means F.faults files.old files.new }
+    ensures looks { OnlyReads F.honest F.means F.faults files.old files.new }
 {
     let Ok(found) = walk_store(alloc, files, settings, prefix) else {
         return Err(AllocError);
@@ -197,7 +197,7 @@ fn has_references<F: Files>(
     ensures says { IfOk result (Says (F.honest → HasReferences (plain settings.entry)
         (F.means files.old).tree prefix.now) (F.honest → HasNoReferences (plain settings.entry)
         (F.means files.old).tree prefix.now) (IsAnyMet (F.faults files.old) (F.faults files.new))) }
-    ensures looks { OnlyLooks F.honest F.means F.faults files.old files.new }
+    ensures looks { OnlyReads F.honest F.means F.faults files.old files.new }
 {
     match has_packed_refs(alloc, files, settings)? {
         Some(true) => Ok(Some(true)),
@@ -220,7 +220,7 @@ pub fn is_pristine<F: Files>(
         (plain settings.entry) (F.means files.old).tree prefix.now (full_ref_bytes name.entry))
         ((F.honest → ReadsNone (plain settings.entry) (contents F.means files.old)
         (head_path (plain settings.entry))) ⊎ IsAnyMet (F.faults files.old) (F.faults files.new))) }
-    ensures looks { OnlyLooks F.honest F.means F.faults files.old files.new }
+    ensures looks { OnlyReads F.honest F.means F.faults files.old files.new }
 {
     match head_points_to(alloc, files, settings, name)? {
         Some(true) => match has_references(alloc, files, settings, prefix)? {

@@ -10,7 +10,7 @@ ghost use Rattle.gix_ref_listing.specs.PseudoListings.{is_head_file, is_kept, Is
 ghost use Rattle.gix_ref_listing.specs.Walks.{Holds, IsFile, IsFileOrMet};
 ghost use Rattle.gix_ref_listing.specs.declared.prefix.Error.TheVariants.{Memory};
 ghost use Rattle.gix_ref_lookup.specs.Lookups.{Among};
-ghost use Rattle.gix_ref_lookup.specs.Looks.{OnlyLooks};
+ghost use Rattle.gix_ref_files.specs.ReadOnly.{OnlyReads};
 
 use crate::found::{Found, FoundByKey};
 use crate::merge::Merge;
@@ -60,7 +60,7 @@ fn walk_pseudo<F: Files>(
         (F.faults files.new)) found.entries) }
     ensures there { F.honest → IfOk result
         (λ found. All (IsPseudoFound settings.entry (contents F.means files.old)) found.entries) }
-    ensures looks { OnlyLooks F.honest F.means F.faults files.old files.new }
+    ensures looks { OnlyReads F.honest F.means F.faults files.old files.new }
     ensures memory { IfErr result (λ error. error ≡ no_memory) }
 {
     let Ok(path) = front_of(alloc, &settings.dirs.git_dir, settings.namespace) else {
@@ -87,7 +87,7 @@ pub fn list_pseudo<'p, F: Files>(
 ) -> Result<Merge<'p>, Error>
     ensures lists { F.honest → IfOk result (ListsPseudo (plain settings.entry)
         (contents F.means files.old) (F.faults files.old) (F.faults files.new)) }
-    ensures looks { OnlyLooks F.honest F.means F.faults files.old files.new }
+    ensures looks { OnlyReads F.honest F.means F.faults files.old files.new }
     ensures memory { IfErr result (λ error. error ≡ Memory) }
 {
     let Ok(found) = walk_pseudo(alloc, files, settings) else {

@@ -9,7 +9,7 @@ ghost use Rattle.gix_ref_lookup.specs.StoreLayout.{namespace_text};
 ghost use Rattle.gix_ref_listing.specs.Walks.{Holds, IsFile, IsFolderPath, IsRootPath, StaysFound, IsFileOrMet};
 ghost use Rattle.gix_ref_listing.specs.LooseListings.{IsFront, IsLooseListed, IsFoundIn, LooseIn};
 ghost use Rattle.gix_ref_lookup.specs.Lookups.{Among};
-ghost use Rattle.gix_ref_lookup.specs.Looks.{OnlyLooks};
+ghost use Rattle.gix_ref_files.specs.ReadOnly.{OnlyReads};
 
 use crate::found::FoundByKey;
 use crate::walk::Root;
@@ -71,7 +71,7 @@ fn walk_in<F: Files>(
     ensures there { F.honest → OnOk result
         (All (IsFoundIn settings.entry (contents F.means files.old) prefix.now) found.old.entries →
         All (IsFoundIn settings.entry (contents F.means files.old) prefix.now) found.new.entries) }
-    ensures looks { OnlyLooks F.honest F.means F.faults files.old files.new }
+    ensures looks { OnlyReads F.honest F.means F.faults files.old files.new }
     ensures memory { IfErr result (λ error. error ≡ Memory) }
 {
     let Ok(path) = front_of(alloc, folder, settings.namespace) else {
@@ -101,7 +101,7 @@ pub fn walk_store<F: Files>(
         (F.faults files.new)) found.entries) }
     ensures there { F.honest → IfOk result (λ found. All
         (IsFoundIn settings.entry (contents F.means files.old) prefix.now) found.entries) }
-    ensures looks { OnlyLooks F.honest F.means F.faults files.old files.new }
+    ensures looks { OnlyReads F.honest F.means F.faults files.old files.new }
     ensures memory { IfErr result (λ error. error ≡ Memory) }
 {
     let mut found = BTreeMap::new(alloc);

@@ -10,7 +10,7 @@ ghost use Rattle.gix_ref_files.specs.declared.files.FileError.TheVariants.{Memor
 ghost use Rattle.gix_ref_theory.specs.OnRealTrees.{contents};
 ghost use Rattle.gix_ref_theory.specs.Views.{View};
 ghost use Rattle.gix_ref_lookup.specs.Lookups.{name_asked, Among};
-ghost use Rattle.gix_ref_lookup.specs.Looks.{OnlyLooks};
+ghost use Rattle.gix_ref_files.specs.ReadOnly.{OnlyReads};
 ghost use Rattle.gix_ref_listing.specs.Walks.{FoundEntry, IsListedName, IsThereOr, IsOwnName, IsLooseName, Holds, IsFile, IsFileOf, IsTaken, StaysFound, IsFolderPath, IsInnerPath, IsBelow, IsRootPath, Reaches, IsFileOrMet};
 
 use crate::found::{Found, FoundByKey};
@@ -312,7 +312,7 @@ impl Root<'_> {
             (λ _. IsFolderPath folder.now → (others : List FoundEntry) →
             All (IsThereOr others self.entry (contents F.means files.old)) found.old.entries →
             All (IsThereOr others self.entry (contents F.means files.old)) found.new.entries) }
-        ensures looks { OnlyLooks F.honest F.means F.faults files.old files.new }
+        ensures looks { OnlyReads F.honest F.means F.faults files.old files.new }
         ensures memory { IfErr result (λ error. error ≡ Memory) }
     {
         let Ok(path) = folder_path(alloc, self.path, folder) else {
@@ -352,7 +352,7 @@ impl Root<'_> {
         ensures there { F.honest → OnOk result ((others : List FoundEntry) →
             All (IsThereOr others self.entry (contents F.means files.old)) found.old.entries →
             All (IsThereOr others self.entry (contents F.means files.old)) found.new.entries) }
-        ensures looks { OnlyLooks F.honest F.means F.faults files.old files.new }
+        ensures looks { OnlyReads F.honest F.means F.faults files.old files.new }
         ensures memory { IfErr result (λ error. error ≡ Memory) }
     {
         let mut next = Vec::new(alloc);
@@ -381,7 +381,7 @@ impl Root<'_> {
         ensures there { F.honest → OnOk result ((others : List FoundEntry) →
             All (IsThereOr others self.entry (contents F.means files.old)) found.old.entries →
             All (IsThereOr others self.entry (contents F.means files.old)) found.new.entries) }
-        ensures looks { OnlyLooks F.honest F.means F.faults files.old files.new }
+        ensures looks { OnlyReads F.honest F.means F.faults files.old files.new }
         ensures memory { IfErr result (λ error. error ≡ Memory) }
     {
         let Ok(mut folders) = one_folder(alloc, folder_of(self.prefix)) else {

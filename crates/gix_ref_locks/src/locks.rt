@@ -4,7 +4,7 @@ ghost use Rattle.std.specs.declared.alloc.Global.{Global};
 ghost use Rattle.std.specs.List.{All};
 ghost use Rattle.gix_ref_files.specs.Lock.{lock_of};
 ghost use Rattle.gix_ref_files.specs.Tree.{Tree};
-ghost use Rattle.gix_ref_lookup.specs.Looks.{OnlyLooks};
+ghost use Rattle.gix_ref_files.specs.ReadOnly.{OnlyReads};
 ghost use Rattle.gix_ref_lookup.specs.Lookups.{meaning_in};
 ghost use Rattle.gix_ref_locks.specs.LockFiles.{AreLockFiles, IsLockFile, IsLockFailure, HasPath};
 ghost use Rattle.gix_ref_locks.specs.LockWalks.{StaysFound};
@@ -64,7 +64,7 @@ fn look_for_packed_lock<F: Files>(
         found.old.keys →
         All (λ p. IsLockFile (meaning_in settings.entry) (F.means files.old).tree p.items)
         found.new.keys) }
-    ensures looks { OnlyLooks F.honest F.means F.faults files.old files.new }
+    ensures looks { OnlyReads F.honest F.means F.faults files.old files.new }
     ensures failed { IfErr result
         (IsLockFailure settings.entry (F.faults files.old) (F.faults files.new)) }
 {
@@ -89,7 +89,7 @@ fn find_locks<F: Files>(
         HasPath path found.keys) }
     ensures only { F.honest → IfOk result (λ found. All (λ p.
         IsLockFile (meaning_in settings.entry) (F.means files.old).tree p.items) found.keys) }
-    ensures looks { OnlyLooks F.honest F.means F.faults files.old files.new }
+    ensures looks { OnlyReads F.honest F.means F.faults files.old files.new }
     ensures failed { IfErr result
         (IsLockFailure settings.entry (F.faults files.old) (F.faults files.new)) }
 {
@@ -117,7 +117,7 @@ pub fn list_locks<F: Files>(
 ) -> Result<Vec<Vec<u8>>, Error>
     ensures lists { F.honest → IfOk result (λ paths. AreLockFiles (meaning_in settings.entry)
         (F.means files.old).tree paths.items) }
-    ensures looks { OnlyLooks F.honest F.means F.faults files.old files.new }
+    ensures looks { OnlyReads F.honest F.means F.faults files.old files.new }
     ensures failed { IfErr result
         (IsLockFailure settings.entry (F.faults files.old) (F.faults files.new)) }
 {

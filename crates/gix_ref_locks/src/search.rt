@@ -5,7 +5,7 @@ ghost use Rattle.std.specs.List.{All};
 ghost use Rattle.gix_ref_files.specs.Tree.{Tree};
 ghost use Rattle.gix_ref_files.specs.Lock.{lock_of};
 ghost use Rattle.gix_ref_target.specs.Layout.{below};
-ghost use Rattle.gix_ref_lookup.specs.Looks.{OnlyLooks};
+ghost use Rattle.gix_ref_files.specs.ReadOnly.{OnlyReads};
 ghost use Rattle.gix_ref_lookup.specs.Lookups.{meaning_in};
 ghost use Rattle.gix_ref_lookup.specs.StoreLayout.{namespace_text};
 ghost use Rattle.gix_ref_listing.specs.Walks.{IsFolderPath, IsRootPath};
@@ -70,7 +70,7 @@ impl LockRoot<'_> {
             found.old.keys →
             All (λ p. IsLockFile (meaning_in self.entry.settings) (F.means files.old).tree p.items)
             found.new.keys) }
-        ensures looks { OnlyLooks F.honest F.means F.faults files.old files.new }
+        ensures looks { OnlyReads F.honest F.means F.faults files.old files.new }
         ensures failed { IfErr result
             (FailsBelow self.entry.front.now (F.faults files.old) (F.faults files.new)) }
     {
@@ -104,7 +104,7 @@ pub(crate) fn search_in<F: Files>(
         found.old.keys →
         All (λ p. IsLockFile (meaning_in settings.entry) (F.means files.old).tree p.items)
         found.new.keys) }
-    ensures looks { OnlyLooks F.honest F.means F.faults files.old files.new }
+    ensures looks { OnlyReads F.honest F.means F.faults files.old files.new }
     ensures failed { IfErr result
         (IsLockFailure settings.entry (F.faults files.old) (F.faults files.new)) }
 {

@@ -7,7 +7,7 @@ ghost use Rattle.gix_ref_files.specs.Tree.{Tree, is_file};
 ghost use Rattle.gix_ref_files.specs.Lock.{lock_of};
 ghost use Rattle.gix_ref_files.specs.Files.{FaultCounts};
 ghost use Rattle.gix_ref_theory.specs.Readings.{Store};
-ghost use Rattle.gix_ref_lookup.specs.Looks.{OnlyLooks};
+ghost use Rattle.gix_ref_files.specs.ReadOnly.{OnlyReads};
 ghost use Rattle.gix_ref_lookup.specs.Lookups.{meaning_in};
 ghost use Rattle.gix_ref_listing.specs.Walks.{IsFolderPath, IsInnerPath, IsRootPath, IsBelow};
 ghost use Rattle.gix_ref_locks.specs.LockFiles.{IsLockOf, IsLockFile, HasPath};
@@ -227,7 +227,7 @@ impl LockRoot<'_> {
             found.old.keys →
             All (λ p. IsLockFile (meaning_in self.entry.settings) (F.means files.old).tree p.items)
             found.new.keys) }
-        ensures looks { OnlyLooks F.honest F.means F.faults files.old files.new }
+        ensures looks { OnlyReads F.honest F.means F.faults files.old files.new }
         ensures failed { IfErr result
             (FailsBelow self.entry.front.now (F.faults files.old) (F.faults files.new)) }
     {
@@ -265,7 +265,7 @@ impl LockRoot<'_> {
             found.old.keys →
             All (λ p. IsLockFile (meaning_in self.entry.settings) (F.means files.old).tree p.items)
             found.new.keys) }
-        ensures looks { OnlyLooks F.honest F.means F.faults files.old files.new }
+        ensures looks { OnlyReads F.honest F.means F.faults files.old files.new }
         ensures failed { IfErr result
             (FailsBelow self.entry.front.now (F.faults files.old) (F.faults files.new)) }
     {
@@ -296,7 +296,7 @@ impl LockRoot<'_> {
             found.old.keys →
             All (λ p. IsLockFile (meaning_in self.entry.settings) (F.means files.old).tree p.items)
             found.new.keys) }
-        ensures looks { OnlyLooks F.honest F.means F.faults files.old files.new }
+        ensures looks { OnlyReads F.honest F.means F.faults files.old files.new }
         ensures failed { IfErr result
             (FailsBelow self.entry.front.now (F.faults files.old) (F.faults files.new)) }
     {

@@ -3,7 +3,6 @@ pub mod Composing
 pub mod FolderLemmas
 pub mod Laying
 pub mod Looking
-pub mod Looks
 pub mod LooseLemmas
 pub mod Missing
 pub mod NamedRecords

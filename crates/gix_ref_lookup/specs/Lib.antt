@@ -1,5 +1,4 @@
 pub mod CleanPaths
-pub mod Looks
 pub mod Lookups
 pub mod LooseFiles
 pub mod LooseText

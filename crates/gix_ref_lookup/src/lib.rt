@@ -23,7 +23,7 @@
 //!   its fault counted, or has the name of a device, or holds no target, with the reason; or it has no loose file, and
 //!   `packed-refs` was refused for a reason of the file, or could not be searched; or for want of memory: the same, clause
 //!   `failed`
-//! - nothing changes, and a lookup that succeeds counts no fault: the same, clauses `leaves`, `no_fault`
+//! - nothing changes, the disk too, and a lookup that succeeds counts no fault: the same, clauses `reads`, `no_fault`
 //! - a name has a log exactly where a file is at the path of its log, in honest files; its bytes, its reader; a path with the
 //!   name of a device is refused where these are prohibited, and a fault of files is counted: `reflog::log_exists`, `read_log`,
 //!   `open_log`

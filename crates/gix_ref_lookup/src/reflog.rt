@@ -1,8 +1,8 @@
 //! The reflog of a name: one call of files for each of these.
 ghost use Rattle.std.specs.Prelude.{◌≡◌, true, false, IfOk, IfErr, OnOk};
 ghost use Rattle.gix_ref_name.specs.Names.{full_ref_bytes};
-ghost use Rattle.gix_ref_files.specs.Files.{AtEveryStop};
-ghost use Rattle.gix_ref_files.specs.Calls.{Unchanged, Opens};
+ghost use Rattle.gix_ref_files.specs.ReadOnly.{OnlyReads};
+ghost use Rattle.gix_ref_files.specs.Calls.{Opens};
 ghost use Rattle.gix_ref_files.specs.Tree.{is_file};
 ghost use Rattle.gix_ref_lookup.specs.Reflogs.{log_path, is_prohibited, log_content, count_log, IsNoPath, IsNoLog, HoldsLog};
 
@@ -47,7 +47,7 @@ pub fn log_exists<F: Files>(
         (is_prohibited settings.entry (full_ref_bytes name.entry) ≡ false) }
     ensures failed { IfErr result (IsNoLog settings.entry (full_ref_bytes name.entry)) }
     ensures count { F.faults files.new ≡ count_log result (F.faults files.old) }
-    ensures leaves { F.honest → AtEveryStop F.means files.old files.new Unchanged }
+    ensures reads { OnlyReads F.honest F.means F.faults files.old files.new }
 {
     let path = allowed_path(alloc, settings, name)?;
     match files.kind(&path) {
@@ -71,7 +71,7 @@ pub fn read_log<F: Files>(
         (is_prohibited settings.entry (full_ref_bytes name.entry) ≡ false) }
     ensures failed { IfErr result (IsNoLog settings.entry (full_ref_bytes name.entry)) }
     ensures count { F.faults files.new ≡ count_log result (F.faults files.old) }
-    ensures leaves { F.honest → AtEveryStop F.means files.old files.new Unchanged }
+    ensures reads { OnlyReads F.honest F.means F.faults files.old files.new }
 {
     let path = allowed_path(alloc, settings, name)?;
     match files.read(alloc, &path, buf) {
@@ -93,7 +93,7 @@ pub fn open_log<F: Files>(
         (is_prohibited settings.entry (full_ref_bytes name.entry) ≡ false) }
     ensures failed { IfErr result (IsNoLog settings.entry (full_ref_bytes name.entry)) }
     ensures count { F.faults files.new ≡ count_log result (F.faults files.old) }
-    ensures leaves { F.honest → AtEveryStop F.means files.old files.new Unchanged }
+    ensures reads { OnlyReads F.honest F.means F.faults files.old files.new }
 {
     let path = allowed_path(alloc, settings, name)?;
     match files.open(alloc, &path) {

@@ -8,7 +8,7 @@ use Rattle.std.specs.Iterator.{Yields}
 use Rattle.std.specs.Io.KnownBytes.{Appends, Keeps, append_known}
 use Rattle.std.proofs.KnownBytes.{Appends-kept}
 use Rattle.gix_ref_files.specs.Files.{Meaning, FaultCounts, NoFewer}
-use Rattle.gix_ref_files.proofs.Moments.{starts}
+use Rattle.gix_ref_files.proofs.Moments.{starts, passes_starts}
 use Rattle.gix_ref_packed_text.specs.declared.raw.Reference.{Reference}
 use Rattle.gix_ref_listing.specs.declared.error.Error.{Error}
 use Rattle.gix_ref_store.specs.Store.{files_of}
@@ -57,6 +57,7 @@ module _ {F : Type 0} (honest : Type 0) (means : F → Meaning) (faults : F → 
       rises = no_fewer_starts _;
       unchanged = record {
         leaves = λ h. starts (means (files_of (store_listed it))) _ refl;
+        passes = λ h. passes_starts (means (files_of (store_listed it))) _ refl;
         same = record { dirs = refl; namespace = refl; of_kind = refl; reflogs = refl; composes = refl; prohibits = refl; threshold = refl };
       };
     };
@@ -66,7 +67,7 @@ module _ {F : Type 0} (honest : Type 0) (means : F → Meaning) (faults : F → 
   on first it next item follows step = record {
     same_reference = step.same_reference ∙ follows.same_reference;
     rises = no_fewer_joins follows.rises step.gives.rises;
-    unchanged = looks_on honest means faults (store_listed first) (store_listed it) (store_listed next) follows.unchanged record { leaves = step.gives.leaves; same = step.same_store };
+    unchanged = looks_on honest means faults (store_listed first) (store_listed it) (store_listed next) follows.unchanged record { leaves = step.gives.leaves; passes = step.gives.passes; same = step.same_store };
   }
 
   pub more : (first it next : LooseThenPacked F Remaining) (out before now : Option (List ℕ)) (text left : List ℕ) (status after : ℕ) (item : Result Reference Error) →

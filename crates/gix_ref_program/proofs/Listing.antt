@@ -9,7 +9,7 @@ use Rattle.gix_ref_listing.specs.CleanPrefixes.{IsAcceptedPrefix, IsRefusedPrefi
 use Rattle.gix_ref_listing.specs.declared.list.LooseNames.{LooseNames}
 use Rattle.gix_ref_listing.specs.declared.prefix.Error.{Error as PrefixError}
 use Rattle.gix_ref_listing.specs.declared.prefix.Error.TheVariants as no_list
-use Rattle.gix_ref_listing.proofs.FolderWalks.{unchanged_on}
+use Rattle.gix_ref_listing.proofs.FolderWalks.{unchanged_on, untouched_on}
 use Rattle.gix_ref_listing.proofs.Listing.{names_on}
 use Rattle.gix_ref_store.specs.Store.{files_of}
 use Rattle.gix_ref_store.specs.Lookup.{LooksUp, AreRecordsIn, settings_of, view_in}
@@ -103,6 +103,7 @@ module _ {F : Type 0} (honest : Type 0) (means : F → Meaning) (faults : F → 
   pub looks_on : (old mid new : Store F) → LooksUp honest means old mid → LooksUp honest means mid new → LooksUp honest means old new
   looks_on old mid new first second = record {
     leaves = λ h. unchanged_on (means (files_of old)) (means (files_of mid)) (means (files_of new)) (first.leaves h) (second.leaves h);
+    passes = λ h. untouched_on (means (files_of old)) (means (files_of mid)) (means (files_of new)) (first.passes h) (second.passes h);
     same = record {
       dirs = second.same.dirs ∙ first.same.dirs;
       namespace = second.same.namespace ∙ first.same.namespace;

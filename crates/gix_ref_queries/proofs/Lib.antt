@@ -6,3 +6,4 @@ pub mod LogEntries
 pub mod Names
 pub mod Parts
 pub mod RowLemmas
+pub mod ShortLemmas

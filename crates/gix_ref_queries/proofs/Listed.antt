@@ -55,7 +55,7 @@ module _ {F : Type 0} (honest : Type 0) (means : F → Meaning) (faults : F → 
   on first it next item follows step = record {
     same_reference = step.same_reference ∙ follows.same_reference;
     rises = no_fewer_joins follows.rises step.gives.rises;
-    unchanged = looks_up honest means (store_listed first) (store_listed it) (store_listed next) follows.unchanged record { leaves = step.gives.leaves; same = step.same_store };
+    unchanged = looks_up honest means (store_listed first) (store_listed it) (store_listed next) follows.unchanged record { leaves = step.gives.leaves; passes = step.gives.passes; same = step.same_store };
   }
 
   one_given : (first it next : LooseThenPacked F Remaining) (all : List Reference) (reference : Reference) → Yields (NextItem honest means faults) first (as_items all) it → NextItem honest means faults it (Some (Ok reference)) next → Yields (NextItem honest means faults) first (as_items (all ++ reference ∷ [])) next

@@ -15,7 +15,7 @@ use Rattle.gix_ref_files.specs.declared.files.ReadAt.{Ghosts}
 use Rattle.gix_ref_name.specs.NameGrammar.{full_error}
 use Rattle.gix_ref_target.specs.PackedRecords.{Record}
 use Rattle.gix_ref_queries.specs.Answers.{Says}
-use Rattle.gix_ref_queries.specs.Resolving.{NameEnd, EndsBy, finds_in, resolved}
+use Rattle.gix_ref_queries.specs.Resolving.{NameEnd, EndsBy, targets_in, resolved}
 use Rattle.gix_ref_queries.specs.declared.resolve.End.{End}
 use Rattle.gix_ref_files.specs.Tree.{Content, Tree, is_file, bytes_of}
 use Rattle.gix_ref_log.specs.LogCuts.{log_lines}
@@ -152,7 +152,7 @@ module _ {F : Type 0} (honest : Type 0) (means : F → Meaning) (old : Store F) 
   own_shown name last label count text answer same says shows = inr (text.items, says, (λ h. let s = shows h in (s.0, inl (s.1, s.2), s.3 ∙ ap (λ (n : List ℕ). entry_lines n 0 (newest count s.0)) same)))
 
   -- what is answered where the following ended so
-  pub answered : {R : Type 0} (G : Ghosts R) (faults : F → FaultCounts) (name : List ℕ) (count : Option ℕ) (answer : Answer) (end : NameEnd) → full_error name ≡ None → (honest → (records : List Record) → AreRecordsIn means old records → end ≡ resolved (finds_in means old records) 5 name) →
+  pub answered : {R : Type 0} (G : Ghosts R) (faults : F → FaultCounts) (name : List ℕ) (count : Option ℕ) (answer : Answer) (end : NameEnd) → full_error name ≡ None → (honest → (records : List Record) → AreRecordsIn means old records → end ≡ resolved (targets_in means old records) 5 name) →
       ShowsByEnd honest means old end name count answer → ShowAnswer honest means G faults old name count answer
   answered G faults name count answer end valid leads shows = inr (ap is_none valid, inr (end, leads, shows))
 

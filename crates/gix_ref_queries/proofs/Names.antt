@@ -1,51 +1,26 @@
 -- Names that are followed.
-use Rattle.std.proofs.Common.{◌≡◌, ℕ, suc, Bool, true, List, Option, Some, None, if◌then◌else◌, inl, inr, refl, sym, ◌∙◌, ap, subst}
-use Rattle.std.specs.Prelude.{bytes_eq}
-use Rattle.std.proofs.lemmas.Slice.Eq.{bytes_eq-Decides}
-use Rattle.std.proofs.lemmas.Bool.{cases_Bool}
-use Rattle.gix_ref_name.specs.Names.{full_bytes}
-use Rattle.gix_ref_target.specs.Targets.{TargetValue, target_value}
-use Rattle.gix_ref_theory.specs.Lookups.{Hit}
-use Rattle.gix_ref_lookup.specs.Lookups.{ReturnsHit}
-use Rattle.gix_ref_packed_text.specs.declared.raw.Reference.{Reference}
-use Rattle.std.specs.Prelude.{◌&&◌}
+use Rattle.std.proofs.Common.{◌≡◌, ℕ, suc, List, Option, refl, sym, ◌∙◌, ap, subst}
+use Rattle.gix_ref_target.specs.Targets.{TargetValue}
+use Rattle.gix_ref_theory.specs.Readings.{reading_among}
 use Rattle.gix_ref_files.specs.Tree.{Tree}
-use Rattle.gix_ref_files.specs.Files.{Meaning}
-use Rattle.gix_ref_files.proofs.Moments.{joins, weaken, starts}
+use Rattle.gix_ref_files.specs.Files.{Meaning, FaultCounts}
+use Rattle.gix_ref_files.specs.declared.files.ReadAt.{Ghosts}
+use Rattle.gix_ref_lookup.specs.declared.find.error.Error.{Error}
+use Rattle.gix_ref_files.proofs.Moments.{joins, weaken, starts, passes_joins, passes_weaken, passes_starts}
 use Rattle.gix_ref_target.specs.PackedRecords.{Record}
 use Rattle.gix_ref_theory.specs.OnRealTrees.{view_of}
-use Rattle.gix_ref_lookup.specs.Lookups.{lookup_of, meaning_in, ArePackedRecords}
+use Rattle.gix_ref_lookup.specs.Lookups.{meaning_in, ArePackedRecords}
 use Rattle.gix_ref_lookup.specs.declared.settings.Settings.{Settings}
 use Rattle.gix_ref_listing.specs.PlainSettings.{lent}
-use Rattle.gix_ref_store.specs.Lookup.{LooksUp, settings_of, composes_in, view_in, AreRecordsIn}
+use Rattle.gix_ref_store.specs.Lookup.{LooksUp, settings_of, view_in, AreRecordsIn}
 use Rattle.gix_ref_store.specs.Store as stores
 use Rattle.gix_ref_store.specs.declared.file.store.Store.{Store}
 use Rattle.gix_ref_store.proofs.SameStores.{same_on}
-use Rattle.gix_ref_queries.specs.Resolving.{HitsByName, finds_in}
-use Rattle.gix_ref_queries.specs.Resolving.{NameEnd, own_target, target_read, reads, next_end, resolved}
-
--- what is found has the name, and is its target
-pub owned : (name : List ℕ) (o : Option Hit) (r : Reference) → ReturnsHit o (Some r) → full_bytes r.name ≡ name → own_target name o ≡ Some (target_value r.target)
-owned name None r returns same = absurd returns
-owned name (Some hit) r returns same =
-    let yes : bytes_eq hit.name name ≡ true = (bytes_eq-Decides hit.name name).1 (sym returns.0 ∙ same) in
-    ap (λ (b : Bool). if b then target_read hit.reading else None) yes ∙ ap target_read returns.1
-
--- it has another name
-pub not_owned : (name : List ℕ) (o : Option Hit) (r : Reference) → ReturnsHit o (Some r) → (full_bytes r.name ≡ name → ⊥) → own_target name o ≡ None
-not_owned name None r returns other = absurd returns
-not_owned name (Some hit) r returns other = elim (cases_Bool (bytes_eq hit.name name)) [
-  | inl same ↦ absurd (other (returns.0 ∙ (bytes_eq-Decides hit.name name).0 same))
-  | inr differs ↦ ap (λ (b : Bool). if b then target_read hit.reading else None) differs
-]
-
--- nothing is found
-pub none_owned : (name : List ℕ) (o : Option Hit) → ReturnsHit o None → own_target name o ≡ None
-none_owned name None returns = refl
-none_owned name (Some hit) returns = absurd returns
+use Rattle.gix_ref_queries.specs.Resolving.{TargetsByName, IsUnreadBy, targets_in}
+use Rattle.gix_ref_queries.specs.Resolving.{NameEnd, target_read, next_end, resolved}
 
 -- one step of a following
-pub steps_on : (find : HitsByName) (most : ℕ) (name : List ℕ) (read : Option TargetValue) → reads find name ≡ read → resolved find (suc most) name ≡ next_end (resolved find most) name read
+pub steps_on : (find : TargetsByName) (most : ℕ) (name : List ℕ) (read : Option TargetValue) → find name ≡ read → resolved find (suc most) name ≡ next_end (resolved find most) name read
 steps_on find most name read is = ap (next_end (resolved find most) name) is
 
 pub same_settings : {F : Type 0} (old new : Store F) → stores.IsSameStore old new → settings_of new ≡ settings_of old
@@ -61,6 +36,7 @@ module _ {F : Type 0} (honest : Type 0) (means : F → Meaning) where
   pub looks_up : (first mid last : Store F) → LooksUp honest means first mid → LooksUp honest means mid last → LooksUp honest means first last
   looks_up first mid last a b = record {
     leaves = λ h. joins (a.leaves h) (weaken (b.leaves h) (λ T is. is ∙ (a.leaves h).tree));
+    passes = λ h. passes_joins (a.passes h) (passes_weaken (b.passes h) (λ D is. is ∙ (a.passes h).disk));
     same = same_on first mid last a.same b.same;
   }
 
@@ -68,14 +44,15 @@ module _ {F : Type 0} (honest : Type 0) (means : F → Meaning) where
   pub looks_none : (store : Store F) → LooksUp honest means store store
   looks_none store = record {
     leaves = λ h. starts (means (stores.files_of store)) _ refl;
+    passes = λ h. passes_starts (means (stores.files_of store)) _ refl;
     same = record { dirs = refl; namespace = refl; of_kind = refl; reflogs = refl; composes = refl; prohibits = refl; threshold = refl };
   }
 
   -- what lookups find stays
-  pub same_finds : (old new : Store F) (rs : List Record) → LooksUp honest means old new → honest → finds_in means new rs ≡ finds_in means old rs
+  pub same_finds : (old new : Store F) (rs : List Record) → LooksUp honest means old new → honest → targets_in means new rs ≡ targets_in means old rs
   same_finds old new rs looked h =
-      ap (λ s. lookup_of (s.precompose_unicode && true) (meaning_in s) (view_in means new) rs) (same_settings old new looked.same)
-      ∙ ap (λ T. lookup_of (composes_in true old) (stores.meaning_of old) (view_of T) rs) (looked.leaves h).tree
+      ap (λ (s : Settings). λ (name : List ℕ). target_read (reading_among (meaning_in s) (view_in means new) rs name)) (same_settings old new looked.same)
+      ∙ ap (λ (T : Tree). λ (name : List ℕ). target_read (reading_among (stores.meaning_of old) (view_of T) rs name)) (looked.leaves h).tree
 
   -- and so do the records
   pub same_records : (old new : Store F) (rs : List Record) → LooksUp honest means old new → honest → AreRecordsIn means old rs → AreRecordsIn means new rs
@@ -84,6 +61,17 @@ module _ {F : Type 0} (honest : Type 0) (means : F → Meaning) where
       (subst (λ (T : Tree). ArePackedRecords (stores.kind_of old) (view_of T ((stores.meaning_of old).packed_path)) rs) (sym (looked.leaves h).tree) are)
 
 -- the following goes on by what its last name reads
-pub step_end : (find find' : HitsByName) (most : ℕ) (last asked : List ℕ) (end : NameEnd) (read : Option TargetValue) → end ≡ resolved find (suc most) last → find' ≡ find → asked ≡ last → reads find' asked ≡ read → end ≡ next_end (resolved find most) last read
+pub step_end : (find find' : TargetsByName) (most : ℕ) (last asked : List ℕ) (end : NameEnd) (read : Option TargetValue) → end ≡ resolved find (suc most) last → find' ≡ find → asked ≡ last → find' asked ≡ read → end ≡ next_end (resolved find most) last read
 step_end find find' most last asked end read so_far same is reading =
-    so_far ∙ steps_on find most last read (sym (ap (λ (f : HitsByName). reads f asked) same ∙ ap (reads find) is) ∙ reading)
+    so_far ∙ steps_on find most last read (sym (ap (λ (f : TargetsByName). f asked) same ∙ ap (find) is) ∙ reading)
+
+-- a lookup that failed, once a store was looked at
+pub unread_before : {F R : Type 0} (G : Ghosts R) (honest : Type 0) (means : F → Meaning) (faults : F → FaultCounts) (old mid : Store F) (error : Error) → LooksUp honest means old mid → IsUnreadBy G honest means faults mid error → IsUnreadBy G honest means faults old error
+unread_before G honest means faults old mid error looked u = record {
+  mid = u.mid;
+  new = u.new;
+  name = u.name;
+  looked = looks_up honest means old mid u.mid looked u.looked;
+  fails = u.fails;
+  told = u.told;
+}

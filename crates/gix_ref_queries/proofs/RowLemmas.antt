@@ -1,6 +1,6 @@
 -- Rows of references.
 use Rattle.std.proofs.Common.{◌≡◌, ◌⊎◌, inl, inr, ◌<◌, ◌+◌, ℕ, List, [], ◌∷◌, ◌++◌, length, get_or, take, map, reverse, codes, Option, Some, None, Result, Ok, Err, Vec, refl, sym, ◌∙◌, ap, subst}
-use Rattle.std.specs.Prelude.{IfOk}
+use Rattle.std.specs.Prelude.{IfOk, IfErr}
 use Rattle.std.specs.List.{cons_option, filter_map}
 use Rattle.std.specs.Option.{option_to_list}
 use Rattle.std.specs.declared.alloc.Global.{Global}
@@ -12,22 +12,22 @@ use Rattle.gix_ref_hash.specs.declared.hash.ObjectId.{ObjectId}
 use Rattle.gix_ref_name.specs.Names.{full_bytes}
 use Rattle.gix_ref_name.specs.declared.name.FullName.{FullName}
 use Rattle.gix_ref_target.specs.Targets.{target_value}
-use Rattle.gix_ref_target.specs.declared.target.Target.TheVariants.{Symbolic}
+use Rattle.gix_ref_target.specs.declared.target.Target.TheVariants.{Object, Symbolic}
 use Rattle.gix_ref_packed_text.specs.declared.raw.Reference.{Reference}
 use Rattle.gix_ref_target.specs.PackedRecords.{Record}
 use Rattle.gix_ref_store.specs.Lookup.{AreRecordsIn, LooksUp}
 use Rattle.gix_ref_store.specs.declared.file.store.Store.{Store}
 use Rattle.gix_ref_queries.specs.Answers.{path_lines}
 use Rattle.gix_ref_queries.specs.Formats.{row_text}
-use Rattle.gix_ref_queries.specs.Resolving.{HitsByName, NameEnd, EndsBy, finds_in, resolved}
+use Rattle.gix_ref_queries.specs.Resolving.{TargetsByName, NameEnd, EndsBy, targets_in, resolved}
 use Rattle.gix_ref_queries.specs.Resolving.NameEnd.{Reached, Missing, TooDeep}
-use Rattle.gix_ref_queries.specs.Rows.{IsRowError, IsUnfollowed, followed_row, row_lines, row_of, row_texts, rows_of, target_row}
+use Rattle.gix_ref_queries.specs.Rows.{IsRowError, IsUnfollowed, followed_row, row_lines, row_of, row_texts, rows_of, shown_short, target_row}
 use Rattle.gix_ref_queries.specs.declared.format.Part.{Part}
 use Rattle.gix_ref_queries.specs.declared.resolve.End.{End}
 use Rattle.gix_ref_queries.specs.declared.resolve.End.TheVariants as ends
 use Rattle.gix_ref_queries.specs.declared.rows.RowError.{RowError}
 use Rattle.gix_ref_queries.specs.declared.rows.RowError.TheVariants as row_error
-use Rattle.gix_ref_queries.proofs.Names.{looks_up, same_finds, same_records}
+use Rattle.gix_ref_queries.proofs.Names.{unread_before, same_finds, same_records}
 
 pub map_reverse : {X Y : Type 0} (f : X → Y) (xs : List X) → map f (reverse xs) ≡ reverse (map f xs)
 map_reverse f [] = refl
@@ -41,42 +41,73 @@ pub lines_of_rows : (rows : List (Vec ℕ Global)) → path_lines rows ≡ row_l
 lines_of_rows [] = refl
 lines_of_rows (row ∷ rows) = ap (λ more. (row.items ++ codes "\n") ++ more) (lines_of_rows rows)
 
+pub if_err : {T E : Type 0} (r : Result T E) (P Q : E → Type 0) → ((e : E) → P e → Q e) → IfErr r P → IfErr r Q
+if_err (Ok x) P Q so p = _
+if_err (Err e) P Q so p = so e p
+
 pub if_ok : {T E : Type 0} (r : Result T E) (P Q : T → Type 0) → ((x : T) → P x → Q x) → IfOk r P → IfOk r Q
 if_ok (Ok x) P Q so p = so x p
 if_ok (Err e) P Q so p = _
 
-module _ (ends_at : List ℕ → NameEnd) (parts : List Part) (name owned last : List ℕ) (same : owned ≡ name) where
+module _ (ends_at : List ℕ → NameEnd) (parts : List Part) (name short owned last : List ℕ) (same : owned ≡ name) where
   -- a following that ends at an object
   pub row_reached : (shown_name shown_last : List ℕ) (id : ObjectId) (end : End) (text : List ℕ) → EndsBy (ends_at owned) last end → end ≡ ends.Object id → shown_name ≡ name → shown_last ≡ last →
-      text ≡ row_text parts (record { name = shown_name; id = id; symref = shown_last }) → Some text ≡ followed_row parts name (ends_at name)
+      text ≡ row_text parts (record { name = shown_name; short = short; id = id; symref = shown_last }) → Some text ≡ followed_row parts name short (ends_at name)
   row_reached shown_name shown_last id end text by is named ended shows =
       let reached : ends_at owned ≡ Reached last id = subst (λ (e : End). EndsBy (ends_at owned) last e) is by in
-      ap (λ (t : List ℕ). let o : Option (List ℕ) = Some t in o) (shows ∙ (ap (λ (n : List ℕ). row_text parts (record { name = n; id = id; symref = shown_last })) named ∙ ap (λ (l : List ℕ). row_text parts (record { name = name; id = id; symref = l })) ended))
-      ∙ sym (ap (followed_row parts name) (sym (ap ends_at same) ∙ reached))
+      ap (λ (t : List ℕ). let o : Option (List ℕ) = Some t in o) (shows ∙ (ap (λ (n : List ℕ). row_text parts (record { name = n; short = short; id = id; symref = shown_last })) named ∙ ap (λ (l : List ℕ). row_text parts (record { name = name; short = short; id = id; symref = l })) ended))
+      ∙ sym (ap (followed_row parts name short) (sym (ap ends_at same) ∙ reached))
 
   -- one that ends at no reference, or does not end
-  pub row_missing : (end : End) → EndsBy (ends_at owned) last end → (end ≡ ends.Absent) ⊎ (end ≡ ends.TooDeep) → let none : Option (List ℕ) = None in none ≡ followed_row parts name (ends_at name)
+  pub row_missing : (end : End) → EndsBy (ends_at owned) last end → (end ≡ ends.Absent) ⊎ (end ≡ ends.TooDeep) → let none : Option (List ℕ) = None in none ≡ followed_row parts name short (ends_at name)
   row_missing end by (inl is) =
       let missing : ends_at owned ≡ Missing last = subst (λ (e : End). EndsBy (ends_at owned) last e) is by in
-      sym (ap (followed_row parts name) (sym (ap ends_at same) ∙ missing))
+      sym (ap (followed_row parts name short) (sym (ap ends_at same) ∙ missing))
   row_missing end by (inr is) =
       let missing : ends_at owned ≡ TooDeep = subst (λ (e : End). EndsBy (ends_at owned) last e) is by in
-      sym (ap (followed_row parts name) (sym (ap ends_at same) ∙ missing))
+      sym (ap (followed_row parts name short) (sym (ap ends_at same) ∙ missing))
 
 -- the row of a symbolic reference
-pub row_symbolic : (find : HitsByName) (parts : List Part) (reference : Reference) (target : FullName) → reference.target ≡ Symbolic target → row_of find parts reference ≡ followed_row parts (full_bytes reference.name) (resolved find 5 (full_bytes reference.name))
-row_symbolic find parts reference target is = ap (λ t. target_row find parts (full_bytes reference.name) (target_value t)) is
+pub row_symbolic : (find : TargetsByName) (parts : List Part) (reference : Reference) (target : FullName) → reference.target ≡ Symbolic target → row_of find parts reference ≡ followed_row parts (full_bytes reference.name) (shown_short find parts (full_bytes reference.name)) (resolved find 5 (full_bytes reference.name))
+row_symbolic find parts reference target is = ap (λ t. target_row find parts (full_bytes reference.name) (shown_short find parts (full_bytes reference.name)) (target_value t)) is
+
+-- and that of another
+pub row_object : (find : TargetsByName) (parts : List Part) (reference : Reference) (id : ObjectId) → reference.target ≡ Object id →
+    row_of find parts reference ≡ Some (row_text parts (record { name = full_bytes reference.name; short = shown_short find parts (full_bytes reference.name); id = id; symref = [] }))
+row_object find parts reference id is = ap (λ t. target_row find parts (full_bytes reference.name) (shown_short find parts (full_bytes reference.name)) (target_value t)) is
+
+-- the row of a symbolic reference, by its short name
+pub row_led : (find mid : TargetsByName) (parts : List Part) (reference : Reference) (target : FullName) (asked shown short : List ℕ) (row : Option (List ℕ)) → reference.target ≡ Symbolic target → mid ≡ find →
+    asked ≡ full_bytes reference.name → shown ≡ full_bytes reference.name → short ≡ shown_short find parts asked → row ≡ followed_row parts shown short (resolved mid 5 shown) → row ≡ row_of find parts reference
+row_led find mid parts reference target asked shown short row is same named shows shortens made =
+    let n = full_bytes reference.name in
+    made
+    ∙ (ap (λ (f : TargetsByName). followed_row parts shown short (resolved f 5 shown)) same
+    ∙ (ap (λ (m : List ℕ). followed_row parts m short (resolved find 5 m)) shows
+    ∙ (ap (λ (s : List ℕ). followed_row parts n s (resolved find 5 n)) (shortens ∙ ap (shown_short find parts) named)
+    ∙ sym (row_symbolic find parts reference target is))))
+
+-- and that of another
+pub row_direct : (find : TargetsByName) (parts : List Part) (reference : Reference) (id : ObjectId) (asked shown short : List ℕ) (text : List ℕ) → reference.target ≡ Object id →
+    asked ≡ full_bytes reference.name → shown ≡ full_bytes reference.name → short ≡ shown_short find parts asked → text ≡ row_text parts (record { name = shown; short = short; id = id; symref = [] }) → Some text ≡ row_of find parts reference
+row_direct find parts reference id asked shown short text is named shows shortens made =
+    let n = full_bytes reference.name in
+    ap (λ (t : List ℕ). let o : Option (List ℕ) = Some t in o)
+    (made
+    ∙ (ap (λ (m : List ℕ). row_text parts (record { name = m; short = short; id = id; symref = [] })) shows
+    ∙ ap (λ (s : List ℕ). row_text parts (record { name = n; short = s; id = id; symref = [] })) (shortens ∙ ap (shown_short find parts) named)))
+    ∙ sym (row_object find parts reference id is)
 
 -- one reference more
-rows_then : (find : HitsByName) (parts : List Part) (references : List Reference) (i : ℕ) (reference : Reference) → i < length references → reference ≡ get_or references i reference → rows_of find parts (take (i + 1) references) ≡ rows_of find parts (take i references) ++ filter_map (row_of find parts) (reference ∷ [])
+rows_then : (find : TargetsByName) (parts : List Part) (references : List Reference) (i : ℕ) (reference : Reference) → i < length references → reference ≡ get_or references i reference → rows_of find parts (take (i + 1) references) ≡ rows_of find parts (take i references) ++ filter_map (row_of find parts) (reference ∷ [])
 rows_then find parts references i reference lt is =
     ap (rows_of find parts) (take_more references i reference lt ∙ ap (λ (r : Reference). take i references ++ r ∷ []) (sym is))
     ∙ filter_map-append (row_of find parts) (take i references) (reference ∷ [])
 
-pub rows_more : (find find' : HitsByName) (parts : List Part) (references : List Reference) (i : ℕ) (reference : Reference) (rows : List (List ℕ)) (row : Option (List ℕ)) → i < length references → reference ≡ get_or references i reference →
+pub rows_more : (find find' : TargetsByName) (parts : List Part) (references : List Reference) (i : ℕ) (reference : Reference) (rows : List (List ℕ)) (row : Option (List ℕ)) → i < length references → reference ≡ get_or references i reference →
     rows ≡ rows_of find parts (take i references) → find' ≡ find → row ≡ row_of find' parts reference → rows ++ option_to_list row ≡ rows_of find parts (take (i + 1) references)
 rows_more find find' parts references i reference rows row lt is so_far same made =
-    let one : option_to_list row ≡ filter_map (row_of find parts) (reference ∷ []) = ap option_to_list (made ∙ ap (λ (f : HitsByName). row_of f parts reference) same) ∙ alone (row_of find parts reference) in
+    let one : option_to_list row ≡ filter_map (row_of find parts) (reference ∷ []) = ap option_to_list (made ∙ ap (λ (f : TargetsByName). row_of f parts reference) same) ∙ alone (row_of find parts reference) in
     ap (λ (r : List (List ℕ)). r ++ option_to_list row) so_far ∙ (ap (λ (t : List (List ℕ)). rows_of find parts (take i references) ++ t) one ∙ sym (rows_then find parts references i reference lt is))
   where
     alone : (o : Option (List ℕ)) → option_to_list o ≡ cons_option o []
@@ -84,19 +115,24 @@ rows_more find find' parts references i reference rows row lt is so_far same mad
     alone (Some row) = refl
 
 module _ {F R : Type 0} (G : Ghosts R) (honest : Type 0) (means : F → Meaning) (faults : F → FaultCounts) where
+  -- why a row is not made, once the store was looked at
+  pub row_error_before : (old mid : Store F) (name : List ℕ) (error : RowError) → LooksUp honest means old mid → IsRowError honest means faults G mid name error → IsRowError honest means faults G old name error
+  row_error_before old mid name (row_error.Unread unread) looked ((x, u), same) = ((x, unread_before G honest means faults old mid x looked u), same)
+  row_error_before old mid name row_error.Memory looked unread = _
+
   -- the reference that cannot be followed is one of these
   pub unfollowed_at : (old mid : Store F) (references : List Reference) (i : ℕ) (reference : Reference) (error : RowError) → LooksUp honest means old mid → i < length references → reference ≡ get_or references i reference →
       IsRowError honest means faults G mid (full_bytes reference.name) error → IsUnfollowed honest means faults G old references error
-  unfollowed_at old mid references i reference (row_error.Unread name) looked lt is ((a, b, c, d, e, f), same) = ((a, b, c, d, looks_up honest means old mid a looked e, f), (i, reference, lt, sym is, sym same))
+  unfollowed_at old mid references i reference (row_error.Unread name) looked lt is ((x, u), same) = ((x, unread_before G honest means faults old mid x looked u), (i, reference, lt, sym is, sym same))
   unfollowed_at old mid references i reference row_error.Memory looked lt is unread = _
 
   -- and so as the store was before the listing
   pub unfollowed_before : (old mid : Store F) (references : List Reference) (error : RowError) → LooksUp honest means old mid → IsUnfollowed honest means faults G mid references error → IsUnfollowed honest means faults G old references error
-  unfollowed_before old mid references (row_error.Unread name) looked ((a, b, c, d, e, f), any) = ((a, b, c, d, looks_up honest means old mid a looked e, f), any)
+  unfollowed_before old mid references (row_error.Unread name) looked ((x, u), any) = ((x, unread_before G honest means faults old mid x looked u), any)
   unfollowed_before old mid references row_error.Memory looked unread = _
 
   pub rows_before : (old mid : Store F) (parts : List Part) (references : List Reference) (rows : List (List ℕ)) → LooksUp honest means old mid →
-      (honest → (records : List Record) → AreRecordsIn means mid records → rows ≡ rows_of (finds_in means mid records) parts references) →
-      honest → (records : List Record) → AreRecordsIn means old records → rows ≡ rows_of (finds_in means old records) parts references
+      (honest → (records : List Record) → AreRecordsIn means mid records → rows ≡ rows_of (targets_in means mid records) parts references) →
+      honest → (records : List Record) → AreRecordsIn means old records → rows ≡ rows_of (targets_in means old records) parts references
   rows_before old mid parts references rows looked made h records are =
-      made h records (same_records honest means old mid records looked h are) ∙ ap (λ (f : HitsByName). rows_of f parts references) (same_finds honest means old mid records looked h)
+      made h records (same_records honest means old mid records looked h are) ∙ ap (λ (f : TargetsByName). rows_of f parts references) (same_finds honest means old mid records looked h)

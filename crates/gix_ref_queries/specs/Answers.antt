@@ -17,8 +17,9 @@ use Rattle.gix_ref_store.specs.Store.{files_of, meaning_of}
 use Rattle.gix_ref_store.specs.declared.file.store.Store.{Store}
 use Rattle.hex.specs.Hex.{encode_lower}
 use Rattle.gix_ref_hash.specs.Ids.{id_bytes}
-use Rattle.gix_ref_queries.specs.Resolving.{HitsByName, NameEnd, resolved}
+use Rattle.gix_ref_queries.specs.Resolving.{TargetsByName, NameEnd, resolved}
 use Rattle.gix_ref_queries.specs.Resolving.NameEnd.{Reached, Missing, TooDeep}
+use Rattle.gix_ref_queries.specs.Shortening.{short_name}
 use Rattle.gix_ref_queries.specs.declared.resolve.End.{End}
 use Rattle.gix_ref_queries.specs.declared.resolve.End.TheVariants as ends
 use Rattle.gix_ref_queries.specs.declared.answer.Answer.{Answer}
@@ -36,38 +37,46 @@ FailsAfter text message answer = (answer.text.items ≡ text)
 abbrev pub Fails : (message : List ℕ) → Answer → Type 0
 Fails message answer = FailsAfter [] message answer
 
+-- the error of `show-ref --verify` for a name that leads to no object, and that of `symbolic-ref` for one that cannot be followed
+abbrev pub NotValid : (name : List ℕ) → Answer → Type 0
+NotValid name answer = Fails (codes "'" ++ (name ++ codes "' - not a valid ref")) answer
+
+abbrev pub NoSuchRef : (name : List ℕ) → Answer → Type 0
+NoSuchRef name answer = Fails (codes "No such ref: " ++ name) answer
+
 -- `show-ref --verify`: the id of the object that a name leads to, and the name
 abbrev pub VerifyAnswer : NameEnd → (name : List ℕ) → Answer → Type 0
 VerifyAnswer (Reached last id) name answer =
     Says (encode_lower (id_bytes id) ++ (codes " " ++ (name ++ codes "\n"))) 0 answer
-VerifyAnswer end name answer = Fails (codes "'" ++ (name ++ codes "' - not a valid ref")) answer
+VerifyAnswer end name answer = NotValid name answer
 
 -- `symbolic-ref`: the last name that another one leads to
-abbrev pub LastNameBy : (same : Bool) → (last name : List ℕ) → Answer → Type 0
-LastNameBy true last name answer =
+abbrev pub LastNameBy : (same : Bool) → (shown name : List ℕ) → Answer → Type 0
+LastNameBy true shown name answer =
     Fails (codes "ref " ++ (name ++ codes " is not a symbolic ref")) answer
-LastNameBy false last name answer = Says (last ++ codes "\n") 0 answer
+LastNameBy false shown name answer = Says (shown ++ codes "\n") 0 answer
 
-abbrev pub LastName : (last name : List ℕ) → Answer → Type 0
-LastName last name answer = LastNameBy (bytes_eq last name) last name answer
+abbrev pub LastName : (last shown name : List ℕ) → Answer → Type 0
+LastName last shown name answer = LastNameBy (bytes_eq last name) shown name answer
 
-abbrev pub SymbolicAnswer : NameEnd → (name : List ℕ) → Answer → Type 0
-SymbolicAnswer (Reached last id) name answer = LastName last name answer
-SymbolicAnswer (Missing last) name answer = LastName last name answer
-SymbolicAnswer TooDeep name answer = Fails (codes "No such ref: " ++ name) answer
+-- as it is shown
+abbrev pub SymbolicAnswer : (shown : List ℕ → List ℕ) → NameEnd → (name : List ℕ) → Answer → Type 0
+SymbolicAnswer shown (Reached last id) name answer = LastName last (shown last) name answer
+SymbolicAnswer shown (Missing last) name answer = LastName last (shown last) name answer
+SymbolicAnswer shown TooDeep name answer = NoSuchRef name answer
 
 -- the answers for a following that ends so
 abbrev pub EndVerified : End → (name : List ℕ) → Answer → Type 0
 EndVerified (ends.Object id) name answer =
     Says (encode_lower (id_bytes id) ++ (codes " " ++ (name ++ codes "\n"))) 0 answer
 EndVerified ends.Memory name answer = ⊥
-EndVerified end name answer = Fails (codes "'" ++ (name ++ codes "' - not a valid ref")) answer
+EndVerified end name answer = NotValid name answer
 
-abbrev pub EndNamed : End → (last name : List ℕ) → Answer → Type 0
-EndNamed (ends.Object id) last name answer = LastName last name answer
-EndNamed ends.Absent last name answer = LastName last name answer
-EndNamed ends.Memory last name answer = ⊥
-EndNamed end last name answer = Fails (codes "No such ref: " ++ name) answer
+abbrev pub EndNamed : End → (last shown name : List ℕ) → Answer → Type 0
+EndNamed (ends.Object id) last shown name answer = LastName last shown name answer
+EndNamed ends.Absent last shown name answer = LastName last shown name answer
+EndNamed ends.Memory last shown name answer = ⊥
+EndNamed end last shown name answer = NoSuchRef name answer
 
 -- a name may be verified: a full name that begins with `refs/` or is `HEAD`
 abbrev pub is_verifiable : (name : List ℕ) → Bool
@@ -75,12 +84,16 @@ is_verifiable name = (starts_with nat_eq name (codes "refs/") || bytes_eq name (
     && is_none (full_error name)
 
 -- and what is answered where lookups find this
-abbrev pub VerifiesAs : HitsByName → (name : List ℕ) → Answer → Type 0
+abbrev pub VerifiesAs : TargetsByName → (name : List ℕ) → Answer → Type 0
 VerifiesAs find name answer =
     VerifyAnswer (if is_verifiable name then resolved find 5 name else TooDeep) name answer
 
-abbrev pub SymbolicAs : HitsByName → (name : List ℕ) → Answer → Type 0
-SymbolicAs find name answer = SymbolicAnswer
+-- a name as it is shown, or its short name, which only the names that Git looks up before may take
+abbrev pub shown_as : TargetsByName → (short : Bool) → (name : List ℕ) → List ℕ
+shown_as find short name = if short then short_name find false name else name
+
+abbrev pub SymbolicAs : TargetsByName → (short : Bool) → (name : List ℕ) → Answer → Type 0
+SymbolicAs find short name answer = SymbolicAnswer (shown_as find short)
     (if is_none (partial_error name) then resolved find 5 name else TooDeep) name answer
 
 -- a line for each path

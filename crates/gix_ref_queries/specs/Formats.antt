@@ -1,5 +1,5 @@
 -- The format of a row of `git for-each-ref`.
-use Rattle.std.specs.Prelude.{◌≡◌, ℕ, ◌+◌, ◌*◌, ◌==◌, List, [], ◌∷◌, take, Option, Some, None, Result, Ok, Err, bytes_eq, codes, if◌then◌else◌, suc, zero}
+use Rattle.std.specs.Prelude.{◌≡◌, ℕ, ◌+◌, ◌*◌, ◌==◌, List, [], ◌∷◌, take, Option, Some, None, Result, Ok, Err, Bool, true, false, bytes_eq, codes, if◌then◌else◌, suc, zero}
 use Rattle.std.specs.List.{flat_map, position}
 use Rattle.hex.specs.Hex.{encode_lower, hex_digit_value}
 use Rattle.gix_ref_hash.specs.Ids.{id_bytes}
@@ -7,7 +7,7 @@ use Rattle.gix_ref_hash.specs.declared.hash.ObjectId.{ObjectId}
 use Rattle.gix_ref_queries.specs.declared.format.Part.{Part}
 use Rattle.gix_ref_queries.specs.declared.format.FormatError.{FormatError}
 use Rattle.gix_ref_queries.specs.declared.format.FormatError.TheVariants as unread
-use Rattle.gix_ref_queries.specs.declared.format.Part.TheVariants.{Byte, Refname, Objectname, Symref}
+use Rattle.gix_ref_queries.specs.declared.format.Part.TheVariants.{Byte, Refname, Short, Objectname, Symref}
 
 -- The first part of a format, and how many bytes it takes beside its first; or the field that is not supported, without its `%`.
 abbrev pub FirstPart : Type 0
@@ -24,8 +24,9 @@ hex_byte high low = of_digits (hex_digit_value high) (hex_digit_value low)
 -- the field of a name
 abbrev pub field_named : (name : List ℕ) → Option Part
 field_named name = if bytes_eq name (codes "refname") then Some Refname
+    else (if bytes_eq name (codes "refname:short") then Some Short
     else (if bytes_eq name (codes "objectname") then Some Objectname
-    else (if bytes_eq name (codes "symref") then Some Symref else None))
+    else (if bytes_eq name (codes "symref") then Some Symref else None)))
 
 abbrev pub part_or : Option Part → (len : ℕ) → (other : List ℕ) → FirstPart
 part_or None len other = Err other
@@ -78,15 +79,24 @@ parts_after zero (first ∷ rest) = first_then (λ n. parts_after n rest) (first
 abbrev pub format_parts : (format : List ℕ) → Parts
 format_parts format = parts_after 0 format
 
--- What a row shows of a reference: its name, the id to which it leads, and, where it is symbolic, the last name on the way.
+-- a format shows the short name
+abbrev pub shows_short : List Part → Bool
+shows_short [] = false
+shows_short (Short ∷ parts) = true
+shows_short (part ∷ parts) = shows_short parts
+
+-- What a row shows of a reference: its name, its short name where that is shown, the id to which it leads, and, where it is symbolic,
+-- the last name on the way.
 pub record Shown : Type 0 where
   pub name : List ℕ
+  pub short : List ℕ
   pub id : ObjectId
   pub symref : List ℕ
 
 abbrev pub part_text : Shown → Part → List ℕ
 part_text shown (Byte byte) = byte ∷ []
 part_text shown Refname = shown.name
+part_text shown Short = shown.short
 part_text shown Objectname = encode_lower (id_bytes shown.id)
 part_text shown Symref = shown.symref
 

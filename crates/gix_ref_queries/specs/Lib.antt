@@ -4,3 +4,4 @@ pub mod LogRows
 pub mod Patterns
 pub mod Resolving
 pub mod Rows
+pub mod Shortening

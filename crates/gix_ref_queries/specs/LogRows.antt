@@ -18,7 +18,7 @@ use Rattle.gix_ref_store.specs.Lookup.{AreRecordsIn}
 use Rattle.gix_ref_store.specs.Reflogs.{reflog_at, IsNoReflog}
 use Rattle.gix_ref_store.specs.declared.file.store.Store.{Store}
 use Rattle.gix_ref_queries.specs.Answers.{Says, Fails}
-use Rattle.gix_ref_queries.specs.Resolving.{NameEnd, IsUnread, finds_in, resolved}
+use Rattle.gix_ref_queries.specs.Resolving.{NameEnd, IsUnread, targets_in, resolved}
 use Rattle.gix_ref_queries.specs.Resolving.NameEnd.{Reached}
 use Rattle.gix_ref_queries.specs.declared.answer.Answer.{Answer}
 
@@ -108,5 +108,5 @@ module _ {F : Type 0} (honest : Type 0) (means : F → Meaning) where
       × ((IsUnread G honest means faults old
       × Fails (codes "cannot follow '" ++ (name ++ codes "'")) answer)
       ⊎ ((end : NameEnd) × (honest → (records : List Record) → AreRecordsIn means old records →
-      end ≡ resolved (finds_in means old records) 5 name)
+      end ≡ resolved (targets_in means old records) 5 name)
       × ShowsByEnd old end name count answer)))

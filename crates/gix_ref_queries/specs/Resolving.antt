@@ -1,18 +1,19 @@
 -- Following a reference from name to name, as Git resolves it: each name is looked up as it is, five at most.
-use Rattle.std.specs.Prelude.{◌≡◌, ℕ, zero, suc, List, Option, Some, None, if◌then◌else◌, bytes_eq, true}
+use Rattle.std.specs.Prelude.{◌≡◌, ◌≢◌, ℕ, zero, suc, List, Option, Some, None}
 use Rattle.gix_ref_hash.specs.declared.hash.ObjectId.{ObjectId}
 use Rattle.gix_ref_name.specs.Names.{full_bytes}
 use Rattle.gix_ref_files.specs.Files.{Meaning, FaultCounts}
 use Rattle.gix_ref_files.specs.declared.files.ReadAt.{Ghosts}
 use Rattle.gix_ref_target.specs.Targets.{TargetValue, target_value}
 use Rattle.gix_ref_target.specs.Targets.TargetValue.{object_id, symbolic_name}
-use Rattle.gix_ref_theory.specs.Lookups.{Hit}
-use Rattle.gix_ref_theory.specs.Readings.{Reading}
+use Rattle.gix_ref_theory.specs.Readings.{Reading, reading_among}
 use Rattle.gix_ref_theory.specs.Readings.Reading.{Is}
 use Rattle.gix_ref_lookup.specs.declared.find.records.Records.TheVariants.{Unopened}
 use Rattle.gix_ref_lookup.specs.declared.find.error.Error.{Error}
+use Rattle.gix_ref_lookup.specs.declared.find.error.Error.TheVariants.{Memory}
 use Rattle.gix_ref_target.specs.PackedRecords.{Record}
-use Rattle.gix_ref_store.specs.Lookup.{LooksUp, FailsIn, hit_in}
+use Rattle.gix_ref_store.specs.Lookup.{LooksUp, FailsFull, view_in}
+use Rattle.gix_ref_store.specs.Store.{meaning_of}
 use Rattle.gix_ref_store.specs.declared.file.store.Store.{Store}
 use Rattle.gix_ref_queries.specs.declared.resolve.NameRead.{NameRead}
 use Rattle.gix_ref_queries.specs.declared.resolve.NameRead.TheVariants as names
@@ -20,13 +21,19 @@ use Rattle.gix_ref_queries.specs.declared.resolve.End.{End}
 use Rattle.gix_ref_queries.specs.declared.resolve.End.TheVariants as ends
 use Rattle.gix_ref_queries.specs.declared.resolve.Followed.{Followed}
 
--- what lookups find under a name
-abbrev pub HitsByName : Type 0
-HitsByName = List ℕ → Option Hit
+-- the target of each full name that has one
+abbrev pub TargetsByName : Type 0
+TargetsByName = List ℕ → Option TargetValue
 
--- what lookups in a store find, among these records
-abbrev pub finds_in : {F : Type 0} (means : F → Meaning) → Store F → List Record → HitsByName
-finds_in means store records = hit_in means true store records
+-- the target that was read
+abbrev pub target_read : Reading → Option TargetValue
+target_read (Is target) = Some target
+target_read other = None
+
+-- what full names read in a store, among these records
+abbrev pub targets_in : {F : Type 0} (means : F → Meaning) → Store F → List Record → TargetsByName
+targets_in means store records name =
+    target_read (reading_among (meaning_of store) (view_in means store) records name)
 
 -- how the following of a name ends: at an object, with the last name; at a name without a reference; or after too many names
 pub data NameEnd : Type 0 where
@@ -34,29 +41,15 @@ pub data NameEnd : Type 0 where
   Missing : (name : List ℕ) → NameEnd
   TooDeep : NameEnd
 
--- the target that was read
-abbrev pub target_read : Reading → Option TargetValue
-target_read (Is target) = Some target
-target_read other = None
-
--- the target of what a lookup of a name finds, where that has this very name
-abbrev pub own_target : (name : List ℕ) → Option Hit → Option TargetValue
-own_target name None = None
-own_target name (Some hit) = if bytes_eq hit.name name then target_read hit.reading else None
-
--- and the target that a name reads
-abbrev pub reads : HitsByName → (name : List ℕ) → Option TargetValue
-reads find name = own_target name (find name)
-
 abbrev pub next_end : (List ℕ → NameEnd) → (name : List ℕ) → Option TargetValue → NameEnd
 next_end go name None = Missing name
 next_end go name (Some (object_id id)) = Reached name id
 next_end go name (Some (symbolic_name next)) = go next
 
 -- how the following of a name ends that looks up so many names at most
-abbrev pub resolved : HitsByName → (most : ℕ) → (name : List ℕ) → NameEnd
+abbrev pub resolved : TargetsByName → (most : ℕ) → (name : List ℕ) → NameEnd
 resolved find zero name = TooDeep
-resolved find (suc most) name = next_end (resolved find most) name (reads find name)
+resolved find (suc most) name = next_end (resolved find most) name (find name)
 
 -- the result of reading a name that reads this
 abbrev pub ReadsAs : Option TargetValue → NameRead → Type 0
@@ -78,17 +71,24 @@ EndsAs end followed = EndsBy end (full_bytes followed.name) followed.end
 
 module _ {F R : Type 0} (G : Ghosts R) (honest : Type 0) (means : F → Meaning)
     (faults : F → FaultCounts) where
-  -- a lookup of one of the names failed
+  -- a lookup of a name failed with this error, which is not want of memory
+  pub record IsUnreadBy (old : Store F) (error : Error) : Type 0 where
+    pub mid : Store F
+    pub new : Store F
+    pub name : List ℕ
+    pub looked : LooksUp honest means old mid
+    pub fails : FailsFull {G = G} honest means faults mid new Unopened name error
+    pub told : error ≢ Memory
+
+  -- and with some error
   abbrev pub IsUnread : (old : Store F) → Type 0
-  IsUnread old = (mid new : Store F) × (name : List ℕ) × (error : Error)
-      × LooksUp honest means old mid
-      × FailsIn {G = G} honest means faults true mid new Unopened name error
+  IsUnread old = (error : Error) × IsUnreadBy old error
 
   -- so where a name was not read, and where a following ended there
   abbrev pub ReadFails : (old : Store F) → NameRead → Type 0
-  ReadFails old (names.Unread error) = IsUnread old
+  ReadFails old (names.Unread error) = IsUnreadBy old error
   ReadFails old other = Unit {0}
 
   abbrev pub EndFails : (old : Store F) → End → Type 0
-  EndFails old (ends.Unread error) = IsUnread old
+  EndFails old (ends.Unread error) = IsUnreadBy old error
   EndFails old other = Unit {0}

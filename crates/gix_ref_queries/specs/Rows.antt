@@ -1,5 +1,5 @@
 -- The rows of `git for-each-ref`: one for each reference that is asked for and leads to an object.
-use Rattle.std.specs.Prelude.{◌≡◌, ◌⊎◌, ℕ, Bool, false, List, [], ◌∷◌, ◌++◌, Option, Some, None, Result, Ok, Err, Vec, map, reverse, take, codes, if◌then◌else◌}
+use Rattle.std.specs.Prelude.{◌≡◌, ◌⊎◌, ℕ, Bool, true, false, List, [], ◌∷◌, ◌++◌, Option, Some, None, Result, Ok, Err, Vec, map, reverse, take, codes, if◌then◌else◌}
 use Rattle.std.specs.Iterator.{Yields}
 use Rattle.std.specs.List.{AllByRecursion, Any, filter, filter_map, find, flat_map}
 use Rattle.std.specs.declared.alloc.Global.{Global}
@@ -26,10 +26,11 @@ use Rattle.gix_ref_store.specs.declared.file.iter.LooseThenPacked.{LooseThenPack
 use Rattle.gix_ref_store.specs.declared.file.iter.Remaining.{Remaining}
 use Rattle.gix_ref_store.specs.declared.file.store.Store.{Store}
 use Rattle.gix_ref_queries.specs.Answers.{Says, Fails}
-use Rattle.gix_ref_queries.specs.Formats.{format_parts, row_text}
+use Rattle.gix_ref_queries.specs.Formats.{format_parts, row_text, shows_short}
 use Rattle.gix_ref_queries.specs.Patterns.{has_other_sign, is_asked_by}
-use Rattle.gix_ref_queries.specs.Resolving.{HitsByName, NameEnd, IsUnread, finds_in, resolved}
+use Rattle.gix_ref_queries.specs.Resolving.{TargetsByName, NameEnd, IsUnread, targets_in, resolved}
 use Rattle.gix_ref_queries.specs.Resolving.NameEnd.{Reached}
+use Rattle.gix_ref_queries.specs.Shortening.{short_name}
 use Rattle.gix_ref_queries.specs.declared.answer.Answer.{Answer}
 use Rattle.gix_ref_queries.specs.declared.format.Part.{Part}
 use Rattle.gix_ref_queries.specs.declared.listing.Unlisted.{Unlisted}
@@ -38,24 +39,31 @@ use Rattle.gix_ref_queries.specs.declared.rows.RowError.{RowError}
 use Rattle.gix_ref_queries.specs.declared.rows.RowError.TheVariants as row_error
 
 -- the row of a symbolic reference, where its following ends at an object
-abbrev pub followed_row : List Part → (name : List ℕ) → NameEnd → Option (List ℕ)
-followed_row parts name (Reached last id) =
-    Some (row_text parts (record { name = name; id = id; symref = last }))
-followed_row parts name end = None
+abbrev pub followed_row : List Part → (name short : List ℕ) → NameEnd → Option (List ℕ)
+followed_row parts name short (Reached last id) =
+    Some (row_text parts (record { name = name; short = short; id = id; symref = last }))
+followed_row parts name short end = None
 
-abbrev pub target_row : HitsByName → List Part → (name : List ℕ) → TargetValue → Option (List ℕ)
-target_row find parts name (object_id id) =
-    Some (row_text parts (record { name = name; id = id; symref = [] }))
-target_row find parts name (symbolic_name target) =
-    followed_row parts name (resolved find 5 name)
+-- and that of a reference to this target
+abbrev pub target_row : TargetsByName → List Part → (name short : List ℕ) → TargetValue →
+    Option (List ℕ)
+target_row find parts name short (object_id id) =
+    Some (row_text parts (record { name = name; short = short; id = id; symref = [] }))
+target_row find parts name short (symbolic_name target) =
+    followed_row parts name short (resolved find 5 name)
+
+-- the short name of a reference, where a format shows it
+abbrev pub shown_short : TargetsByName → List Part → (name : List ℕ) → List ℕ
+shown_short find parts name = if shows_short parts then short_name find true name else []
 
 -- the row of a reference, if it leads to an object
-abbrev pub row_of : HitsByName → List Part → Reference → Option (List ℕ)
+abbrev pub row_of : TargetsByName → List Part → Reference → Option (List ℕ)
 row_of find parts reference =
-    target_row find parts (full_bytes reference.name) (target_value reference.target)
+    let name = full_bytes reference.name in
+    target_row find parts name (shown_short find parts name) (target_value reference.target)
 
 -- the rows of these references
-abbrev pub rows_of : HitsByName → List Part → List Reference → List (List ℕ)
+abbrev pub rows_of : TargetsByName → List Part → List Reference → List (List ℕ)
 rows_of find parts references = filter_map (row_of find parts) references
 
 -- a reference is asked for
@@ -220,7 +228,7 @@ module _ {F : Type 0} (honest : Type 0) (means : F → Meaning) (faults : F → 
         ⊎ ((rows : List (List ℕ))
         × Says (row_lines (counted count (ordered descending rows))) 0 answer
         × (honest → (records : List Record) → AreRecordsIn means old records →
-        rows ≡ rows_of (finds_in means old records) parts references))))
+        rows ≡ rows_of (targets_in means old records) parts references))))
 
     -- `for-each-ref`: a field of the format or a pattern is not supported; or what is answered of the references
     abbrev pub EachAnswer : (old new : Store F) → (format : List ℕ) → (patterns : List (List ℕ)) →

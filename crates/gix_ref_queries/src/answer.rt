@@ -1,11 +1,8 @@
 //! What a command answers.
-ghost use Rattle.std.specs.Prelude.{◌≡◌, ◌++◌, [], ℕ, IfOk, codes};
-ghost use Rattle.std.specs.Io.KnownBytes.{Appends};
+ghost use Rattle.std.specs.Prelude.{◌++◌, IfOk};
 ghost use Rattle.gix_ref_queries.specs.Answers.{Says, Fails};
 
 use std::alloc::{AllocError, Global};
-use std::io;
-use std::io::Write;
 
 /// What a command answers: what it prints, what it prints as an error, and the status with which a program ends.
 #[derive(Debug, Drop)]
@@ -48,19 +45,4 @@ pub(crate) fn fatal(
         errors,
         status: 128,
     })
-}
-
-/// Prints an answer, and returns its status. The error is one of the writers'.
-pub fn print_answer<W: Write, E: Write>(
-    answer: &Answer,
-    out: &mut W,
-    errors: &mut E,
-) -> io::Result<u8>
-    ensures { IfOk result (λ status. (status ≡ answer.now.status)
-        × Appends (W.contents out.old) (W.contents out.new) answer.now.text.items
-        × Appends (E.contents errors.old) (E.contents errors.new) answer.now.errors.items) }
-{
-    out.write_all(&answer.text)?;
-    errors.write_all(&answer.errors)?;
-    Ok(answer.status)
 }

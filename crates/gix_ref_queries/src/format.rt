@@ -1,7 +1,8 @@
-//! The format of a row of `for-each-ref`: `%(refname)`, `%(objectname)`, `%(symref)`, `%%`, `%xx`, and other bytes as they are.
+//! The format of a row of `for-each-ref`: `%(refname)`, `%(refname:short)`, `%(objectname)`, `%(symref)`, `%%`, `%xx`, and other bytes as
+//! they are.
 ghost use Rattle.std.specs.Prelude.{◌≡◌, ◌==◌, ◌<◌, ◌≤◌, ◌+◌, ◌++◌, length, IfOk, IfSome, OnOk, Ok, Err, MatchResult};
 ghost use Rattle.hex.specs.Hex.{hex_digit_value};
-ghost use Rattle.gix_ref_queries.specs.Formats.{after_percent, digits_at, field_named, field_to, first_part, format_parts, hex_byte, part_text, row_text, IsUnread};
+ghost use Rattle.gix_ref_queries.specs.Formats.{after_percent, digits_at, field_named, field_to, first_part, format_parts, hex_byte, part_text, row_text, shows_short, IsUnread};
 ghost use Rattle.std.specs.List.{position};
 
 use gix_ref_hash::hash::ObjectId;
@@ -14,6 +15,8 @@ pub enum Part {
     Byte(u8),
     /// `%(refname)`: the name of the reference.
     Refname,
+    /// `%(refname:short)`: its short name.
+    Short,
     /// `%(objectname)`: the id to which the reference leads.
     Objectname,
     /// `%(symref)`: the last name to which a symbolic reference leads, and nothing for another one.
@@ -68,6 +71,9 @@ fn field_named(name: &[u8]) -> Option<Part>
 {
     if name == b"refname".as_slice() {
         return Some(Part::Refname);
+    }
+    if name == b"refname:short".as_slice() {
+        return Some(Part::Short);
     }
     if name == b"objectname".as_slice() {
         return Some(Part::Objectname);
@@ -168,19 +174,37 @@ fn push_part(
     text: &mut Vec<u8>,
     part: Part,
     name: &[u8],
+    short: &[u8],
     id: &ObjectId,
     symref: &[u8],
 ) -> Result<(), AllocError>
-    ensures { OnOk result (text.new.items ≡ text.old.items
-        ++ part_text (record { name = name.now; id = id.now; symref = symref.now }) part) }
+    ensures { OnOk result (text.new.items ≡ text.old.items ++ part_text (record {
+      name = name.now;
+      short = short.now;
+      id = id.now;
+      symref = symref.now;
+    }) part) }
 {
     match part {
         Part::Byte(byte) => text.push(byte)?,
         Part::Refname => text.extend_from_slice(name)?,
+        Part::Short => text.extend_from_slice(short)?,
         Part::Objectname => id.push_hex(text)?,
         Part::Symref => text.extend_from_slice(symref)?,
     }
     Ok(())
+}
+
+/// Whether a format shows the short name.
+pub(crate) fn shows_short(parts: &[Part]) -> bool
+    ensures { result ≡ shows_short parts.now }
+{
+    for part in parts {
+        if matches!(part, Part::Short) {
+            return true;
+        }
+    }
+    false
 }
 
 /// The row of a reference, without a line feed.
@@ -188,15 +212,20 @@ pub fn row(
     alloc: Global,
     parts: &[Part],
     name: &[u8],
+    short: &[u8],
     id: &ObjectId,
     symref: &[u8],
 ) -> Result<Vec<u8>, AllocError>
-    ensures { IfOk result (λ text. text.items ≡ row_text parts.now
-        (record { name = name.now; id = id.now; symref = symref.now })) }
+    ensures { IfOk result (λ text. text.items ≡ row_text parts.now (record {
+      name = name.now;
+      short = short.now;
+      id = id.now;
+      symref = symref.now;
+    })) }
 {
     let mut text = Vec::new(alloc);
     for part in parts {
-        push_part(&mut text, *part, name, id, symref)?;
+        push_part(&mut text, *part, name, short, id, symref)?;
     }
     Ok(text)
 }

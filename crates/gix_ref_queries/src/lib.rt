@@ -12,4 +12,5 @@ pub mod pattern;
 pub mod reflog;
 pub mod resolve;
 pub mod rows;
+pub mod short;
 pub mod verify;

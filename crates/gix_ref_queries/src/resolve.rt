@@ -2,9 +2,8 @@
 ghost use Rattle.std.specs.Prelude.{◌≡◌, List, ℕ, true};
 ghost use Rattle.gix_ref_name.specs.Names.{full_bytes, full_ref_bytes};
 ghost use Rattle.gix_ref_target.specs.PackedRecords.{Record};
-ghost use Rattle.gix_ref_queries.specs.Resolving.{finds_in};
 ghost use Rattle.gix_ref_store.specs.Lookup.{AreRecordsIn, LooksUp};
-ghost use Rattle.gix_ref_queries.specs.Resolving.{reads, resolved, ReadsAs, ReadFails, EndsAs, EndFails};
+ghost use Rattle.gix_ref_queries.specs.Resolving.{targets_in, resolved, ReadsAs, ReadFails, EndsAs, EndFails};
 
 use gix_ref_files::files::Files;
 use gix_ref_hash::hash::ObjectId;
@@ -30,21 +29,15 @@ pub enum NameRead {
     Memory,
 }
 
-/// What a full name reads, and not another name that it may be short for. One lookup. As `refs_read_raw_ref` of git, which also reads
-/// one name.
+/// What a full name reads (`Store::find_full`). As `refs_read_raw_ref` of git.
 pub fn read_name<F: Files>(alloc: Global, store: &mut Store<F>, name: FullNameRef<'_>) -> NameRead
     ensures reads { F.honest → (records : List Record) → AreRecordsIn F.means store.old records →
-        ReadsAs (reads (finds_in F.means store.old records) (full_ref_bytes name.entry))
-        result }
+        ReadsAs (targets_in F.means store.old records (full_ref_bytes name.entry)) result }
     ensures failed { ReadFails F.Reader.ReadAt F.honest F.means F.faults store.old result }
     ensures unchanged { LooksUp F.honest F.means store.old store.new }
 {
-    match store.try_find(alloc, name.as_partial_name()) {
-        Ok(Some(found)) => if found.name.eq_bytes(name.to_path()) {
-            NameRead::Is(found.target)
-        } else {
-            NameRead::Absent
-        },
+    match store.find_full(alloc, name) {
+        Ok(Some(found)) => NameRead::Is(found.target),
         Ok(None) => NameRead::Absent,
         Err(Error::Memory) => NameRead::Memory,
         Err(error) => NameRead::Unread(error),
@@ -76,7 +69,7 @@ pub struct Followed {
 /// Follows a name over at most five names.
 pub fn follow<F: Files>(alloc: Global, store: &mut Store<F>, name: FullName) -> Followed
     ensures ends { F.honest → (records : List Record) → AreRecordsIn F.means store.old records →
-        EndsAs (resolved (finds_in F.means store.old records) 5 (full_bytes name)) result }
+        EndsAs (resolved (targets_in F.means store.old records) 5 (full_bytes name)) result }
     ensures failed { EndFails F.Reader.ReadAt F.honest F.means F.faults store.old result.end }
     ensures unchanged { LooksUp F.honest F.means store.old store.new }
 {

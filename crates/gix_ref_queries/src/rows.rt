@@ -4,11 +4,12 @@ ghost use Rattle.std.specs.Option.{option_map, option_to_list};
 ghost use Rattle.gix_ref_name.specs.Names.{full_bytes, full_ref_bytes};
 ghost use Rattle.gix_ref_target.specs.PackedRecords.{Record};
 ghost use Rattle.gix_ref_store.specs.Lookup.{AreRecordsIn, LooksUp};
-ghost use Rattle.gix_ref_queries.specs.Resolving.{finds_in, resolved};
-ghost use Rattle.gix_ref_queries.specs.Rows.{IsRowError, IsUnfollowed, counted, followed_row, ordered, row_of, row_texts, rows_of};
+ghost use Rattle.gix_ref_queries.specs.Resolving.{targets_in, resolved};
+ghost use Rattle.gix_ref_queries.specs.Rows.{IsRowError, IsUnfollowed, counted, followed_row, ordered, row_of, row_texts, rows_of, shown_short};
 
-use crate::format::{Part, row};
+use crate::format::{Part, row, shows_short};
 use crate::resolve::{End, Followed, follow};
+use crate::short::{ShortError, short_name};
 use gix_ref_files::files::Files;
 use gix_ref_name::name::FullNameRef;
 use gix_ref_store::file::Store;
@@ -36,17 +37,42 @@ impl From<AllocError> for RowError<'_> {
     }
 }
 
+/// The short name of a reference, where a format shows it; else nothing.
+fn shown_short<'r, F: Files>(
+    alloc: Global,
+    store: &mut Store<F>,
+    parts: &[Part],
+    name: FullNameRef<'r>,
+) -> Result<&'r [u8], RowError<'r>>
+    ensures short { F.honest → (records : List Record) → AreRecordsIn F.means store.old records →
+        IfOk result (λ short. short.now ≡ shown_short (targets_in F.means store.old records)
+        parts.now (full_ref_bytes name.entry)) }
+    ensures failed { IfErr result (IsRowError F.honest F.means F.faults F.Reader.ReadAt store.old
+        (full_ref_bytes name.entry)) }
+    ensures unchanged { LooksUp F.honest F.means store.old store.new }
+{
+    if !shows_short(parts) {
+        return Ok(b"");
+    }
+    match short_name(alloc, store, true, name.to_path()) {
+        Ok(short) => Ok(short),
+        Err(ShortError::Unread(_)) => Err(RowError::Unread(name)),
+        Err(ShortError::Memory) => Err(RowError::Memory),
+    }
+}
+
 /// The row of a symbolic reference, if it leads to an object.
 fn followed_row<'r, F: Files>(
     alloc: Global,
     store: &mut Store<F>,
     parts: &[Part],
     name: FullNameRef<'r>,
+    short: &[u8],
 ) -> Result<Option<Vec<u8>>, RowError<'r>>
     ensures rows { F.honest → (records : List Record) → AreRecordsIn F.means store.old records →
         IfOk result (λ row. option_map (λ text. text.items) row ≡ followed_row parts.now
-        (full_ref_bytes name.entry)
-        (resolved (finds_in F.means store.old records) 5 (full_ref_bytes name.entry))) }
+        (full_ref_bytes name.entry) short.now
+        (resolved (targets_in F.means store.old records) 5 (full_ref_bytes name.entry))) }
     ensures failed { IfErr result (IsRowError F.honest F.means F.faults F.Reader.ReadAt store.old
         (full_ref_bytes name.entry)) }
     ensures unchanged { LooksUp F.honest F.means store.old store.new }
@@ -55,7 +81,7 @@ fn followed_row<'r, F: Files>(
     let Followed { name: last, end } = follow(alloc, store, owned);
     match end {
         End::Object(id) => {
-            let text = row(alloc, parts, name.to_path(), &id, last.to_path())?;
+            let text = row(alloc, parts, name.to_path(), short, &id, last.to_path())?;
             Ok(Some(text))
         }
         End::Absent | End::TooDeep => Ok(None),
@@ -73,17 +99,22 @@ fn row_of<'r, F: Files>(
 ) -> Result<Option<Vec<u8>>, RowError<'r>>
     ensures rows { F.honest → (records : List Record) → AreRecordsIn F.means store.old records →
         IfOk result (λ row. option_map (λ text. text.items) row
-        ≡ row_of (finds_in F.means store.old records) parts.now reference.now) }
+        ≡ row_of (targets_in F.means store.old records) parts.now reference.now) }
     ensures failed { IfErr result (IsRowError F.honest F.means F.faults F.Reader.ReadAt store.old
         (full_bytes reference.now.name)) }
     ensures unchanged { LooksUp F.honest F.means store.old store.new }
 {
+    let name = reference.name.as_ref();
+    let short = match shown_short(alloc, store, parts, name) {
+        Ok(short) => short,
+        Err(error) => return Err(error),
+    };
     match &reference.target {
         Target::Object(id) => {
-            let text = row(alloc, parts, reference.name.to_path(), id, b"")?;
+            let text = row(alloc, parts, name.to_path(), short, id, b"")?;
             Ok(Some(text))
         }
-        Target::Symbolic(_) => followed_row(alloc, store, parts, reference.name.as_ref()),
+        Target::Symbolic(_) => followed_row(alloc, store, parts, name, short),
     }
 }
 
@@ -99,8 +130,8 @@ fn keep(rows: &mut Vec<Vec<u8>>, row: Option<Vec<u8>>) -> Result<(), AllocError>
 }
 
 /// The rows of references, each without a line feed; none for a symbolic reference that leads to no object. A symbolic reference is
-/// looked up with the names on its way, five at most. The error names a symbolic reference of which a lookup failed, or reports that
-/// there was no memory.
+/// looked up with the names on its way, five at most; and where the format shows short names, what else each may be short for
+/// (`short_name`). The error names a reference of which a lookup failed, or reports that there was no memory.
 pub fn rows<'r, F: Files>(
     alloc: Global,
     store: &mut Store<F>,
@@ -109,7 +140,7 @@ pub fn rows<'r, F: Files>(
 ) -> Result<Vec<Vec<u8>>, RowError<'r>>
     ensures rows { F.honest → (records : List Record) → AreRecordsIn F.means store.old records →
         IfOk result (λ rows. row_texts rows.items
-        ≡ rows_of (finds_in F.means store.old records) parts.now references.now) }
+        ≡ rows_of (targets_in F.means store.old records) parts.now references.now) }
     ensures failed { IfErr result (IsUnfollowed F.honest F.means F.faults F.Reader.ReadAt
         store.old references.now) }
     ensures unchanged { LooksUp F.honest F.means store.old store.new }

@@ -2,15 +2,16 @@
 ghost use Rattle.std.specs.Prelude.{◌≡◌, ◌⊎◌, ◌++◌, List, ℕ, IfOk, IfErr, MatchOption, MatchResult, Option, Some, None, codes, true, false};
 ghost use Rattle.gix_ref_name.specs.Names.{full_bytes, full_ref_bytes};
 ghost use Rattle.gix_ref_target.specs.PackedRecords.{Record};
-ghost use Rattle.gix_ref_queries.specs.Resolving.{finds_in};
+ghost use Rattle.gix_ref_queries.specs.Resolving.{IsUnread, resolved, targets_in};
+ghost use Rattle.gix_ref_queries.specs.Shortening.{IsNoShort};
 ghost use Rattle.gix_ref_store.specs.Lookup.{AreRecordsIn, LooksUp};
-ghost use Rattle.gix_ref_queries.specs.Answers.{Says, Fails, VerifyAnswer, SymbolicAnswer, LastName, is_verifiable, VerifiesAs, SymbolicAs, EndVerified, EndNamed};
+ghost use Rattle.gix_ref_queries.specs.Answers.{Says, Fails, VerifyAnswer, SymbolicAnswer, LastName, is_verifiable, VerifiesAs, SymbolicAs, EndVerified, EndNamed, NotValid, NoSuchRef, shown_as};
 ghost use Rattle.hex.specs.Hex.{encode_lower};
 ghost use Rattle.gix_ref_hash.specs.Ids.{id_bytes};
-ghost use Rattle.gix_ref_queries.specs.Resolving.{resolved, IsUnread};
 
 use crate::answer::{Answer, fatal, said};
 use crate::resolve::{End, Followed, follow};
+use crate::short::{ShortError, short_name};
 use gix_ref_files::files::Files;
 use gix_ref_hash::hash::ObjectId;
 use gix_ref_name::name::FullNameRef;
@@ -33,7 +34,7 @@ fn verifiable(name: &[u8]) -> Option<FullNameRef<'_>>
 
 /// The answer for a name that leads to no object.
 fn not_valid(alloc: Global, name: &[u8]) -> Result<Answer, AllocError>
-    ensures { IfOk result (Fails (codes "'" ++ (name.now ++ codes "' - not a valid ref"))) }
+    ensures { IfOk result (NotValid name.now) }
 {
     fatal(alloc, b"'", name, b"' - not a valid ref")
 }
@@ -70,9 +71,10 @@ fn verify_full<F: Files>(
 ) -> Result<Answer, AllocError>
     ensures answers { F.honest → (records : List Record) → AreRecordsIn F.means store.old records →
         IfOk result (λ answer. VerifyAnswer
-        (resolved (finds_in F.means store.old records) 5 (full_ref_bytes name.entry))
+        (resolved (targets_in F.means store.old records) 5 (full_ref_bytes name.entry))
         (full_ref_bytes name.entry) answer
-        ⊎ IsUnread F.Reader.ReadAt F.honest F.means F.faults store.old) }
+        ⊎ (IsUnread F.Reader.ReadAt F.honest F.means F.faults store.old
+        × NotValid (full_ref_bytes name.entry) answer)) }
     ensures unchanged { LooksUp F.honest F.means store.old store.new }
 {
     let owned = name.to_owned(alloc)?;
@@ -90,8 +92,9 @@ pub fn verify<F: Files>(
     name: &[u8],
 ) -> Result<Answer, AllocError>
     ensures answers { F.honest → (records : List Record) → AreRecordsIn F.means store.old records →
-        IfOk result (λ answer. VerifiesAs (finds_in F.means store.old records) name.now answer
-        ⊎ IsUnread F.Reader.ReadAt F.honest F.means F.faults store.old) }
+        IfOk result (λ answer. VerifiesAs (targets_in F.means store.old records) name.now answer
+        ⊎ (IsUnread F.Reader.ReadAt F.honest F.means F.faults store.old
+        × NotValid name.now answer)) }
     ensures unchanged { LooksUp F.honest F.means store.old store.new }
 {
     let answer = match verifiable(name) {
@@ -101,33 +104,60 @@ pub fn verify<F: Files>(
     Ok(answer)
 }
 
-/// The answer for the last name that another one leads to.
-fn last_name(alloc: Global, name: &[u8], last: &[u8]) -> Result<Answer, AllocError>
-    ensures { IfOk result (LastName last.now name.now) }
+/// The answer for the last name that another one leads to, which is shown so.
+fn last_name(alloc: Global, name: &[u8], last: &[u8], shown: &[u8]) -> Result<Answer, AllocError>
+    ensures { IfOk result (LastName last.now shown.now name.now) }
 {
     if last == name {
         return fatal(alloc, b"ref ", name, b" is not a symbolic ref");
     }
-    let mut text = last.to_vec(alloc)?;
+    let mut text = shown.to_vec(alloc)?;
     text.extend_from_slice(b"\n")?;
     Ok(said(alloc, text, 0))
 }
 
 /// The answer for a name that no reference can have, or that cannot be followed.
 fn no_such_ref(alloc: Global, name: &[u8]) -> Result<Answer, AllocError>
-    ensures { IfOk result (Fails (codes "No such ref: " ++ name.now)) }
+    ensures { IfOk result (NoSuchRef name.now) }
 {
     fatal(alloc, b"No such ref: ", name, b"")
 }
 
-/// The answer for a name whose following ends so, with this last name.
-fn named(alloc: Global, name: &[u8], last: &[u8], end: End) -> Result<Answer, AllocError>
-    ensures { IfOk result (EndNamed end last.now name.now) }
+/// The answer for a name whose following ends so, with this last name, which is shown so.
+fn named(
+    alloc: Global,
+    name: &[u8],
+    last: &[u8],
+    shown: &[u8],
+    end: End,
+) -> Result<Answer, AllocError>
+    ensures { IfOk result (EndNamed end last.now shown.now name.now) }
 {
     match end {
-        End::Object(_) | End::Absent => last_name(alloc, name, last),
+        End::Object(_) | End::Absent => last_name(alloc, name, last, shown),
         End::TooDeep | End::Unread(_) => no_such_ref(alloc, name),
         End::Memory => Err(AllocError),
+    }
+}
+
+/// A name, or its short name.
+fn shown_as<'n, F: Files>(
+    alloc: Global,
+    store: &mut Store<F>,
+    short: bool,
+    name: &'n [u8],
+) -> Result<&'n [u8], ShortError>
+    ensures shown { F.honest → (records : List Record) → AreRecordsIn F.means store.old records →
+        IfOk result (λ shown. shown.now
+        ≡ shown_as (targets_in F.means store.old records) short name.now) }
+    ensures failed { IfErr result
+        (IsNoShort F.Reader.ReadAt F.honest F.means F.faults store.old) }
+    ensures unchanged { LooksUp F.honest F.means store.old store.new }
+{
+    if short {
+        short_name(alloc, store, false, name)
+    } else {
+        Ok(name)
     }
 }
 
@@ -135,37 +165,49 @@ fn named(alloc: Global, name: &[u8], last: &[u8], end: End) -> Result<Answer, Al
 fn symbolic_full<F: Files>(
     alloc: Global,
     store: &mut Store<F>,
+    short: bool,
     name: FullNameRef<'_>,
 ) -> Result<Answer, AllocError>
     ensures answers { F.honest → (records : List Record) → AreRecordsIn F.means store.old records →
         IfOk result (λ answer. SymbolicAnswer
-        (resolved (finds_in F.means store.old records) 5 (full_ref_bytes name.entry))
+        (shown_as (targets_in F.means store.old records) short)
+        (resolved (targets_in F.means store.old records) 5 (full_ref_bytes name.entry))
         (full_ref_bytes name.entry) answer
-        ⊎ IsUnread F.Reader.ReadAt F.honest F.means F.faults store.old) }
+        ⊎ (IsUnread F.Reader.ReadAt F.honest F.means F.faults store.old
+        × NoSuchRef (full_ref_bytes name.entry) answer)) }
     ensures unchanged { LooksUp F.honest F.means store.old store.new }
 {
     let owned = name.to_owned(alloc)?;
     let Followed { name: last, end } = follow(alloc, store, owned);
-    let answer = named(alloc, name.to_path(), last.to_path(), end)?;
+    let shown = match shown_as(alloc, store, short, last.to_path()) {
+        Ok(shown) => shown,
+        Err(ShortError::Unread(_)) => return no_such_ref(alloc, name.to_path()),
+        Err(ShortError::Memory) => return Err(AllocError),
+    };
+    let answer = named(alloc, name.to_path(), last.to_path(), shown, end)?;
     Ok(answer)
 }
 
-/// `symbolic-ref NAME`: the last name to which a symbolic reference leads, whether or not a reference of that name exists;
+/// `symbolic-ref NAME`: the last name to which a symbolic reference leads, whether or not a reference of that name exists, or with `short`
+/// its short name (`short_name`);
 /// `ref NAME is not a symbolic ref` with status 128 where it is none, and `No such ref: NAME` where the name breaks a rule of names or
 /// cannot be followed. Each name is looked up as it is, five at most. The error reports that there was no memory. As
 /// `git symbolic-ref`.
 pub fn symbolic<F: Files>(
     alloc: Global,
     store: &mut Store<F>,
+    short: bool,
     name: &[u8],
 ) -> Result<Answer, AllocError>
     ensures answers { F.honest → (records : List Record) → AreRecordsIn F.means store.old records →
-        IfOk result (λ answer. SymbolicAs (finds_in F.means store.old records) name.now answer
-        ⊎ IsUnread F.Reader.ReadAt F.honest F.means F.faults store.old) }
+        IfOk result (λ answer. SymbolicAs (targets_in F.means store.old records) short
+        name.now answer
+        ⊎ (IsUnread F.Reader.ReadAt F.honest F.means F.faults store.old
+        × NoSuchRef name.now answer)) }
     ensures unchanged { LooksUp F.honest F.means store.old store.new }
 {
     let answer = match FullNameRef::from_path(name) {
-        Some(full) => symbolic_full(alloc, store, full)?,
+        Some(full) => symbolic_full(alloc, store, short, full)?,
         None => return no_such_ref(alloc, name),
     };
     Ok(answer)

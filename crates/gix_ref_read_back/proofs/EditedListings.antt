@@ -13,7 +13,7 @@ use Rattle.gix_ref_target.proofs.LocationLemmas.{safe_is_tested}
 use Rattle.gix_ref_files.specs.Files.{Meaning, FaultCounts, NoFewer}
 use Rattle.gix_ref_files.specs.declared.files.ReadAt.{Ghosts}
 use Rattle.gix_ref_files.specs.Tree.{Path, Tree}
-use Rattle.gix_ref_files.proofs.Moments.{starts}
+use Rattle.gix_ref_files.proofs.Moments.{starts, passes_starts}
 use Rattle.gix_ref_packed_text.specs.declared.raw.Reference.{Reference}
 use Rattle.gix_ref_theory.specs.Edits.{Mode}
 use Rattle.gix_ref_theory.specs.Lookups.{is_there}
@@ -33,7 +33,7 @@ use Rattle.gix_ref_listing.specs.declared.list.LooseNames.{LooseNames}
 use Rattle.gix_ref_listing.specs.declared.prefix.Error.{Error as PrefixError}
 use Rattle.gix_ref_listing.specs.declared.prefix.Error.TheVariants as no_list
 use Rattle.gix_ref_listing.specs.declared.found.Found.TheVariants.{File, Unlisted}
-use Rattle.gix_ref_listing.proofs.FolderWalks.{unchanged_on}
+use Rattle.gix_ref_listing.proofs.FolderWalks.{unchanged_on, untouched_on}
 use Rattle.gix_ref_listing.proofs.Listing.{names_on}
 use Rattle.gix_ref_store.specs.Listings.{AreFirst, IsNoListing, IsWalkedIn, IteratesListing, NextItem, count_in, store_listed, walked_prefix}
 use Rattle.gix_ref_store.specs.Lookup.{AreRecordsIn, LooksUp, settings_of, view_in}
@@ -119,6 +119,7 @@ module _ {F : Type 0} (honest : Type 0) (means : F → Meaning) (faults : F → 
   pub looks_on : (old mid new : Store F) → LooksUp honest means old mid → LooksUp honest means mid new → LooksUp honest means old new
   looks_on old mid new first second = record {
     leaves = λ h. unchanged_on (means (files_of old)) (means (files_of mid)) (means (files_of new)) (first.leaves h) (second.leaves h);
+    passes = λ h. untouched_on (means (files_of old)) (means (files_of mid)) (means (files_of new)) (first.passes h) (second.passes h);
     same = same_on old mid new first.same second.same;
   }
 
@@ -134,13 +135,14 @@ module _ {F : Type 0} (honest : Type 0) (means : F → Meaning) (faults : F → 
     same_reference = refl;
     unchanged = record {
       leaves = λ h. starts (means (files_of (store_listed it))) _ refl;
+      passes = λ h. passes_starts (means (files_of (store_listed it))) _ refl;
       same = record { dirs = refl; namespace = refl; of_kind = refl; reflogs = refl; composes = refl; prohibits = refl; threshold = refl };
     };
   }
 
   module _ (first it next : LooseThenPacked F Remaining) (before after : List (Result Reference Error)) (more : Bool) (so_far : AreSoFar first it before) (takes : TakesNext honest means faults it next before after more) where
     follows : LooksUp honest means (store_listed first) (store_listed next)
-    follows = looks_on (store_listed first) (store_listed it) (store_listed next) so_far.unchanged record { leaves = takes.gives.gives.leaves; same = takes.gives.same_store }
+    follows = looks_on (store_listed first) (store_listed it) (store_listed next) so_far.unchanged record { leaves = takes.gives.gives.leaves; passes = takes.gives.gives.passes; same = takes.gives.same_store }
 
     pub taken : more ≡ true → AreSoFar first next after
     taken is = go takes.item takes.gives takes.more_is takes.adds

@@ -4,7 +4,7 @@ use Rattle.std.specs.Io.KnownBytes.{Appends}
 use Rattle.gix_ref_theory.specs.Sequences.{AreDone}
 use Rattle.gix_ref_theory.proofs.Sequences.{done_more}
 use Rattle.gix_ref_session.specs.Commands.{Heard, Start, IsNoCommand, words_of}
-use Rattle.gix_ref_session.specs.Gathering.{CannotGoOn, Gathering, Gathers, GathersOrCloses, HearsClosing, IsClosing, IsGathered, IsMalformed, IsNotDone, IsStopped, IsToldOf, IsUnsaid, StopsShort, TakesOrCloses, as_gathering, nothing_gathered}
+use Rattle.gix_ref_session.specs.Gathering.{CannotGoOn, Gathering, Gathers, GathersOrCloses, HearsClosing, IsClosing, IsGathered, IsMalformed, IsNotDone, IsStopped, IsReportOf, IsUnsaid, StopsShort, TakesOrCloses, as_gathering, nothing_gathered}
 use Rattle.gix_ref_session.specs.Input.{AreWords, Hears}
 use Rattle.gix_ref_session.specs.Quotes.{ArePlain}
 use Rattle.gix_ref_session.specs.declared.fatal.Fatal.{Fatal}
@@ -66,14 +66,14 @@ lines_are Nul text words plain is are for = absurd (not_both is)
 -- Texts that are no command.
 
 -- of a line that is for these words
-pub only_plain : {T : Type 0} (format : Format) (kind : Kind) (r : Result T Fatal) (text : List ℕ) (words lent : List (List ℕ)) → ArePlain words lent → IfErr r (λ fatal. IsStopped fatal ⊎ (IsToldOf text fatal × IsNoCommand format kind lent)) →
-    IfErr r (λ fatal. IsStopped fatal ⊎ (IsToldOf text fatal × ((plain : List (List ℕ)) → ArePlain words plain → IsNoCommand format kind plain)))
+pub only_plain : {T : Type 0} (format : Format) (kind : Kind) (r : Result T Fatal) (text : List ℕ) (words lent : List (List ℕ)) → ArePlain words lent → IfErr r (λ fatal. IsStopped fatal ⊎ (IsReportOf text fatal × IsNoCommand format kind lent)) →
+    IfErr r (λ fatal. IsStopped fatal ⊎ (IsReportOf text fatal × ((plain : List (List ℕ)) → ArePlain words plain → IsNoCommand format kind plain)))
 only_plain format kind (Ok v) text words lent are none = tt
 only_plain format kind (Err fatal) text words lent are (inl stopped) = inl stopped
 only_plain format kind (Err fatal) text words lent are (inr none) = inr (none.0, λ plain same. subst (λ (ws : List (List ℕ)). IsNoCommand format kind ws) (sym (plain_once words lent plain are same)) none.1)
 
 module _ {T : Type 0} (session : Session) (r : Result T Fatal) (text : List ℕ) (words : List (List ℕ)) where
-  pub no_nul : session.format ≡ Nul → words ≡ words_of session.format text → IfErr r (λ fatal. IsStopped fatal ⊎ (IsToldOf text fatal × IsNoCommand session.format session.object_hash words)) → IfErr r (λ fatal. IsStopped fatal ⊎ IsMalformed session text fatal)
+  pub no_nul : session.format ≡ Nul → words ≡ words_of session.format text → IfErr r (λ fatal. IsStopped fatal ⊎ (IsReportOf text fatal × IsNoCommand session.format session.object_hash words)) → IfErr r (λ fatal. IsStopped fatal ⊎ IsMalformed session text fatal)
   no_nul nul is none = by r none
     where
       same : (format : Format) → format ≡ Nul → (ws : List (List ℕ)) → AreWords format text ws → ws ≡ words_of format text
@@ -83,12 +83,12 @@ module _ {T : Type 0} (session : Session) (r : Result T Fatal) (text : List ℕ)
           not_both : Lines ≡ Nul → ⊥
           not_both e = cc
 
-      by : (r : Result T Fatal) → IfErr r (λ fatal. IsStopped fatal ⊎ (IsToldOf text fatal × IsNoCommand session.format session.object_hash words)) → IfErr r (λ fatal. IsStopped fatal ⊎ IsMalformed session text fatal)
+      by : (r : Result T Fatal) → IfErr r (λ fatal. IsStopped fatal ⊎ (IsReportOf text fatal × IsNoCommand session.format session.object_hash words)) → IfErr r (λ fatal. IsStopped fatal ⊎ IsMalformed session text fatal)
       by (Ok v) none = tt
       by (Err fatal) (inl stopped) = inl stopped
       by (Err fatal) (inr none) = inr (none.0, λ ws are. subst (λ (x : List (List ℕ)). IsNoCommand session.format session.object_hash x) (is ∙ sym (same session.format nul ws are)) none.1)
 
-  pub no_line : session.format ≡ Lines → words ≡ words_of session.format text → IfErr r (λ fatal. IsStopped fatal ⊎ (IsToldOf text fatal × ((plain : List (List ℕ)) → ArePlain words plain → IsNoCommand session.format session.object_hash plain))) → IfErr r (λ fatal. IsStopped fatal ⊎ IsMalformed session text fatal)
+  pub no_line : session.format ≡ Lines → words ≡ words_of session.format text → IfErr r (λ fatal. IsStopped fatal ⊎ (IsReportOf text fatal × ((plain : List (List ℕ)) → ArePlain words plain → IsNoCommand session.format session.object_hash plain))) → IfErr r (λ fatal. IsStopped fatal ⊎ IsMalformed session text fatal)
   no_line lines is none = by r none
     where
       plain_of : (format : Format) → format ≡ Lines → (ws : List (List ℕ)) → AreWords format text ws → ArePlain (words_of format text) ws
@@ -98,7 +98,7 @@ module _ {T : Type 0} (session : Session) (r : Result T Fatal) (text : List ℕ)
           not_both : Nul ≡ Lines → ⊥
           not_both e = cc
 
-      by : (r : Result T Fatal) → IfErr r (λ fatal. IsStopped fatal ⊎ (IsToldOf text fatal × ((plain : List (List ℕ)) → ArePlain words plain → IsNoCommand session.format session.object_hash plain))) → IfErr r (λ fatal. IsStopped fatal ⊎ IsMalformed session text fatal)
+      by : (r : Result T Fatal) → IfErr r (λ fatal. IsStopped fatal ⊎ (IsReportOf text fatal × ((plain : List (List ℕ)) → ArePlain words plain → IsNoCommand session.format session.object_hash plain))) → IfErr r (λ fatal. IsStopped fatal ⊎ IsMalformed session text fatal)
       by (Ok v) none = tt
       by (Err fatal) (inl stopped) = inl stopped
       by (Err fatal) (inr none) = inr (none.0, λ ws are. none.1 ws (subst (λ (x : List (List ℕ)). ArePlain x ws) (sym is) (plain_of session.format lines ws are)))

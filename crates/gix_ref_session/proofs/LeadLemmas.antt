@@ -13,11 +13,11 @@ use Rattle.gix_ref_name.specs.declared.name.FullName.{FullName}
 use Rattle.gix_ref_target.specs.PackedRecords.{Record}
 use Rattle.gix_ref_store.specs.Lookup.{AreRecordsIn, LooksUp}
 use Rattle.gix_ref_store.specs.declared.file.store.Store.{Store}
-use Rattle.gix_ref_queries.specs.Resolving.{HitsByName, finds_in, reads, resolved}
+use Rattle.gix_ref_queries.specs.Resolving.{TargetsByName, targets_in, resolved}
 use Rattle.gix_ref_queries.proofs.Names.{same_finds, same_records}
 use Rattle.gix_ref_session.specs.Leading.{AreLed, IsLed, LeadsTo, branch_of, is_followed, is_through_head, last_of, led_deref, led_name, name_or, next_of, updates, LeadsIn}
 
-next_one : (xs : List RefEdit) (k : ℕ) (d : RefEdit) → k < length xs → take (k + 1) xs ≡ take k xs ++ get_or xs k d ∷ []
+pub next_one : (xs : List RefEdit) (k : ℕ) (d : RefEdit) → k < length xs → take (k + 1) xs ≡ take k xs ++ get_or xs k d ∷ []
 next_one [] k d lt = absurd (omega (arith, lt))
 next_one (x ∷ xs) zero d lt = refl
 next_one (x ∷ xs) (suc k) d lt =
@@ -39,20 +39,20 @@ module _ (Leads : (edit led : RefEdit) → Type 0) where
 -- What lookups find in the store before, which was only looked at.
 module _ {F : Type 0} (honest : Type 0) (means : F → Meaning) (first mid : Store F) (looked : LooksUp honest means first mid) where
   -- the branch
-  pub branch_in : (writes : Bool) (branch : Option FullName) → (honest → (records : List Record) → AreRecordsIn means mid records → option_map full_bytes branch ≡ branch_of (finds_in means mid records) writes) →
-      honest → (records : List Record) → AreRecordsIn means first records → option_map full_bytes branch ≡ branch_of (finds_in means first records) writes
-  branch_in writes branch is h records are = is h records (same_records honest means first mid records looked h are) ∙ ap (λ (find : HitsByName). branch_of find writes) (same_finds honest means first mid records looked h)
+  pub branch_in : (writes : Bool) (branch : Option FullName) → (honest → (records : List Record) → AreRecordsIn means mid records → option_map full_bytes branch ≡ branch_of (targets_in means mid records) writes) →
+      honest → (records : List Record) → AreRecordsIn means first records → option_map full_bytes branch ≡ branch_of (targets_in means first records) writes
+  branch_in writes branch is h records are = is h records (same_records honest means first mid records looked h are) ∙ ap (λ (find : TargetsByName). branch_of find writes) (same_finds honest means first mid records looked h)
 
   -- where an edit is led
-  pub leads_in : (writes : Bool) (branch : Option FullName) (edit led : RefEdit) → (honest → (records : List Record) → AreRecordsIn means first records → option_map full_bytes branch ≡ branch_of (finds_in means first records) writes) →
-      (honest → (records : List Record) → AreRecordsIn means mid records → LeadsTo (finds_in means mid records) (option_map full_bytes branch) edit led) → LeadsIn honest means first writes edit led
+  pub leads_in : (writes : Bool) (branch : Option FullName) (edit led : RefEdit) → (honest → (records : List Record) → AreRecordsIn means first records → option_map full_bytes branch ≡ branch_of (targets_in means first records) writes) →
+      (honest → (records : List Record) → AreRecordsIn means mid records → LeadsTo (targets_in means mid records) (option_map full_bytes branch) edit led) → LeadsIn honest means first writes edit led
   leads_in writes branch edit led is leads h records are =
-      subst (λ (find : HitsByName). LeadsTo find (branch_of (finds_in means first records) writes) edit led) (same_finds honest means first mid records looked h)
-      (subst (λ (b : Option (List ℕ)). LeadsTo (finds_in means mid records) b edit led) (is h records are) (leads h records (same_records honest means first mid records looked h are)))
+      subst (λ (find : TargetsByName). LeadsTo find (branch_of (targets_in means first records) writes) edit led) (same_finds honest means first mid records looked h)
+      (subst (λ (b : Option (List ℕ)). LeadsTo (targets_in means mid records) b edit led) (is h records are) (leads h records (same_records honest means first mid records looked h are)))
 
   -- the end of a chain
-  pub ends_in : (records : List Record) (name : List ℕ) (last : Option (List ℕ)) → honest → last ≡ last_of (resolved (finds_in means mid records) 5 name) → last ≡ last_of (resolved (finds_in means first records) 5 name)
-  ends_in records name last h is = is ∙ ap (λ (find : HitsByName). last_of (resolved find 5 name)) (same_finds honest means first mid records looked h)
+  pub ends_in : (records : List Record) (name : List ℕ) (last : Option (List ℕ)) → honest → last ≡ last_of (resolved (targets_in means mid records) 5 name) → last ≡ last_of (resolved (targets_in means first records) 5 name)
+  ends_in records name last h is = is ∙ ap (λ (find : TargetsByName). last_of (resolved find 5 name)) (same_finds honest means first mid records looked h)
 
 -- The name `HEAD` breaks no rule.
 head_valid : full_error (codes "HEAD") ≡ None
@@ -70,13 +70,13 @@ none_mapped None = refl
 none_mapped (Some name) = refl
 
 -- an update of the branch, which is not followed
-pub through_by : (find : HitsByName) (branch : List ℕ) (edit : RefEdit) (r : Bool) → branch ≡ name_of edit → updates edit.change ≡ true → edit.deref ≡ false → r ≡ is_none (next_of (reads find (name_of edit))) → r ≡ is_through_head find (Some branch) edit
+pub through_by : (find : TargetsByName) (branch : List ℕ) (edit : RefEdit) (r : Bool) → branch ≡ name_of edit → updates edit.change ≡ true → edit.deref ≡ false → r ≡ is_none (next_of (find (name_of edit))) → r ≡ is_through_head find (Some branch) edit
 through_by find branch edit r same up direct is =
-    is ∙ sym (ap (λ (b : Bool). b && (updates edit.change && (edit.deref || is_none (next_of (reads find (name_of edit)))))) ((bytes_eq-Decides branch (name_of edit)).1 same)
-    ∙ (ap (λ (b : Bool). b && (edit.deref || is_none (next_of (reads find (name_of edit))))) up ∙ ap (λ (b : Bool). b || is_none (next_of (reads find (name_of edit)))) direct))
+    is ∙ sym (ap (λ (b : Bool). b && (updates edit.change && (edit.deref || is_none (next_of (find (name_of edit)))))) ((bytes_eq-Decides branch (name_of edit)).1 same)
+    ∙ (ap (λ (b : Bool). b && (edit.deref || is_none (next_of (find (name_of edit))))) up ∙ ap (λ (b : Bool). b || is_none (next_of (find (name_of edit)))) direct))
 
 -- Where an edit is led.
-module _ (find : HitsByName) (branch : Option (List ℕ)) (edit led : RefEdit) where
+module _ (find : TargetsByName) (branch : Option (List ℕ)) (edit led : RefEdit) where
   pub to_head : is_through_head find branch edit ≡ true → name_of led ≡ codes "HEAD" → led.deref ≡ true → LeadsTo find branch edit led
   to_head through name deref = record {
     name_is = name ∙ sym (ap (λ (b : Bool). if b then codes "HEAD" else if is_followed edit then name_or (name_of edit) (last_of (resolved find 5 (name_of edit))) else name_of edit) through);

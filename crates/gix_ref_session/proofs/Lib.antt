@@ -1,13 +1,17 @@
 pub mod AnswerLemmas
+pub mod ClashLemmas
 pub mod Closing
 pub mod CommandLemmas
 pub mod Committing
 pub mod EditLemmas
+pub mod FolderLemmas
 pub mod GatherLemmas
 pub mod InputLemmas
 pub mod LeadLemmas
 pub mod Looking
+pub mod NameLists
 pub mod QuoteLemmas
 pub mod Serving
 pub mod Settling
 pub mod Trying
+pub mod WordLemmas

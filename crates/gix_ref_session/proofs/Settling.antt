@@ -1,6 +1,7 @@
 -- Tries that a lock of another's refused, and the one that ends a transaction.
 use Rattle.std.proofs.Common.{◌≡◌, inl, inr, ℕ, ◌+◌, List, [], ◌∷◌, ◌++◌, Bool, Option, Result, Ok, Err, refl, sym, subst, arith}
-use Rattle.gix_ref_files.specs.declared.files.FileError.{FileError}
+use Rattle.gix_ref_files.specs.declared.files.ReadAt.{Ghosts}
+use Rattle.gix_ref_packed.specs.OpenFiles.{HasReadFault}
 use Rattle.gix_ref_files.specs.Files.{Meaning, Leaves, FaultCounts}
 use Rattle.gix_ref_files.proofs.Moments.{joins, starts, weaken}
 use Rattle.gix_ref_edits.specs.declared.transaction.RefEdit.{RefEdit}
@@ -10,7 +11,8 @@ use Rattle.gix_ref_transaction.specs.declared.prepare.error.Error.{Error as Caus
 use Rattle.gix_ref_store.specs.Store.{files_of}
 use Rattle.gix_ref_store.specs.declared.file.store.Store.{Store}
 use Rattle.gix_ref_program.specs.declared.update.UpdateError.TheVariants as errors
-use Rattle.gix_ref_session.specs.Sessions.{IsLookFailure, IsUnclosed, MakeEnds, PreparedEnds, Settles, TryEnds, Way, way}
+use Rattle.gix_ref_session.specs.Clashes.{IsLookFailure}
+use Rattle.gix_ref_session.specs.Sessions.{IsUnclosed, MakeEnds, PreparedEnds, Settles, TryEnds, Way, way}
 use Rattle.gix_ref_session.specs.Transactions.{IsLocked, IsRefused, IsTransactionStop, IsTried, IsTryStop}
 use Rattle.gix_ref_session.specs.Waiting.{HasWaited, IsLessAfter, NoneIsLeft, meets_lock, meets_packed, times_met}
 use Rattle.gix_ref_session.specs.declared.fatal.Fatal.{Fatal}
@@ -27,14 +29,14 @@ met_more meets (t ∷ tries) cause = omega (arith, met_more meets tries cause)
 err_is : {T E : Type 0} (e f : E) → ◌≡◌ {A = Result T E} (Err e) (Err f) → e ≡ f
 err_is e f is = cc
 
-module _ {F : Type 0} (honest : Type 0) (read : FileError → Type 0) (means : F → Meaning) (faults : F → FaultCounts) (session : Session) where
+module _ {F R : Type 0} (G : Ghosts R) (honest : Type 0) (means : F → Meaning) (faults : F → FaultCounts) (session : Session) where
   no_closing : (cause : Cause) (input : Option (List ℕ)) → IsUnclosed session input (fatals.Update (errors.Prepare cause)) → ⊥
-  no_closing cause input (inl is) = cc
+  no_closing cause input (inl (is, hears)) = cc
   no_closing cause input (inr (inl stopped)) = stopped
   no_closing cause input (inr (inr hears)) = hears.3.0
 
   -- prepared edits do not end so
-  not_prepared : (closing : Closing) (s t : Way F) (edits : List RefEdit) (cause : Cause) → PreparedEnds honest read means faults session closing s t edits (Err (fatals.Update (errors.Prepare cause))) → ⊥
+  not_prepared : (closing : Closing) (s t : Way F) (edits : List RefEdit) (cause : Cause) → PreparedEnds G honest means faults session closing s t edits (Err (fatals.Update (errors.Prepare cause))) → ⊥
   not_prepared closings.Prepare s t edits cause (inl failed) = failed.0
   not_prepared closings.Prepare s t edits cause (inr (inl given)) = no_closing cause s.input given.2
   not_prepared closings.Prepare s t edits cause (inr (inr unsaid)) = unsaid.0
@@ -48,11 +50,11 @@ module _ {F : Type 0} (honest : Type 0) (read : FileError → Type 0) (means : F
   not_prepared closings.End s t edits cause (inr (inl given)) = no_closing cause s.input given.2
   not_prepared closings.End s t edits cause (inr (inr unsaid)) = unsaid.0
 
-  refused : (closing : Closing) (s t : Way F) (edits : List RefEdit) (cause : Cause) → MakeEnds honest read means faults session closing edits s t (Err (fatals.Update (errors.Prepare cause))) →
-      IsRefused honest means faults session.committer read (errors.Prepare cause) s.store t.store edits × (t.input ≡ s.input) × (t.output ≡ s.output)
+  refused : (closing : Closing) (s t : Way F) (edits : List RefEdit) (cause : Cause) → MakeEnds G honest means faults session closing edits s t (Err (fatals.Update (errors.Prepare cause))) →
+      IsRefused honest means faults session.committer (HasReadFault G.faults) (errors.Prepare cause) s.store t.store edits × (t.input ≡ s.input) × (t.output ≡ s.output)
   refused closing s t edits cause (inl not) =
       let same : not.error ≡ cause = cause_is not.error cause (err_is (fatals.Update (errors.Prepare cause)) (fatals.Update (errors.Prepare not.error)) not.is) in
-      (subst (λ (c : Cause). IsRefused honest means faults session.committer read (errors.Prepare c) s.store t.store edits) same not.refused, not.input, not.output)
+      (subst (λ (c : Cause). IsRefused honest means faults session.committer (HasReadFault G.faults) (errors.Prepare c) s.store t.store edits) same not.refused, not.input, not.output)
     where
       cause_is : (a b : Cause) → fatals.Update (errors.Prepare b) ≡ fatals.Update (errors.Prepare a) → a ≡ b
       cause_is a b is = cc
@@ -60,20 +62,20 @@ module _ {F : Type 0} (honest : Type 0) (read : FileError → Type 0) (means : F
 
   module _ (edits : List RefEdit) where
     -- a try that another's lock refused
-    tried : (closing : Closing) (s t : Way F) (cause : Cause) → IsLocked cause → TryEnds honest read means faults session closing edits s t (Err (fatals.Update (errors.Prepare cause))) →
-        IsTried honest means faults session.committer read edits cause s.store t.store × (t.input ≡ s.input) × (t.output ≡ s.output)
-    tried closing s t cause locked (inl looked) = absurd (subst IsLookFailure (sym (err_is (fatals.Update (errors.Prepare cause)) looked.fatal looked.is)) looked.why)
+    tried : (closing : Closing) (s t : Way F) (cause : Cause) → IsLocked cause → TryEnds G honest means faults session closing edits s t (Err (fatals.Update (errors.Prepare cause))) →
+        IsTried honest means faults session.committer (HasReadFault G.faults) edits cause s.store t.store × (t.input ≡ s.input) × (t.output ≡ s.output)
+    tried closing s t cause locked (inl looked) = absurd (subst (IsLookFailure honest means faults G s.store edits) (sym (err_is (fatals.Update (errors.Prepare cause)) looked.fatal looked.is)) looked.why)
     tried closing s t cause locked (inr led) =
         let was = refused closing (way s.input s.output led.at) (way t.input t.output t.store) led.led cause led.ends in
-        ((locked, record { at = led.at; led = led.led; looked = led.looked; are_led = led.are_led; ends = was.0 }), was.1, was.2)
+        ((locked, record { at = led.at; led = led.led; looked = led.looked; clear = led.clear; are_led = led.are_led; ends = was.0 }), was.1, was.2)
 
     -- tries so far, and how many milliseconds are left
     pub record SoFar (first now : Store F) (left : Patience) : Type 0 where
       pub tries : List Cause
-      pub were : AreDone (IsTried honest means faults session.committer read edits) tries first now
+      pub were : AreDone (IsTried honest means faults session.committer (HasReadFault G.faults) edits) tries first now
       pub lock : left.lock + times_met meets_lock tries ≡ session.lock_timeout
       pub packed : left.packed + times_met meets_packed tries ≡ session.packed_lock_timeout
-      pub leaves : honest → Leaves (means (files_of first)) (means (files_of now)) (IsTransactionStop honest means faults session.committer read edits first)
+      pub leaves : honest → Leaves (means (files_of first)) (means (files_of now)) (IsTransactionStop honest means faults session.committer (HasReadFault G.faults) edits first)
 
     pub none_yet : (first : Store F) (left : Patience) → left.lock ≡ session.lock_timeout → left.packed ≡ session.packed_lock_timeout → SoFar first first left
     none_yet first left lock packed = record {
@@ -81,22 +83,22 @@ module _ {F : Type 0} (honest : Type 0) (read : FileError → Type 0) (means : F
       were = refl;
       lock = omega (arith, lock);
       packed = omega (arith, packed);
-      leaves = λ h. starts (means (files_of first)) (IsTransactionStop honest means faults session.committer read edits first) ([], first, refl, inl refl);
+      leaves = λ h. starts (means (files_of first)) (IsTransactionStop honest means faults session.committer (HasReadFault G.faults) edits first) ([], first, refl, inl refl);
     }
 
     module _ (first mid new : Store F) (before : Patience) (b : SoFar first mid before) where
-      pub leaves_on : (honest → Leaves (means (files_of mid)) (means (files_of new)) (IsTryStop honest means faults session.committer read edits mid)) → honest →
-          Leaves (means (files_of first)) (means (files_of new)) (IsTransactionStop honest means faults session.committer read edits first)
+      pub leaves_on : (honest → Leaves (means (files_of mid)) (means (files_of new)) (IsTryStop honest means faults session.committer (HasReadFault G.faults) edits mid)) → honest →
+          Leaves (means (files_of first)) (means (files_of new)) (IsTransactionStop honest means faults session.committer (HasReadFault G.faults) edits first)
       leaves_on step h = joins (b.leaves h) (weaken (step h) (λ T stop. (b.tries, mid, b.were, stop)))
 
       -- one more that a lock of another's refused
-      pub one_more : (closing : Closing) (input output rest now : Option (List ℕ)) (fatal : Fatal) (left : Patience) → IsLessAfter fatal before left → TryEnds honest read means faults session closing edits (way input output mid) (way rest now new) (Err fatal) →
-          (honest → Leaves (means (files_of mid)) (means (files_of new)) (IsTryStop honest means faults session.committer read edits mid)) → SoFar first new left × (rest ≡ input) × (now ≡ output)
+      pub one_more : (closing : Closing) (input output rest now : Option (List ℕ)) (fatal : Fatal) (left : Patience) → IsLessAfter fatal before left → TryEnds G honest means faults session closing edits (way input output mid) (way rest now new) (Err fatal) →
+          (honest → Leaves (means (files_of mid)) (means (files_of new)) (IsTryStop honest means faults session.committer (HasReadFault G.faults) edits mid)) → SoFar first new left × (rest ≡ input) × (now ≡ output)
       one_more closing input output rest now fatal left less ends step =
-          let was = tried closing (way input output mid) (way rest now new) less.cause less.met (subst (λ (f : Fatal). TryEnds honest read means faults session closing edits (way input output mid) (way rest now new) (Err f)) less.is ends) in (
+          let was = tried closing (way input output mid) (way rest now new) less.cause less.met (subst (λ (f : Fatal). TryEnds G honest means faults session closing edits (way input output mid) (way rest now new) (Err f)) less.is ends) in (
             record {
               tries = b.tries ++ less.cause ∷ [];
-              were = done_more (IsTried honest means faults session.committer read edits) b.tries less.cause first mid new b.were was.0;
+              were = done_more (IsTried honest means faults session.committer (HasReadFault G.faults) edits) b.tries less.cause first mid new b.were was.0;
               lock = omega (arith, met_more meets_lock b.tries less.cause, b.lock, less.lock);
               packed = omega (arith, met_more meets_packed b.tries less.cause, b.packed, less.packed);
               leaves = leaves_on step;
@@ -106,19 +108,19 @@ module _ {F : Type 0} (honest : Type 0) (read : FileError → Type 0) (means : F
           )
 
       -- the one that ends it
-      ends_with : (closing : Closing) (input output rest now : Option (List ℕ)) (result : Result Bool Fatal) → TryEnds honest read means faults session closing edits (way input output mid) (way rest now new) result → HasWaited session b.tries result →
-          Settles honest read means faults session closing edits (way input output first) (way rest now new) result
+      ends_with : (closing : Closing) (input output rest now : Option (List ℕ)) (result : Result Bool Fatal) → TryEnds G honest means faults session closing edits (way input output mid) (way rest now new) result → HasWaited session b.tries result →
+          Settles G honest means faults session closing edits (way input output first) (way rest now new) result
       ends_with closing input output rest now result ends waited = record { tries = b.tries; mid = mid; were = b.were; ends = ends; waited = waited }
 
-      pub ends_well : (closing : Closing) (input output rest now : Option (List ℕ)) (goes_on : Bool) → TryEnds honest read means faults session closing edits (way input output mid) (way rest now new) (Ok goes_on) →
-          Settles honest read means faults session closing edits (way input output first) (way rest now new) (Ok goes_on)
+      pub ends_well : (closing : Closing) (input output rest now : Option (List ℕ)) (goes_on : Bool) → TryEnds G honest means faults session closing edits (way input output mid) (way rest now new) (Ok goes_on) →
+          Settles G honest means faults session closing edits (way input output first) (way rest now new) (Ok goes_on)
       ends_well closing input output rest now goes_on ends = ends_with closing input output rest now (Ok goes_on) ends (record { lock = λ name is. no_error is; packed = λ is. no_error is })
         where
           no_error : {P : Type 0} {fatal : Fatal} → ◌≡◌ {A = Result Bool Fatal} (Ok goes_on) (Err fatal) → P
           no_error is = cc
 
-      pub gives_up : (closing : Closing) (input output rest now : Option (List ℕ)) (fatal : Fatal) → NoneIsLeft fatal before → TryEnds honest read means faults session closing edits (way input output mid) (way rest now new) (Err fatal) →
-          Settles honest read means faults session closing edits (way input output first) (way rest now new) (Err fatal)
+      pub gives_up : (closing : Closing) (input output rest now : Option (List ℕ)) (fatal : Fatal) → NoneIsLeft fatal before → TryEnds G honest means faults session closing edits (way input output mid) (way rest now new) (Err fatal) →
+          Settles G honest means faults session closing edits (way input output first) (way rest now new) (Err fatal)
       gives_up closing input output rest now fatal none ends = ends_with closing input output rest now (Err fatal) ends (record {
         lock = λ name is. omega (arith, b.lock, none.lock name (err_is fatal _ is));
         packed = λ is. omega (arith, b.packed, none.packed (err_is fatal _ is));
@@ -126,7 +128,7 @@ module _ {F : Type 0} (honest : Type 0) (read : FileError → Type 0) (means : F
 
   -- a transaction that began with the same input and output
   pub settles_from : (closing : Closing) (edits : List RefEdit) (input output begun said rest now : Option (List ℕ)) (first last : Store F) (result : Result Bool Fatal) → input ≡ begun → output ≡ said →
-      Settles honest read means faults session closing edits (way input output first) (way rest now last) result → Settles honest read means faults session closing edits (way begun said first) (way rest now last) result
+      Settles G honest means faults session closing edits (way input output first) (way rest now last) result → Settles G honest means faults session closing edits (way begun said first) (way rest now last) result
   settles_from closing edits input output begun said rest now first last result in_same out_same ends =
-      subst (λ (i : Option (List ℕ)). Settles honest read means faults session closing edits (way i said first) (way rest now last) result) in_same
-      (subst (λ (o : Option (List ℕ)). Settles honest read means faults session closing edits (way input o first) (way rest now last) result) out_same ends)
+      subst (λ (i : Option (List ℕ)). Settles G honest means faults session closing edits (way i said first) (way rest now last) result) in_same
+      (subst (λ (o : Option (List ℕ)). Settles G honest means faults session closing edits (way input o first) (way rest now last) result) out_same ends)

@@ -9,6 +9,7 @@ use Rattle.gix_ref_log.specs.declared.actor.SignatureRef.{SignatureRef}
 use Rattle.gix_ref_store.specs.Lookup.{LooksUp}
 use Rattle.gix_ref_store.specs.Store.{files_of}
 use Rattle.gix_ref_store.specs.declared.file.store.Store.{Store}
+use Rattle.gix_ref_session.specs.Clashes.{AreClear}
 use Rattle.gix_ref_session.specs.Leading.{AreLed, LeadsIn}
 use Rattle.gix_ref_session.specs.Transactions.{IsEditStop, IsTryStop}
 
@@ -16,6 +17,6 @@ module _ {F : Type 0} (honest : Type 0) (means : F → Meaning) (faults : F → 
   pub looked_leaves : (old new : Store F) → LooksUp honest means old new → honest → Leaves (means (files_of old)) (means (files_of new)) (IsTryStop honest means faults committer read edits old)
   looked_leaves old new looked h = weaken (looked.leaves h) (λ T same. inl same)
 
-  pub led_leaves : (old at new : Store F) (led : List RefEdit) → LooksUp honest means old at → AreLed (LeadsIn honest means old (is_some committer)) edits led → (honest → Leaves (means (files_of at)) (means (files_of new)) (IsEditStop honest means faults committer at led)) → honest →
+  pub led_leaves : (old at new : Store F) (led : List RefEdit) → LooksUp honest means old at → AreClear honest means old edits → AreLed (LeadsIn honest means old (is_some committer)) edits led → (honest → Leaves (means (files_of at)) (means (files_of new)) (IsEditStop honest means faults committer at led)) → honest →
       Leaves (means (files_of old)) (means (files_of new)) (IsTryStop honest means faults committer read edits old)
-  led_leaves old at new led looked are leaves h = joins (looked_leaves old at looked h) (weaken (leaves h) (λ T stop. inr (at, led, looked, are, stop)))
+  led_leaves old at new led looked clear are leaves h = joins (looked_leaves old at looked h) (weaken (leaves h) (λ T stop. inr (at, led, looked, clear, are, stop)))

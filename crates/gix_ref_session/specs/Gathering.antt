@@ -25,13 +25,13 @@ IsStopped fatals.Memory = Unit {0}
 IsStopped fatal = ⊥
 
 -- a text is told as no command
-abbrev pub IsToldOf : (text : List ℕ) → Fatal → Type 0
-IsToldOf text (fatals.Malformed told) = told.text.items ≡ text
-IsToldOf text fatal = ⊥
+abbrev pub IsReportOf : (text : List ℕ) → Fatal → Type 0
+IsReportOf text (fatals.Malformed told) = told.text.items ≡ text
+IsReportOf text fatal = ⊥
 
 -- and it is none
 abbrev pub IsMalformed : Session → (text : List ℕ) → Fatal → Type 0
-IsMalformed session text fatal = IsToldOf text fatal
+IsMalformed session text fatal = IsReportOf text fatal
     × ((words : List (List ℕ)) → AreWords session.format text words →
     IsNoCommand session.format session.object_hash words)
 

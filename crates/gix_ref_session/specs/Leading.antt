@@ -5,7 +5,7 @@ use Rattle.gix_ref_target.specs.Targets.TargetValue.{object_id, symbolic_name}
 use Rattle.gix_ref_edits.specs.RefEdits.{SameChange, is_of_reference, mode_of, name_of, new_of}
 use Rattle.gix_ref_edits.specs.declared.transaction.Change.{Change}
 use Rattle.gix_ref_edits.specs.declared.transaction.RefEdit.{RefEdit}
-use Rattle.gix_ref_queries.specs.Resolving.{HitsByName, NameEnd, Missing, Reached, TooDeep, finds_in, reads, resolved}
+use Rattle.gix_ref_queries.specs.Resolving.{TargetsByName, NameEnd, Missing, Reached, TooDeep, targets_in, resolved}
 use Rattle.gix_ref_files.specs.Files.{Meaning}
 use Rattle.gix_ref_target.specs.PackedRecords.{Record}
 use Rattle.gix_ref_store.specs.Lookup.{AreRecordsIn}
@@ -29,8 +29,8 @@ abbrev pub is_followed : RefEdit → Bool
 is_followed edit = edit.deref && is_none (new_of edit.change)
 
 -- the branch that `HEAD` leads to, where lines are written
-abbrev pub branch_of : HitsByName → (writes_lines : Bool) → Option (List ℕ)
-branch_of find true = next_of (reads find (codes "HEAD"))
+abbrev pub branch_of : TargetsByName → (writes_lines : Bool) → Option (List ℕ)
+branch_of find true = next_of (find (codes "HEAD"))
 branch_of find false = None
 
 -- it has this name
@@ -40,9 +40,9 @@ is_named None name = false
 
 -- An update of that branch is made through `HEAD`, whose log gets its line too; but if the branch is symbolic, only where it is
 -- followed.
-abbrev pub is_through_head : HitsByName → (branch : Option (List ℕ)) → RefEdit → Bool
+abbrev pub is_through_head : TargetsByName → (branch : Option (List ℕ)) → RefEdit → Bool
 is_through_head find branch edit = is_named branch (name_of edit) && (updates edit.change
-    && (edit.deref || is_none (next_of (reads find (name_of edit)))))
+    && (edit.deref || is_none (next_of (find (name_of edit)))))
 
 -- the last name of a chain of five symbolic references at most
 abbrev pub last_of : NameEnd → Option (List ℕ)
@@ -55,20 +55,20 @@ name_or name (Some last) = last
 name_or name None = name
 
 -- A deletion that follows is of the last name itself; where there are more, it stays as it is. Any other edit does.
-abbrev pub led_name : HitsByName → (branch : Option (List ℕ)) → RefEdit → List ℕ
+abbrev pub led_name : TargetsByName → (branch : Option (List ℕ)) → RefEdit → List ℕ
 led_name find branch edit =
     if is_through_head find branch edit then codes "HEAD"
     else if is_followed edit then name_or (name_of edit) (last_of (resolved find 5 (name_of edit)))
     else name_of edit
 
-abbrev pub led_deref : HitsByName → (branch : Option (List ℕ)) → RefEdit → Bool
+abbrev pub led_deref : TargetsByName → (branch : Option (List ℕ)) → RefEdit → Bool
 led_deref find branch edit =
     if is_through_head find branch edit then true
     else if is_followed edit then is_none (last_of (resolved find 5 (name_of edit)))
     else edit.deref
 
 -- an edit is led to another by what lookups find
-pub record LeadsTo (find : HitsByName) (branch : Option (List ℕ))
+pub record LeadsTo (find : TargetsByName) (branch : Option (List ℕ))
     (edit led : RefEdit) : Type 0 where
   pub name_is : name_of led ≡ led_name find branch edit
   pub deref_is : led.deref ≡ led_deref find branch edit
@@ -78,8 +78,8 @@ abbrev pub LeadsIn : {F : Type 0} → (honest : Type 0) (means : F → Meaning) 
     (writes_lines : Bool) → (edit led : RefEdit) → Type 0
 LeadsIn honest means store writes_lines edit led =
     honest → (records : List Record) → AreRecordsIn means store records →
-    LeadsTo (finds_in means store records)
-    (branch_of (finds_in means store records) writes_lines) edit led
+    LeadsTo (targets_in means store records)
+    (branch_of (targets_in means store records) writes_lines) edit led
 
 -- an edit as it is made: its change is the same
 pub record IsLed (Leads : (edit led : RefEdit) → Type 0) (edit led : RefEdit) : Type 0 where

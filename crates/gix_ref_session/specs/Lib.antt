@@ -1,3 +1,4 @@
+pub mod Clashes
 pub mod Commands
 pub mod Edits
 pub mod Gathering
@@ -8,3 +9,4 @@ pub mod Runs
 pub mod Sessions
 pub mod Transactions
 pub mod Waiting
+pub mod Words

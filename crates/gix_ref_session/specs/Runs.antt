@@ -2,7 +2,7 @@
 use Rattle.std.specs.Prelude.{◌≡◌, ◌⊎◌, ℕ, List, true, false, Option, Some, Result, Err}
 use Rattle.std.specs.Option.{option_map}
 use Rattle.gix_ref_name.specs.NameGrammar.{partial_error}
-use Rattle.gix_ref_files.specs.declared.files.FileError.{FileError}
+use Rattle.gix_ref_files.specs.declared.files.ReadAt.{Ghosts}
 use Rattle.gix_ref_files.specs.Files.{Meaning, FaultCounts}
 use Rattle.gix_ref_log.specs.Signatures.{signature_ref_who}
 use Rattle.gix_ref_lookup.specs.CleanPaths.{is_clean}
@@ -40,7 +40,7 @@ abbrev pub IsOpened : {F : Type 0} → F → Line → Store F → Type 0
 IsOpened files line store = IsStoreOf files line.dir.now line.session.object_hash
     (namespace_in line) (option_map signature_ref_who line.session.committer) store
 
-module _ {F : Type 0} (honest : Type 0) (read : FileError → Type 0) (means : F → Meaning)
+module _ {F R : Type 0} (G : Ghosts R) (honest : Type 0) (means : F → Meaning)
     (faults : F → FaultCounts) where
   -- a session in the store of the line
   pub record RunsIn {E : Type 0} (line : Line) (files after : F)
@@ -49,7 +49,7 @@ module _ {F : Type 0} (honest : Type 0) (read : FileError → Type 0) (means : F
     pub new : Store F
     pub opened : IsOpened files line old
     pub after_is : files_of new ≡ after
-    pub serves : Serves honest read means faults line.session
+    pub serves : Serves G honest means faults line.session
         (way input out old) (way_on true rest now new) result
 
   -- there is none, and nothing is read, written or changed

@@ -1,10 +1,11 @@
 -- A session: transactions one after the other, with an answer to each command (`git update-ref --stdin`).
 use Rattle.std.specs.Prelude.{◌≡◌, ◌⊎◌, ℕ, List, [], ◌∷◌, ◌++◌, Bool, true, false, ◌||◌, codes, Option, is_some, Result, Ok, Err}
 use Rattle.std.specs.Io.KnownBytes.{Appends, IsAtEnd, Keeps}
-use Rattle.gix_ref_files.specs.declared.files.FileError.{FileError}
+use Rattle.gix_ref_files.specs.declared.files.ReadAt.{Ghosts}
 use Rattle.gix_ref_files.specs.Files.{Meaning, FaultCounts, Leaves}
 use Rattle.gix_ref_files.specs.Tree.{Tree}
 use Rattle.gix_ref_edits.specs.declared.transaction.RefEdit.{RefEdit}
+use Rattle.gix_ref_packed.specs.OpenFiles.{HasReadFault}
 use Rattle.gix_ref_theory.specs.Sequences.{AreDone, IsWithinSteps}
 use Rattle.gix_ref_transaction.specs.declared.prepare.error.Error.{Error as Cause}
 use Rattle.gix_ref_store.specs.Lookup.{LooksUp}
@@ -12,6 +13,7 @@ use Rattle.gix_ref_store.specs.Prepared.{tree_of}
 use Rattle.gix_ref_store.specs.Store.{files_of}
 use Rattle.gix_ref_store.specs.declared.file.store.Store.{Store}
 use Rattle.gix_ref_program.specs.declared.update.UpdateError.TheVariants as errors
+use Rattle.gix_ref_session.specs.Clashes.{IsLookFailure}
 use Rattle.gix_ref_session.specs.Commands.{Heard, Commit, Abort}
 use Rattle.gix_ref_session.specs.Gathering.{AreGathered, Gathering, IsUnheard, IsUnsaid, StopsShort}
 use Rattle.gix_ref_session.specs.Input.{Hears}
@@ -66,9 +68,21 @@ AnswersAbort out now (Ok true) = Appends out now (codes "abort: ok\n")
 AnswersAbort out now (Ok false) = ⊥
 AnswersAbort out now (Err fatal) = IsUnsaid fatal
 
--- why what is prepared is not closed: another command than `commit` and `abort` is read, or none
+-- another command than these
+abbrev pub IsOther : Heard → Type 0
+IsOther Commit = ⊥
+IsOther Abort = ⊥
+IsOther heard = Unit {0}
+
+-- another command than `commit` and `abort` is read
+abbrev pub HearsOther : Session → (input : Option (List ℕ)) → Type 0
+HearsOther session input = (heard : Heard) × (rest : Option (List ℕ)) × IsOther heard
+    × Hears session.format session.object_hash heard input rest
+
+-- why what is prepared is not closed: another command is read, or none
 abbrev pub IsUnclosed : Session → (input : Option (List ℕ)) → Fatal → Type 0
-IsUnclosed session input fatal = (fatal ≡ fatals.Prepared) ⊎ IsUnheard session input fatal
+IsUnclosed session input fatal =
+    ((fatal ≡ fatals.Prepared) × HearsOther session input) ⊎ IsUnheard session input fatal
 
 -- that it is prepared was said, and no more; or the writer failed
 abbrev pub IsPreparedSaid : Fatal → (out now : Option (List ℕ)) → Type 0
@@ -89,20 +103,12 @@ HeardClosing session input rest out now (Ok closings.Prepare) = ⊥
 HeardClosing session input rest out now (Err fatal) =
     IsUnclosed session input fatal × IsPreparedSaid fatal out now
 
--- why a try ends before its edits are begun: there was no memory; a look failed; or a name is in the way of another
-abbrev pub IsLookFailure : Fatal → Type 0
-IsLookFailure fatals.Memory = Unit {0}
-IsLookFailure (fatals.Find error) = Unit {0}
-IsLookFailure (fatals.List error) = Unit {0}
-IsLookFailure (fatals.Clash name) = Unit {0}
-IsLookFailure fatal = ⊥
-
 -- what was answered before a commit
 abbrev pub said_before : Closing → List ℕ
 said_before closings.Prepare = codes "prepare: ok\n"
 said_before closing = []
 
-module _ {F : Type 0} (honest : Type 0) (read : FileError → Type 0) (means : F → Meaning)
+module _ {F R : Type 0} (G : Ghosts R) (honest : Type 0) (means : F → Meaning)
     (faults : F → FaultCounts) (session : Session) where
   -- how prepared edits are closed by what was heard, with the answer
   abbrev pub ClosedBy : Closing → (old new : Store F) → List RefEdit →
@@ -111,7 +117,7 @@ module _ {F : Type 0} (honest : Type 0) (read : FileError → Type 0) (means : F
       IsCommitted honest means faults session.committer old new edits
       × Appends out now (codes "commit: ok\n")
   ClosedBy closings.Commit old new edits out now (Err fatal) =
-      (CommitFailed honest means faults session.committer read fatal old new edits
+      (CommitFailed honest means faults session.committer (HasReadFault G.faults) fatal old new edits
       × Appends out now [])
       ⊎ (IsUnsaid fatal × IsCommitted honest means faults session.committer old new edits)
   ClosedBy closings.Abort old new edits out now (Ok true) =
@@ -145,7 +151,7 @@ module _ {F : Type 0} (honest : Type 0) (read : FileError → Type 0) (means : F
       × IsAtEnd s.input × Appends s.output t.output (codes "prepare: ok\n")
   -- their commit failed; or after `prepare` they were not closed, and given up; or the writer failed after they were committed
   PreparedEnds closing s t edits (Err fatal) =
-      (CommitFailed honest means faults session.committer read fatal s.store t.store edits
+      (CommitFailed honest means faults session.committer (HasReadFault G.faults) fatal s.store t.store edits
       × Appends s.output t.output (said_before closing))
       ⊎ (((closing ≡ closings.Prepare) × IsRolledBack honest means faults s.store t.store edits
       × IsUnclosed session s.input fatal × IsPreparedSaid fatal s.output t.output)
@@ -157,7 +163,7 @@ module _ {F : Type 0} (honest : Type 0) (read : FileError → Type 0) (means : F
       (result : Result Bool Fatal) : Type 0 where
     pub error : Cause
     pub is : result ≡ Err (fatals.Update (errors.Prepare error))
-    pub refused : IsRefused honest means faults session.committer read (errors.Prepare error)
+    pub refused : IsRefused honest means faults session.committer (HasReadFault G.faults) (errors.Prepare error)
         s.store t.store edits
     pub input : t.input ≡ s.input
     pub output : t.output ≡ s.output
@@ -168,18 +174,19 @@ module _ {F : Type 0} (honest : Type 0) (read : FileError → Type 0) (means : F
   MakeEnds closing edits s t result = NotPrepared edits s t result
       ⊎ PreparedEnds closing s t edits result
 
-  -- it ends before they are begun
-  pub record OnlyLooked (s t : Way F) (result : Result Bool Fatal) : Type 0 where
+  -- it ends before they are begun, by a look that failed or by a clash of names
+  pub record OnlyLooked (edits : List RefEdit) (s t : Way F)
+      (result : Result Bool Fatal) : Type 0 where
     pub fatal : Fatal
     pub is : result ≡ Err fatal
-    pub why : IsLookFailure fatal
+    pub why : IsLookFailure honest means faults G s.store edits fatal
     pub looked : LooksUp honest means s.store t.store
     pub input : t.input ≡ s.input
     pub output : t.output ≡ s.output
 
   -- How a try of these edits ends: it was only looked; or symbolic references led them to others, which ended as above.
   abbrev pub TryEnds : Closing → (edits : List RefEdit) → (s t : Way F) → Result Bool Fatal → Type 0
-  TryEnds closing edits s t result = OnlyLooked s t result
+  TryEnds closing edits s t result = OnlyLooked edits s t result
       ⊎ Led honest means faults (is_some session.committer) (λ at new led. MakeEnds closing led
       (way s.input s.output at) (way t.input t.output new) result) edits s.store t.store
 
@@ -188,7 +195,7 @@ module _ {F : Type 0} (honest : Type 0) (read : FileError → Type 0) (means : F
       (result : Result Bool Fatal) : Type 0 where
     pub tries : List Cause
     pub mid : Store F
-    pub were : AreDone (IsTried honest means faults session.committer read edits) tries s.store mid
+    pub were : AreDone (IsTried honest means faults session.committer (HasReadFault G.faults) edits) tries s.store mid
     pub ends : TryEnds closing edits (record s { store = mid }) t result
     pub waited : HasWaited session tries result
 
@@ -214,7 +221,7 @@ module _ {F : Type 0} (honest : Type 0) (read : FileError → Type 0) (means : F
   -- a stop in a transaction leaves this tree
   abbrev pub IsTurnStop : Tree → Turn → Way F → Type 0
   IsTurnStop T turn s = (T ≡ tree_of means s.store)
-      ⊎ IsTransactionStop honest means faults session.committer read turn.gathered.edits s.store T
+      ⊎ IsTransactionStop honest means faults session.committer (HasReadFault G.faults) turn.gathered.edits s.store T
 
   -- how the next transaction went, and what a stop in it leaves
   pub record Turns (s t : Way F) (result : Result Bool Fatal) : Type 0 where

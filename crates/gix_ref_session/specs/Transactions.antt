@@ -25,6 +25,7 @@ use Rattle.gix_ref_store.specs.declared.file.transaction.outcome.Failed.{Failed}
 use Rattle.gix_ref_program.specs.Updates.{IsBegun, IsStopOf, IsUpdateError, UpdateMade}
 use Rattle.gix_ref_program.specs.declared.update.UpdateError.{UpdateError}
 use Rattle.gix_ref_program.specs.declared.update.UpdateError.TheVariants.{Prepare, Commit}
+use Rattle.gix_ref_session.specs.Clashes.{AreClear}
 use Rattle.gix_ref_session.specs.Leading.{AreLed, LeadsIn}
 use Rattle.gix_ref_session.specs.declared.fatal.Fatal.{Fatal}
 use Rattle.gix_ref_session.specs.declared.fatal.Fatal.TheVariants as fatals
@@ -95,12 +96,14 @@ module _ {F : Type 0} (honest : Type 0) (means : F → Meaning) (faults : F → 
       ⊎ ((begun : IsBegun honest means faults uses old edits)
       × RemovesLocks (held_locks begun.packed begun.held) (tree_of means begun.mid) T)
 
-  -- Symbolic references were looked up, which changes nothing, and lead these edits to others, which end so.
+  -- References were looked up, which changes nothing: no name is in the way of another, and symbolic references lead these edits to
+  -- others, which end so.
   pub record Led (writes_lines : Bool) (Ends : (old new : Store F) → List RefEdit → Type 0)
       (edits : List RefEdit) (old new : Store F) : Type 0 where
     pub at : Store F
     pub led : List RefEdit
     pub looked : LooksUp honest means old at
+    pub clear : AreClear honest means old edits
     pub are_led : AreLed (LeadsIn honest means old writes_lines) edits led
     pub ends : Ends at new led
 
@@ -114,7 +117,7 @@ module _ {F : Type 0} (honest : Type 0) (means : F → Meaning) (faults : F → 
     abbrev pub IsTryStop : Store F → Tree → Type 0
     IsTryStop old T = (T ≡ tree_of means old)
         ⊎ ((at : Store F) × (led : List RefEdit) × LooksUp honest means old at
-        × AreLed (LeadsIn honest means old (is_some committer)) edits led
+        × AreClear honest means old edits × AreLed (LeadsIn honest means old (is_some committer)) edits led
         × IsEditStop committer at led T)
 
     -- a try that was refused since another holds a lock

@@ -1,8 +1,18 @@
 //! Names that are in one another's way: of `refs/heads/a` and `refs/heads/a/b` only one may exist (`git update-ref`).
 
-ghost use Rattle.std.specs.Prelude.{IfErr};
-ghost use Rattle.gix_ref_store.specs.Lookup.{LooksUp};
-ghost use Rattle.gix_ref_session.specs.Sessions.{IsLookFailure};
+ghost use Rattle.std.specs.Prelude.{◌≡◌, ◌⊎◌, ℕ, List, map, Decides, IfErr, IfOk, MatchBool, MatchOption, OnOk, is_some};
+ghost use Rattle.std.specs.List.{Contains};
+ghost use Rattle.std.specs.Option.{option_map};
+ghost use Rattle.gix_ref_edits.specs.RefEdits.{expected_of, matched, name_of};
+ghost use Rattle.gix_ref_edits.specs.declared.transaction.RefEdit.{RefEdit as AnEdit};
+ghost use Rattle.gix_ref_name.specs.Names.{full_bytes, full_ref_bytes};
+ghost use Rattle.gix_ref_queries.specs.Resolving.{targets_in, resolved};
+ghost use Rattle.gix_ref_store.specs.Listings.{AreHeldFor, IsWalkedIn, walked_prefix};
+ghost use Rattle.gix_ref_store.specs.Lookup.{AreRecordsIn, LooksUp};
+ghost use Rattle.gix_ref_store.specs.declared.file.store.Store.{Store as AStore};
+ghost use Rattle.gix_ref_target.specs.PackedRecords.{Record};
+ghost use Rattle.gix_ref_session.specs.Clashes.{AreClear, AreNamesOf, IsBelowTaken, IsClearEdit, IsClearName, IsEditFailure, IsFindFailure, IsFolderAt, IsInTheWay, IsListFailure, IsLookFailure, IsNameFailure, IsTaken, IsTakenAt, ListsNone, ListsOne, front_below, made_name, missing_last};
+ghost use Rattle.gix_ref_session.specs.declared.fatal.Fatal.TheVariants.{Memory};
 
 use crate::fatal::Fatal;
 use gix_ref_edits::transaction::{PreviousValue, RefEdit};
@@ -20,8 +30,12 @@ fn exists<F: Files>(
     store: &mut Store<F>,
     name: FullNameRef<'_>,
 ) -> Result<bool, Fatal>
+    ensures finds { F.honest → (records : List Record) → AreRecordsIn F.means store.old records →
+        IfOk result (λ there. there
+        ≡ is_some (targets_in F.means store.old records (full_ref_bytes name.entry))) }
     ensures unchanged { LooksUp F.honest F.means store.old store.new }
-    ensures fails { IfErr result IsLookFailure }
+    ensures fails { IfErr result
+        (IsFindFailure F.honest F.means F.faults F.Reader.ReadAt store.old) }
 {
     match read_name(alloc, store, name) {
         NameRead::Is(_) => Ok(true),
@@ -37,16 +51,31 @@ fn missing_end<F: Files>(
     store: &mut Store<F>,
     name: &FullName,
 ) -> Result<Option<FullName>, Fatal>
+    ensures ends { F.honest → (records : List Record) → AreRecordsIn F.means store.old records →
+        IfOk result (λ last. option_map full_bytes last
+        ≡ missing_last (resolved (targets_in F.means store.old records) 5 (full_bytes name.now))) }
     ensures unchanged { LooksUp F.honest F.means store.old store.new }
-    ensures fails { IfErr result IsLookFailure }
+    ensures fails { IfErr result
+        (IsFindFailure F.honest F.means F.faults F.Reader.ReadAt store.old) }
 {
     let Followed { name: last, end } = follow(alloc, store, name.clone()?);
     match end {
         End::Absent => Ok(Some(last)),
-        End::Object(_) | End::TooDeep => Ok(None),
+        End::Object(_) => Ok(None),
+        End::TooDeep => Ok(None),
         End::Unread(error) => Err(Fatal::Find(error)),
         End::Memory => Err(Fatal::Memory),
     }
+}
+
+/// Whether an edit expects a value, so that its reference has to be there.
+fn expects_value(edit: &RefEdit) -> bool
+    ensures { result ≡ is_some (matched (expected_of edit.now.change)) }
+{
+    matches!(
+        edit.change.expectation(),
+        PreviousValue::MustExistAndMatch(_)
+    )
 }
 
 /// The name of the reference that an edit is of in the end, where it is not there. One that has to be there is not looked for.
@@ -56,13 +85,14 @@ fn missing_name<F: Files>(
     store: &mut Store<F>,
     edit: &RefEdit,
 ) -> Result<Option<FullName>, Fatal>
+    ensures makes { F.honest → (records : List Record) → AreRecordsIn F.means store.old records →
+        IfOk result (λ name. option_map full_bytes name
+        ≡ made_name (targets_in F.means store.old records) edit.now) }
     ensures unchanged { LooksUp F.honest F.means store.old store.new }
-    ensures fails { IfErr result IsLookFailure }
+    ensures fails { IfErr result
+        (IsFindFailure F.honest F.means F.faults F.Reader.ReadAt store.old) }
 {
-    if matches!(
-        edit.change.expectation(),
-        PreviousValue::MustExistAndMatch(_)
-    ) {
+    if expects_value(edit) {
         return Ok(None);
     }
     if edit.deref {
@@ -74,6 +104,14 @@ fn missing_name<F: Files>(
     Ok(Some(edit.name.clone()?))
 }
 
+/// Whether there is an edit of this name.
+fn is_edited(edited: &[&[u8]], name: &[u8]) -> bool
+    ensures { (edits : List AnEdit) → AreNamesOf edits edited.now →
+        Decides result (Contains (map name_of edits) name.now) }
+{
+    edited.binary_search(&name).is_ok()
+}
+
 /// Whether there is a reference of this name, or an edit of it.
 #[tactic(auto, using(crate::proofs::Looking::looks_on, crate::proofs::Looking::looks_same))]
 fn is_taken<F: Files>(
@@ -82,13 +120,53 @@ fn is_taken<F: Files>(
     name: FullNameRef<'_>,
     edited: &[&[u8]],
 ) -> Result<bool, Fatal>
+    ensures taken { F.honest → (records : List Record) → AreRecordsIn F.means store.old records →
+        (edits : List AnEdit) → AreNamesOf edits edited.now → IfOk result
+        (λ taken. Decides taken (IsTaken (targets_in F.means store.old records) edits
+        (full_ref_bytes name.entry))) }
     ensures unchanged { LooksUp F.honest F.means store.old store.new }
-    ensures fails { IfErr result IsLookFailure }
+    ensures fails { IfErr result
+        (IsFindFailure F.honest F.means F.faults F.Reader.ReadAt store.old) }
 {
-    if edited.binary_search(&name.to_path()).is_ok() {
+    if is_edited(edited, name.to_path()) {
         return Ok(true);
     }
     exists(alloc, store, name)
+}
+
+/// The folder of a name that ends before this place, if there is one.
+fn folder_before(name: &[u8], at: usize) -> Option<FullNameRef<'_>>
+    ensures { MatchOption result ((folder : List ℕ) → IsFolderAt at folder name.now → ⊥)
+        (λ folder. IsFolderAt at (full_ref_bytes folder) name.now) }
+{
+    if at >= name.len() || name[at] != b'/' {
+        return None;
+    }
+    match FullNameRef::try_from(&name[..at]) {
+        Ok(folder) => Some(folder),
+        Err(_) => None,
+    }
+}
+
+/// Whether the folder of a name that ends before this place is a reference, or has an edit.
+fn is_folder_taken<F: Files>(
+    alloc: Global,
+    store: &mut Store<F>,
+    name: &[u8],
+    at: usize,
+    edited: &[&[u8]],
+) -> Result<bool, Fatal>
+    ensures taken { F.honest → (records : List Record) → AreRecordsIn F.means store.old records →
+        (edits : List AnEdit) → AreNamesOf edits edited.now → IfOk result
+        (λ taken. Decides taken (IsTakenAt (targets_in F.means store.old records) edits at name.now)) }
+    ensures unchanged { LooksUp F.honest F.means store.old store.new }
+    ensures fails { IfErr result
+        (IsFindFailure F.honest F.means F.faults F.Reader.ReadAt store.old) }
+{
+    match folder_before(name, at) {
+        Some(folder) => is_taken(alloc, store, folder, edited),
+        None => Ok(false),
+    }
 }
 
 /// Whether a folder of the name is a reference, or has an edit.
@@ -99,16 +177,17 @@ fn is_below_one<F: Files>(
     name: &[u8],
     edited: &[&[u8]],
 ) -> Result<bool, Fatal>
+    ensures below { F.honest → (records : List Record) → AreRecordsIn F.means store.old records →
+        (edits : List AnEdit) → AreNamesOf edits edited.now → IfOk result
+        (λ below. Decides below
+        (IsBelowTaken (targets_in F.means store.old records) edits name.now)) }
     ensures unchanged { LooksUp F.honest F.means store.old store.new }
-    ensures fails { IfErr result IsLookFailure }
+    ensures fails { IfErr result
+        (IsFindFailure F.honest F.means F.faults F.Reader.ReadAt store.old) }
 {
-    for (at, byte) in name.iter().enumerate() {
-        if *byte == b'/' {
-            if let Ok(folder) = FullNameRef::try_from(&name[..at]) {
-                if is_taken(alloc, store, folder, edited)? {
-                    return Ok(true);
-                }
-            }
+    for at in 0..name.len() {
+        if is_folder_taken(alloc, store, name, at, edited)? {
+            return Ok(true);
         }
     }
     Ok(false)
@@ -122,8 +201,14 @@ fn lists_one<F: Files>(
     names: LooseNames,
     packed: Option<&Buffer>,
 ) -> Result<bool, Fatal>
+    ensures lists { F.honest → (start : AStore F) (records : List Record) →
+        IsWalkedIn F.honest F.means F.faults start store.old names →
+        AreHeldFor store.old (walked_prefix names) packed.entry records → IfOk result
+        (λ any. MatchBool any
+        (ListsOne F.honest F.means F.faults start records (walked_prefix names))
+        (ListsNone F.honest F.means start records (walked_prefix names))) }
     ensures unchanged { LooksUp F.honest F.means store.old store.new }
-    ensures fails { IfErr result IsLookFailure }
+    ensures memory { IfErr result (λ fatal. fatal ≡ Memory) }
 {
     match store.iter_walked(alloc, names, packed) {
         Ok(mut items) => {
@@ -131,16 +216,21 @@ fn lists_one<F: Files>(
             items.into_store();
             Ok(any)
         }
-        Err(iter::Error::Memory) => Err(Fatal::Memory),
-        Err(error) => Err(Fatal::List(error)),
+        // There was no memory.
+        Err(_) => Err(Fatal::Memory),
     }
 }
 
 /// Whether there is a reference whose name begins with this prefix.
 #[tactic(auto, using(crate::proofs::Looking::looks_on, crate::proofs::Looking::looks_same))]
 fn has_below<F: Files>(alloc: Global, store: &mut Store<F>, prefix: &[u8]) -> Result<bool, Fatal>
+    ensures lists { F.honest → (records : List Record) → AreRecordsIn F.means store.old records →
+        IfOk result (λ any. MatchBool any
+        (ListsOne F.honest F.means F.faults store.old records prefix.now)
+        (ListsNone F.honest F.means store.old records prefix.now)) }
     ensures unchanged { LooksUp F.honest F.means store.old store.new }
-    ensures fails { IfErr result IsLookFailure }
+    ensures fails { IfErr result
+        (IsListFailure F.honest F.means F.faults F.Reader.ReadAt store.old prefix.now) }
 {
     let names = match store.walk_prefixed(alloc, prefix) {
         Ok(names) => names,
@@ -152,6 +242,41 @@ fn has_below<F: Files>(alloc: Global, store: &mut Store<F>, prefix: &[u8]) -> Re
     }
 }
 
+/// What the names below a name begin with.
+fn prefix_below(alloc: Global, name: &FullName) -> Result<Vec<u8>, AllocError>
+    ensures { IfOk result (λ prefix. prefix.items ≡ front_below (full_bytes name.now)) }
+{
+    let mut prefix = name.to_path().to_vec(alloc)?;
+    prefix.push(b'/')?;
+    Ok(prefix)
+}
+
+/// Whether a name is in the way of another.
+#[tactic(auto, using(crate::proofs::Looking::looks_on, crate::proofs::Looking::looks_same))]
+fn is_in_the_way<F: Files>(
+    alloc: Global,
+    store: &mut Store<F>,
+    name: &FullName,
+    edited: &[&[u8]],
+) -> Result<bool, Fatal>
+    ensures clashes { F.honest → (records : List Record) → AreRecordsIn F.means store.old records →
+        (edits : List AnEdit) → AreNamesOf edits edited.now → IfOk result
+        (λ clashes. MatchBool clashes
+        (IsInTheWay F.honest F.means F.faults store.old edits records (full_bytes name.now))
+        (IsClearName (targets_in F.means store.old records) edits
+        (ListsNone F.honest F.means store.old records) (full_bytes name.now))) }
+    ensures unchanged { LooksUp F.honest F.means store.old store.new }
+    ensures fails { IfErr result
+        (IsNameFailure F.honest F.means F.faults F.Reader.ReadAt store.old
+        (full_bytes name.now)) }
+{
+    if is_below_one(alloc, store, name.to_path(), edited)? {
+        return Ok(true);
+    }
+    let prefix = prefix_below(alloc, name)?;
+    has_below(alloc, store, &prefix)
+}
+
 /// Refuses an edit that makes a reference with a name in the way of another, or another in its way.
 #[tactic(auto, using(crate::proofs::Looking::looks_on, crate::proofs::Looking::looks_same))]
 fn check_name<F: Files>(
@@ -160,25 +285,27 @@ fn check_name<F: Files>(
     edit: &RefEdit,
     edited: &[&[u8]],
 ) -> Result<(), Fatal>
+    ensures clear { F.honest → (records : List Record) → AreRecordsIn F.means store.old records →
+        (edits : List AnEdit) → AreNamesOf edits edited.now → OnOk result
+        (IsClearEdit (targets_in F.means store.old records) edits
+        (ListsNone F.honest F.means store.old records) edit.now) }
     ensures unchanged { LooksUp F.honest F.means store.old store.new }
-    ensures fails { IfErr result IsLookFailure }
+    ensures fails { (edits : List AnEdit) → AreNamesOf edits edited.now → IfErr result
+        (IsEditFailure F.honest F.means F.faults F.Reader.ReadAt store.old edits edit.now) }
 {
     let Some(name) = missing_name(alloc, store, edit)? else {
         return Ok(());
     };
-    if is_below_one(alloc, store, name.to_path(), edited)? {
-        return Err(Fatal::Clash(name));
-    }
-    let mut prefix = name.to_path().to_vec(alloc)?;
-    prefix.push(b'/').map_err(AllocError::from)?;
-    if has_below(alloc, store, &prefix)? {
+    if is_in_the_way(alloc, store, &name, edited)? {
         return Err(Fatal::Clash(name));
     }
     Ok(())
 }
 
 /// The names of edits, sorted.
-fn names_of(alloc: Global, edits: &[RefEdit]) -> Result<Vec<&[u8]>, AllocError> {
+fn names_of(alloc: Global, edits: &[RefEdit]) -> Result<Vec<&[u8]>, AllocError>
+    ensures { IfOk result (λ names. AreNamesOf edits.now names.items) }
+{
     let mut names = Vec::new(alloc);
     for edit in edits {
         names.push(edit.name.to_path())?;
@@ -194,8 +321,10 @@ pub(crate) fn check_names<F: Files>(
     store: &mut Store<F>,
     edits: &[RefEdit],
 ) -> Result<(), Fatal>
+    ensures clear { OnOk result (AreClear F.honest F.means store.old edits.now) }
     ensures unchanged { LooksUp F.honest F.means store.old store.new }
-    ensures fails { IfErr result IsLookFailure }
+    ensures fails { IfErr result
+        (IsLookFailure F.honest F.means F.faults F.Reader.ReadAt store.old edits.now) }
 {
     let edited = names_of(alloc, edits)?;
     for edit in edits {

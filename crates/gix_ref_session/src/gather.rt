@@ -5,7 +5,7 @@ ghost use Rattle.gix_ref_session.specs.Commands.{IsCommand, IsNoCommand, Start, 
 ghost use Rattle.gix_ref_session.specs.Quotes.{ArePlain};
 ghost use Rattle.gix_ref_session.specs.Edits.{IsEditOf, IsNoEdit};
 ghost use Rattle.gix_ref_edits.specs.declared.transaction.RefEdit.{RefEdit as AnEdit};
-ghost use Rattle.gix_ref_session.specs.Gathering.{CannotGoOn, GathersOrCloses, IsGathered, IsMalformed, IsNotDone, IsStopped, IsToldOf, IsUnheard, IsUnsaid, StopsShort, TakesOrCloses, as_gathering};
+ghost use Rattle.gix_ref_session.specs.Gathering.{CannotGoOn, GathersOrCloses, IsGathered, IsMalformed, IsNotDone, IsStopped, IsReportOf, IsUnheard, IsUnsaid, StopsShort, TakesOrCloses, as_gathering};
 ghost use Rattle.gix_ref_session.specs.Input.{AreWords, Hears};
 
 use crate::command::{Asked, Command, Malformed, parse, words_of};
@@ -62,7 +62,7 @@ pub(crate) fn say<W: Write>(out: &mut W, answer: &[u8]) -> Result<(), Fatal>
 
 /// A text that is no command.
 fn malformed(text: &[u8], why: Malformed, alloc: Global) -> Fatal
-    ensures { IsStopped result ⊎ IsToldOf text.now result }
+    ensures { IsStopped result ⊎ IsReportOf text.now result }
 {
     let why = match text.first() {
         None => Malformed::Empty,
@@ -87,7 +87,7 @@ fn command_in<'t>(
 ) -> Result<Command<'t>, Fatal>
     ensures parsed { IfOk result (λ command. IsCommand session.now.format session.now.object_hash
         (texts words.now) (heard_of command)) }
-    ensures fails { IfErr result (λ fatal. IsStopped fatal ⊎ (IsToldOf text.now fatal
+    ensures fails { IfErr result (λ fatal. IsStopped fatal ⊎ (IsReportOf text.now fatal
         × IsNoCommand session.now.format session.now.object_hash (texts words.now))) }
 {
     match parse(words, session.format, session.object_hash) {
@@ -107,7 +107,7 @@ fn quoted_command<'t>(
     ensures parsed { IfOk result (λ command. (plain : List (List ℕ))
         × ArePlain (texts words.now) plain
         × IsCommand session.now.format session.now.object_hash plain (heard_of command)) }
-    ensures fails { IfErr result (λ fatal. IsStopped fatal ⊎ (IsToldOf text.now fatal
+    ensures fails { IfErr result (λ fatal. IsStopped fatal ⊎ (IsReportOf text.now fatal
         × ((plain : List (List ℕ)) → ArePlain (texts words.now) plain →
         IsNoCommand session.now.format session.now.object_hash plain))) }
 {
@@ -129,7 +129,7 @@ fn line_command<'t>(
     ensures parsed { IfOk result (λ command. (plain : List (List ℕ))
         × ArePlain (texts words.now) plain
         × IsCommand session.now.format session.now.object_hash plain (heard_of command)) }
-    ensures fails { IfErr result (λ fatal. IsStopped fatal ⊎ (IsToldOf text.now fatal
+    ensures fails { IfErr result (λ fatal. IsStopped fatal ⊎ (IsReportOf text.now fatal
         × ((plain : List (List ℕ)) → ArePlain (texts words.now) plain →
         IsNoCommand session.now.format session.now.object_hash plain))) }
 {

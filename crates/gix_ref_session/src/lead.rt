@@ -1,14 +1,15 @@
 //! Where symbolic references lead the edits of a transaction, as git has it: an update of the branch that `HEAD` leads to is made through
 //! `HEAD`, whose log has its line too, and a deletion that follows is of the reference at the end.
-ghost use Rattle.std.specs.Prelude.{◌≡◌, List, codes, is_none, is_some, IfErr, IfOk};
+ghost use Rattle.std.specs.Prelude.{◌≡◌, List, codes, is_none, is_some, IfErr, IfOk, OnOk};
 ghost use Rattle.std.specs.Option.{option_map};
 ghost use Rattle.gix_ref_edits.specs.RefEdits.{SameChange, name_of};
 ghost use Rattle.gix_ref_name.specs.Names.{full_bytes, full_ref_bytes};
 ghost use Rattle.gix_ref_target.specs.PackedRecords.{Record};
 ghost use Rattle.gix_ref_store.specs.Lookup.{AreRecordsIn, LooksUp};
-ghost use Rattle.gix_ref_queries.specs.Resolving.{finds_in, reads, resolved};
+ghost use Rattle.gix_ref_queries.specs.Resolving.{targets_in, resolved};
+ghost use Rattle.gix_ref_session.specs.Clashes.{AreClear, IsFindFailure, IsLookFailure};
 ghost use Rattle.gix_ref_session.specs.Leading.{AreLed, LeadsTo, branch_of, is_followed, is_through_head, last_of, next_of, updates, LeadsIn};
-ghost use Rattle.gix_ref_session.specs.Sessions.{IsLookFailure};
+ghost use Rattle.gix_ref_session.specs.declared.fatal.Fatal.TheVariants.{Memory};
 
 use crate::clash::check_names;
 use crate::fatal::Fatal;
@@ -29,9 +30,10 @@ fn next_name<F: Files>(
 ) -> Result<Option<FullName>, Fatal>
     ensures reads { F.honest → (records : List Record) → AreRecordsIn F.means store.old records →
         IfOk result (λ next. option_map full_bytes next
-        ≡ next_of (reads (finds_in F.means store.old records) (full_ref_bytes name.entry))) }
+        ≡ next_of (targets_in F.means store.old records (full_ref_bytes name.entry))) }
     ensures unchanged { LooksUp F.honest F.means store.old store.new }
-    ensures fails { IfErr result IsLookFailure }
+    ensures fails { IfErr result
+        (IsFindFailure F.honest F.means F.faults F.Reader.ReadAt store.old) }
 {
     match read_name(alloc, store, name) {
         NameRead::Is(Target::Symbolic(next)) => Ok(Some(next)),
@@ -50,9 +52,10 @@ fn end_of_chain<F: Files>(
 ) -> Result<Option<FullName>, Fatal>
     ensures ends { F.honest → (records : List Record) → AreRecordsIn F.means store.old records →
         IfOk result (λ last. option_map full_bytes last
-        ≡ last_of (resolved (finds_in F.means store.old records) 5 (full_bytes name.now))) }
+        ≡ last_of (resolved (targets_in F.means store.old records) 5 (full_bytes name.now))) }
     ensures unchanged { LooksUp F.honest F.means store.old store.new }
-    ensures fails { IfErr result IsLookFailure }
+    ensures fails { IfErr result
+        (IsFindFailure F.honest F.means F.faults F.Reader.ReadAt store.old) }
 {
     let Followed { name: last, end } = follow(alloc, store, name.clone()?);
     match end {
@@ -67,7 +70,7 @@ fn end_of_chain<F: Files>(
 /// The name `HEAD`.
 fn head(alloc: Global) -> Result<FullName, Fatal>
     ensures is_head { IfOk result (λ name. full_bytes name ≡ codes "HEAD") }
-    ensures fails { IfErr result IsLookFailure }
+    ensures memory { IfErr result (λ fatal. fatal ≡ Memory) }
 {
     match FullNameRef::try_from(b"HEAD".as_slice()) {
         Ok(head) => Ok(head.to_owned(alloc)?),
@@ -84,9 +87,10 @@ fn head_branch<F: Files>(
 ) -> Result<Option<FullName>, Fatal>
     ensures branch { F.honest → (records : List Record) → AreRecordsIn F.means store.old records →
         IfOk result (λ branch. option_map full_bytes branch
-        ≡ branch_of (finds_in F.means store.old records) writes_lines) }
+        ≡ branch_of (targets_in F.means store.old records) writes_lines) }
     ensures unchanged { LooksUp F.honest F.means store.old store.new }
-    ensures fails { IfErr result IsLookFailure }
+    ensures fails { IfErr result
+        (IsFindFailure F.honest F.means F.faults F.Reader.ReadAt store.old) }
 {
     if !writes_lines {
         return Ok(None);
@@ -123,10 +127,11 @@ fn is_through_head<F: Files>(
     branch: &Option<FullName>,
 ) -> Result<bool, Fatal>
     ensures through { F.honest → (records : List Record) → AreRecordsIn F.means store.old records →
-        IfOk result (λ through. through ≡ is_through_head (finds_in F.means store.old records)
+        IfOk result (λ through. through ≡ is_through_head (targets_in F.means store.old records)
         (option_map full_bytes branch.now) edit.now) }
     ensures unchanged { LooksUp F.honest F.means store.old store.new }
-    ensures fails { IfErr result IsLookFailure }
+    ensures fails { IfErr result
+        (IsFindFailure F.honest F.means F.faults F.Reader.ReadAt store.old) }
 {
     let Some(branch) = branch else {
         return Ok(false);
@@ -152,11 +157,12 @@ fn led_edit<F: Files>(
     branch: &Option<FullName>,
 ) -> Result<RefEdit, Fatal>
     ensures leads { F.honest → (records : List Record) → AreRecordsIn F.means store.old records →
-        IfOk result (LeadsTo (finds_in F.means store.old records)
+        IfOk result (LeadsTo (targets_in F.means store.old records)
         (option_map full_bytes branch.now) edit.now) }
     ensures change { IfOk result (λ led. SameChange edit.now.change led.change) }
     ensures unchanged { LooksUp F.honest F.means store.old store.new }
-    ensures fails { IfErr result IsLookFailure }
+    ensures fails { IfErr result
+        (IsFindFailure F.honest F.means F.faults F.Reader.ReadAt store.old) }
 {
     let mut led = edit.clone()?;
     if is_through_head(alloc, store, edit, branch)? {
@@ -181,10 +187,12 @@ pub(crate) fn led_edits<F: Files>(
     writes_lines: bool,
     edits: &[RefEdit],
 ) -> Result<Vec<RefEdit>, Fatal>
+    ensures clear { OnOk result (AreClear F.honest F.means store.old edits.now) }
     ensures led { IfOk result (λ led. AreLed
         (LeadsIn F.honest F.means store.old writes_lines) edits.now led.items) }
     ensures unchanged { LooksUp F.honest F.means store.old store.new }
-    ensures fails { IfErr result IsLookFailure }
+    ensures fails { IfErr result
+        (IsLookFailure F.honest F.means F.faults F.Reader.ReadAt store.old edits.now) }
 {
     check_names(alloc, store, edits)?;
     let branch = head_branch(alloc, store, writes_lines)?;

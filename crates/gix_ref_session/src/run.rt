@@ -2,7 +2,6 @@
 ghost use Rattle.std.specs.Prelude.{◌≡◌, MatchResult};
 ghost use Rattle.std.specs.Option.{option_map};
 ghost use Rattle.gix_ref_log.specs.Signatures.{signature_ref_who};
-ghost use Rattle.gix_ref_packed.specs.OpenFiles.{HasReadFault};
 ghost use Rattle.gix_ref_program.specs.Runs.{IsStoreOf, NoStore};
 ghost use Rattle.gix_ref_session.specs.Runs.{IsOpened, IsUnopened, IsRefusedFor, Runs};
 
@@ -66,7 +65,7 @@ pub fn run<F: Files, C: Clock, R: BufRead, W: Write>(
     input: &mut R,
     out: &mut W,
 ) -> RunResult<F>
-    ensures { Runs F.honest (HasReadFault F.Reader.faults) F.means F.faults line.now files
+    ensures { Runs F.Reader.ReadAt F.honest F.means F.faults line.now files
         result.files (R.remaining input.old) (R.remaining input.new) (W.contents out.old)
         (W.contents out.new) result.result }
 {

@@ -87,7 +87,7 @@ fn settle<F: Files, C: Clock, R: BufRead, W: Write>(
     texts: &mut Texts,
 ) -> Result<bool, Fatal>
     requires { closing ≢ Closing.Abort }
-    ensures ends { Settles F.honest (HasReadFault F.Reader.faults) F.means F.faults session.now
+    ensures ends { Settles F.Reader.ReadAt F.honest F.means F.faults session.now
         closing edits.now (way (R.remaining input.old) (W.contents out.old) store.old)
         (way (R.remaining input.new) (W.contents out.new) store.new) result }
     ensures leaves { F.honest → Leaves (F.means (files_of store.old)) (F.means (files_of store.new))
@@ -123,7 +123,7 @@ fn close<F: Files, C: Clock, R: BufRead, W: Write>(
     out: &mut W,
     texts: &mut Texts,
 ) -> Result<bool, Fatal>
-    ensures ends { Closes F.honest (HasReadFault F.Reader.faults) F.means F.faults session.now
+    ensures ends { Closes F.Reader.ReadAt F.honest F.means F.faults session.now
         closing edits.now gives_up (way (R.remaining input.old) (W.contents out.old) store.old)
         (way (R.remaining input.new) (W.contents out.new) store.new) result }
     ensures leaves { F.honest → Leaves (F.means (files_of store.old)) (F.means (files_of store.new))
@@ -150,7 +150,7 @@ fn transaction<F: Files, C: Clock, R: BufRead, W: Write>(
     out: &mut W,
     texts: &mut Texts,
 ) -> Result<bool, Fatal>
-    ensures { TurnComes F.honest (HasReadFault F.Reader.faults) F.means F.faults session.now
+    ensures { TurnComes F.Reader.ReadAt F.honest F.means F.faults session.now
         (way_on needs_start (R.remaining input.old) (W.contents out.old) store.old)
         (way_on true (R.remaining input.new) (W.contents out.new) store.new) result }
 {
@@ -190,7 +190,7 @@ pub fn serve<F: Files, C: Clock, R: BufRead, W: Write>(
     input: &mut R,
     out: &mut W,
 ) -> Result<(), Fatal>
-    ensures { Serves F.honest (HasReadFault F.Reader.faults) F.means F.faults session.now
+    ensures { Serves F.Reader.ReadAt F.honest F.means F.faults session.now
         (way (R.remaining input.old) (W.contents out.old) store.old)
         (way_on true (R.remaining input.new) (W.contents out.new) store.new) result }
 {

@@ -102,7 +102,7 @@ fn close_by<F: Files, W: Write>(
     requires { heard ≢ Closing.Prepare }
     ensures ends { (old : AStore F) (edits : List AnEdit) → Prepares F.honest F.means F.faults old
         prepared.entry.store.now edits (held_packed prepared.entry.plan)
-        (held_edits prepared.entry.plan) → ClosedBy F.honest (HasReadFault F.Reader.faults) F.means
+        (held_edits prepared.entry.plan) → ClosedBy F.Reader.ReadAt F.honest F.means
         F.faults session.now heard old prepared.exit.0.now edits
         (W.contents out.old) (W.contents out.new) result }
     ensures leaves { (old : AStore F) (edits : List AnEdit) → Prepares F.honest F.means F.faults old
@@ -163,7 +163,7 @@ fn close<F: Files, R: BufRead, W: Write>(
 ) -> Result<bool, Fatal>
     ensures ends { (old : AStore F) (edits : List AnEdit) → Prepares F.honest F.means F.faults old
         prepared.entry.store.now edits (held_packed prepared.entry.plan)
-        (held_edits prepared.entry.plan) → PreparedEnds F.honest (HasReadFault F.Reader.faults)
+        (held_edits prepared.entry.plan) → PreparedEnds F.Reader.ReadAt F.honest
         F.means F.faults session.now Closing.Prepare
         (way (R.remaining input.old) (W.contents out.old) old)
         (way (R.remaining input.new) (W.contents out.new) prepared.exit.0.now) edits result }
@@ -190,8 +190,7 @@ fn commit_at_end<F: Files>(
 ) -> Result<bool, Fatal>
     ensures ends { (input out : Option (List ℕ)) (old : AStore F) (edits : List AnEdit) →
         Prepares F.honest F.means F.faults old prepared.entry.store.now edits
-        (held_packed prepared.entry.plan) (held_edits prepared.entry.plan) → PreparedEnds F.honest
-        (HasReadFault F.Reader.faults) F.means F.faults session.now Closing.End
+        (held_packed prepared.entry.plan) (held_edits prepared.entry.plan) → PreparedEnds F.Reader.ReadAt F.honest F.means F.faults session.now Closing.End
         (way input out old) (way input out prepared.exit.0.now) edits result }
     ensures leaves { (old : AStore F) (edits : List AnEdit) → Prepares F.honest F.means F.faults old
         prepared.entry.store.now edits (held_packed prepared.entry.plan)
@@ -214,8 +213,7 @@ fn commit_and_answer<F: Files, W: Write>(
 ) -> Result<bool, Fatal>
     ensures ends { (input : Option (List ℕ)) (old : AStore F) (edits : List AnEdit) →
         Prepares F.honest F.means F.faults old prepared.entry.store.now edits
-        (held_packed prepared.entry.plan) (held_edits prepared.entry.plan) → PreparedEnds F.honest
-        (HasReadFault F.Reader.faults) F.means F.faults session.now Closing.Commit
+        (held_packed prepared.entry.plan) (held_edits prepared.entry.plan) → PreparedEnds F.Reader.ReadAt F.honest F.means F.faults session.now Closing.Commit
         (way input (W.contents out.old) old) (way input (W.contents out.new) prepared.exit.0.now)
         edits result }
     ensures leaves { (old : AStore F) (edits : List AnEdit) → Prepares F.honest F.means F.faults old
@@ -241,8 +239,7 @@ fn finish<F: Files, R: BufRead, W: Write>(
     requires { closing ≢ Closing.Abort }
     ensures ends { (old : AStore F) (edits : List AnEdit) → Prepares F.honest F.means F.faults old
         prepared.entry.store.now edits (held_packed prepared.entry.plan)
-        (held_edits prepared.entry.plan) → PreparedEnds F.honest
-        (HasReadFault F.Reader.faults) F.means F.faults session.now closing
+        (held_edits prepared.entry.plan) → PreparedEnds F.Reader.ReadAt F.honest F.means F.faults session.now closing
         (way (R.remaining input.old) (W.contents out.old) old)
         (way (R.remaining input.new) (W.contents out.new) prepared.exit.0.now) edits result }
     ensures leaves { (old : AStore F) (edits : List AnEdit) → Prepares F.honest F.means F.faults old
@@ -278,7 +275,7 @@ fn make<F: Files, R: BufRead, W: Write>(
     texts: &mut Texts,
 ) -> Result<bool, Fatal>
     requires { closing ≢ Closing.Abort }
-    ensures ends { MakeEnds F.honest (HasReadFault F.Reader.faults) F.means F.faults session.now
+    ensures ends { MakeEnds F.Reader.ReadAt F.honest F.means F.faults session.now
         closing led.items (way (R.remaining input.old) (W.contents out.old) store.old)
         (way (R.remaining input.new) (W.contents out.new) store.new) result }
     ensures leaves { F.honest → Leaves (F.means (files_of store.old)) (F.means (files_of store.new))
@@ -305,7 +302,7 @@ pub(crate) fn try_once<F: Files, R: BufRead, W: Write>(
     texts: &mut Texts,
 ) -> Result<bool, Fatal>
     requires { closing ≢ Closing.Abort }
-    ensures ends { TryEnds F.honest (HasReadFault F.Reader.faults) F.means F.faults session.now
+    ensures ends { TryEnds F.Reader.ReadAt F.honest F.means F.faults session.now
         closing edits.now (way (R.remaining input.old) (W.contents out.old) store.old)
         (way (R.remaining input.new) (W.contents out.new) store.new) result }
     ensures leaves { F.honest → Leaves (F.means (files_of store.old)) (F.means (files_of store.new))

@@ -1,5 +1,8 @@
 //! The words of the program: `GITDIR [-z] [--sha256] [--namespace NAME] [--as SIGNATURE] [-m MESSAGE] [--create-reflog]
 //! [--without-syncs] [--lock-timeout MS] [--packed-lock-timeout MS]`, in any order after GITDIR.
+ghost use Rattle.std.specs.Prelude.{◌≡◌, ℕ, List, None, true, false, MatchOption, IfSome};
+ghost use Rattle.gix_ref_session.specs.Commands.{texts};
+ghost use Rattle.gix_ref_session.specs.Words.{AreOptions, IsCount, IsFlag, IsRead, IsUnreadable, IsValued, Options, TakesValue, flag_of, is_option, no_options, options_in, valued_of, with_flag};
 
 use crate::input::Format;
 use crate::session::Session;
@@ -26,59 +29,178 @@ pub struct Parsed<'a, 'w> {
     pub rest: &'a [&'w [u8]],
 }
 
+/// An option without a value.
+#[derive(Clone, Copy)]
+pub enum Flag {
+    /// `-z`
+    Nul,
+    /// `--sha256`
+    Sha256,
+    /// `--create-reflog`
+    CreateReflog,
+    /// `--without-syncs`
+    WithoutSyncs,
+}
+
+/// An option with a value.
+#[derive(Clone, Copy)]
+pub enum Valued {
+    /// `--namespace NAME`
+    Namespace,
+    /// `--as SIGNATURE`
+    Committer,
+    /// `-m MESSAGE` or `--message MESSAGE`
+    Message,
+    /// `--lock-timeout MS`
+    LockTimeout,
+    /// `--packed-lock-timeout MS`
+    PackedLockTimeout,
+}
+
 /// How long the lock of a reference is waited for, in milliseconds (`core.filesRefLockTimeout`).
 const LOCK_TIMEOUT: u32 = 100;
 
 /// How long that of `packed-refs` is (`core.packedRefsTimeout`).
 const PACKED_LOCK_TIMEOUT: u32 = 1000;
 
-/// A number of milliseconds, in decimal digits.
-fn milliseconds(word: &[u8]) -> Option<u32> {
-    if word.is_empty() {
+/// A number in decimal digits; `None` for other bytes, and for one that does not fit.
+pub fn count(digits: &[u8]) -> Option<u32>
+    ensures { MatchOption result ((n : ℕ) → IsCount digits.now n → ⊥) (IsCount digits.now) }
+{
+    if digits.first() == Some(&b'+') {
         return None;
     }
-    let mut number = 0u32;
-    for digit in word {
-        if !digit.is_ascii_digit() {
-            return None;
-        }
-        number = number.checked_mul(10)?.checked_add((*digit - b'0') as u32)?;
+    match str::from_utf8(digits) {
+        Ok(text) => text.parse::<u32>().ok(),
+        Err(_) => None,
     }
-    Some(number)
 }
 
-/// Takes an option without a value; false for another word.
-fn take_flag(line: &mut Line<'_>, word: &[u8]) -> bool {
-    match word {
-        b"-z" => line.session.format = Format::Nul,
-        b"--sha256" => line.session.object_hash = Kind::Sha256,
-        b"--create-reflog" => line.session.create_reflog = true,
-        b"--without-syncs" => line.without_syncs = true,
-        _ => return false,
+/// Whether a word is an option.
+fn is_option(word: &[u8]) -> bool
+    ensures { result ≡ is_option word.now }
+{
+    match word.split_first() {
+        Some((first, _)) => *first == b'-',
+        None => false,
     }
-    true
 }
 
-/// Takes an option with its value; `None` for another word, and for a value that is wrong.
-fn take_value<'w>(line: &mut Line<'w>, word: &[u8], value: &'w [u8]) -> Option<()> {
-    match word {
-        b"--namespace" => line.namespace = Some(value),
-        b"--as" => line.session.committer = Some(SignatureRef::decode(value)?),
-        b"-m" | b"--message" => line.session.message = value,
-        b"--lock-timeout" => line.session.lock_timeout = milliseconds(value)?,
-        b"--packed-lock-timeout" => line.session.packed_lock_timeout = milliseconds(value)?,
-        _ => return None,
+/// The option without a value that a word is.
+fn flag_of(word: &[u8]) -> Option<Flag>
+    ensures { result ≡ flag_of word.now }
+{
+    if word == b"-z".as_slice() {
+        return Some(Flag::Nul);
+    }
+    if word == b"--sha256".as_slice() {
+        return Some(Flag::Sha256);
+    }
+    if word == b"--create-reflog".as_slice() {
+        return Some(Flag::CreateReflog);
+    }
+    if word == b"--without-syncs".as_slice() {
+        return Some(Flag::WithoutSyncs);
+    }
+    None
+}
+
+/// The option with a value that a word is.
+fn valued_of(word: &[u8]) -> Option<Valued>
+    ensures { result ≡ valued_of word.now }
+{
+    if word == b"--namespace".as_slice() {
+        return Some(Valued::Namespace);
+    }
+    if word == b"--as".as_slice() {
+        return Some(Valued::Committer);
+    }
+    if word == b"-m".as_slice() {
+        return Some(Valued::Message);
+    }
+    if word == b"--message".as_slice() {
+        return Some(Valued::Message);
+    }
+    if word == b"--lock-timeout".as_slice() {
+        return Some(Valued::LockTimeout);
+    }
+    if word == b"--packed-lock-timeout".as_slice() {
+        return Some(Valued::PackedLockTimeout);
+    }
+    None
+}
+
+/// Sets an option without a value.
+fn set_flag(line: &mut Line<'_>, flag: Flag)
+    ensures options { options_in line.new ≡ with_flag flag (options_in line.old) }
+    ensures dir { line.new.dir ≡ line.old.dir }
+{
+    match flag {
+        Flag::Nul => line.session.format = Format::Nul,
+        Flag::Sha256 => line.session.object_hash = Kind::Sha256,
+        Flag::CreateReflog => line.session.create_reflog = true,
+        Flag::WithoutSyncs => line.without_syncs = true,
+    }
+}
+
+/// Sets an option to its value; `None` where the value is wrong.
+fn set_value<'w>(line: &mut Line<'w>, option: Valued, value: &'w [u8]) -> Option<()>
+    ensures options { MatchOption result
+        ((new : Options) → TakesValue option value.now (options_in line.old) new → ⊥)
+        (λ _. TakesValue option value.now (options_in line.old) (options_in line.new)) }
+    ensures dir { line.new.dir ≡ line.old.dir }
+{
+    match option {
+        Valued::Namespace => line.namespace = Some(value),
+        Valued::Committer => match SignatureRef::decode(value) {
+            Some(committer) => line.session.committer = Some(committer),
+            None => return None,
+        },
+        Valued::Message => line.session.message = value,
+        Valued::LockTimeout => match count(value) {
+            Some(count) => line.session.lock_timeout = count,
+            None => return None,
+        },
+        Valued::PackedLockTimeout => match count(value) {
+            Some(count) => line.session.packed_lock_timeout = count,
+            None => return None,
+        },
     }
     Some(())
 }
 
-/// Whether a word is an option.
-fn is_option(word: &[u8]) -> bool {
-    word.first() == Some(&b'-')
+/// Takes an option without a value; false for another word.
+fn take_flag(line: &mut Line<'_>, word: &[u8]) -> bool
+    ensures taken { result ≡ true → IsFlag word.now (options_in line.old) (options_in line.new) }
+    ensures not_taken { result ≡ false → (flag_of word.now ≡ None) × (line.new ≡ line.old) }
+    ensures dir { line.new.dir ≡ line.old.dir }
+{
+    match flag_of(word) {
+        Some(flag) => {
+            set_flag(line, flag);
+            true
+        }
+        None => false,
+    }
+}
+
+/// Takes an option with its value; `None` for another word, and for a value that is wrong.
+fn take_value<'w>(line: &mut Line<'w>, word: &[u8], value: &'w [u8]) -> Option<()>
+    ensures taken { flag_of word.now ≡ None → MatchOption result
+        ((new : Options) → IsValued word.now value.now (options_in line.old) new → ⊥)
+        (λ _. IsValued word.now value.now (options_in line.old) (options_in line.new)) }
+    ensures dir { line.new.dir ≡ line.old.dir }
+{
+    match valued_of(word) {
+        Some(option) => set_value(line, option, value),
+        None => None,
+    }
 }
 
 /// The line of these words: its options, up to the first word that is none; `None` where they are wrong.
-pub fn parse<'a, 'w>(words: &'a [&'w [u8]]) -> Option<Parsed<'a, 'w>> {
+pub fn parse<'a, 'w>(words: &'a [&'w [u8]]) -> Option<Parsed<'a, 'w>>
+    ensures { MatchOption result (IsUnreadable (texts words.now)) (IsRead (texts words.now)) }
+{
     let (dir, words) = words.split_first()?;
     let mut line = Line {
         dir: *dir,

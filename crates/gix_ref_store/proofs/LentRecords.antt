@@ -4,7 +4,7 @@ use Rattle.gix_ref_files.proofs.Meeting.{no_fewer_starts}
 use Rattle.std.specs.Prelude.{IfSome}
 use denote.Ref.{MutBor}
 use Rattle.gix_ref_files.specs.Files.{Meaning, FaultCounts}
-use Rattle.gix_ref_files.proofs.Moments.{starts}
+use Rattle.gix_ref_files.proofs.Moments.{starts, passes_starts}
 use Rattle.gix_ref_packed_text.specs.declared.raw.Reference.{Reference}
 use Rattle.gix_ref_listing.specs.Items.{IsOfRecord}
 use Rattle.gix_ref_listing.specs.Listings.Listed.{InPacked}
@@ -30,6 +30,7 @@ module _ {F : Type 0} (honest : Type 0) (means : F → Meaning) (faults : F → 
     rises = no_fewer_starts (faults files);
     counts = refl;
     leaves = λ h. starts (means files) _ refl;
+    passes = λ h. passes_starts (means files) _ refl;
     ends = λ none. absurd (cc);
     stays_ended = λ drained. absurd (gave.goes_on drained);
   }

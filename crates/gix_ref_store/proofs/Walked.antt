@@ -19,7 +19,7 @@ use Rattle.gix_ref_lookup.specs.declared.folders.Dirs.{Dirs}
 use Rattle.gix_ref_lookup.specs.declared.settings.Settings.{Settings}
 use Rattle.gix_ref_listing.specs.WholeListings.{HoldsFor, key_in}
 use Rattle.gix_ref_listing.specs.declared.list.LooseNames.{LooseNames}
-use Rattle.gix_ref_listing.proofs.FolderWalks.{met_on, unchanged_on}
+use Rattle.gix_ref_listing.proofs.FolderWalks.{met_on, unchanged_on, untouched_on}
 use Rattle.gix_ref_store.specs.Store.{files_of, folders, kind_of}
 use Rattle.gix_ref_store.specs.Listings.{AreHeldFor, IsReadFor, IsWalkedIn}
 use Rattle.gix_ref_store.specs.Lookup.{AreRecordsIn, LooksUp, RefusesBuffer, view_in}
@@ -32,6 +32,7 @@ module _ {F : Type 0} (honest : Type 0) (means : F → Meaning) where
   pub looks_on : (old mid new : Store F) → LooksUp honest means old mid → LooksUp honest means mid new → LooksUp honest means old new
   looks_on old mid new first second = record {
     leaves = λ h. unchanged_on (means (files_of old)) (means (files_of mid)) (means (files_of new)) (first.leaves h) (second.leaves h);
+    passes = λ h. untouched_on (means (files_of old)) (means (files_of mid)) (means (files_of new)) (first.passes h) (second.passes h);
     same = same_on old mid new first.same second.same;
   }
 

@@ -7,8 +7,9 @@ use Rattle.gix_ref_theory.specs.Lookups.{Hit}
 use Rattle.gix_ref_theory.specs.Readings.Reading.{Is}
 use Rattle.gix_ref_target.specs.PackedRecords.{Record}
 use Rattle.gix_ref_target.specs.Layout.{packed_refs}
-use Rattle.gix_ref_files.specs.Files.{Meaning, Leaves, FaultCounts}
+use Rattle.gix_ref_files.specs.Files.{Meaning, disk_of, Leaves, Passes, FaultCounts}
 use Rattle.gix_ref_files.specs.Calls.{Unchanged}
+use Rattle.gix_ref_files.specs.DiskCalls.{Untouched}
 use Rattle.gix_ref_files.specs.declared.files.ReadAt.{Ghosts}
 use Rattle.gix_ref_files.specs.Tree.{Content, is_file, bytes_of}
 use Rattle.gix_ref_packed.specs.Buffers.{Opened, IsRefusedFile, HoldsRecords, buffer_kind, buffer_text}
@@ -17,7 +18,7 @@ use Rattle.gix_ref_packed.specs.declared.packed.buffer.open.Error.{Error as Open
 use Rattle.gix_ref_packed_text.specs.declared.raw.Reference.{Reference}
 use Rattle.gix_ref_theory.specs.Views.{View}
 use Rattle.gix_ref_theory.specs.OnRealTrees.{view_of}
-use Rattle.gix_ref_lookup.specs.Lookups.{ReturnsHit, ArePackedRecords, AreAsked, IsSound, IsHitOf, FailsAmong, lookup_of, asked_names, name_asked, AreMissing, AreStillAsked}
+use Rattle.gix_ref_lookup.specs.Lookups.{ReturnsHit, ArePackedRecords, AreAsked, IsSound, IsHit, IsHitOf, IsCandidate, IsMissing, CandidateFails, FailsAmong, lookup_of, asked_names, name_asked, AreMissing, AreStillAsked}
 use Rattle.gix_ref_lookup.specs.declared.loose.Reference.{Reference as Loose}
 use Rattle.gix_ref_lookup.specs.declared.settings.Settings.{Settings}
 use Rattle.gix_ref_lookup.specs.declared.find.records.Records.{Records}
@@ -106,6 +107,12 @@ module _ {F : Type 0} (means : F → Meaning) where
   abbrev pub FindsLoose : StoreValue F → List ℕ → Option Loose → Type 0
   FindsLoose store p found = AnswersLoose (hit_in false store [] p) found
 
+  -- A lookup of a full name finds this among these records: nothing where the name reads nothing; else what it reads, with the peeled
+  -- id of a record, under this name, or a packed one under that of its record less the namespace.
+  abbrev pub FindsFull : StoreValue F → List Record → (name : List ℕ) → Option Reference → Type 0
+  FindsFull store records name found =
+      IsCandidate (stores.meaning_of store) (view_in store) records name found
+
   -- one that has to find something finds nothing, or fails by a fault, a loose file or want of memory
   abbrev pub MissesBy : (asks_records : Bool) → StoreValue F → List Record → List ℕ →
       Missing → Type 0
@@ -168,11 +175,21 @@ module _ {F R : Type 0} {G : Ghosts R} (means : F → Meaning) where
       AreMissing (settings_of store) (view_in means store) asked
       (name_asked (composes_in asks_records store) p)
 
+  -- the same of a full name, which alone is asked for
+  abbrev pub HitsFull : StoreValue F → Records R G → (name : List ℕ) → Option Reference → Type 0
+  HitsFull store asked name found = IfSome found
+      (IsHit (settings_of store) (view_in means store) asked name)
+
+  abbrev pub FindsNoFull : StoreValue F → Records R G → (name : List ℕ) → Type 0
+  FindsNoFull store asked name = IsMissing (settings_of store) (view_in means store) asked name
+
 module _ {F : Type 0} (honest : Type 0) (means : F → Meaning) where
-  -- What a lookup changes: nothing but the count of faults and the clock.
+  -- What a lookup changes: nothing but the count of faults and the clock; the disk, with what is not synced of it, stays as it is.
   pub record LooksUp (old new : StoreValue F) : Type 0 where
     pub leaves : honest → Leaves (means (stores.files_of old)) (means (stores.files_of new))
         (Unchanged (means (stores.files_of old)).tree)
+    pub passes : honest → Passes (means (stores.files_of old)) (means (stores.files_of new))
+        (Untouched (disk_of (means (stores.files_of old))))
     pub same : stores.IsSameStore old new
 
 module _ {F R : Type 0} {G : Ghosts R} (honest : Type 0) (means : F → Meaning)
@@ -185,6 +202,12 @@ module _ {F R : Type 0} {G : Ghosts R} (honest : Type 0) (means : F → Meaning)
       ⊎ FailsAmong honest (settings_of old) (means (stores.files_of old)).tree asked
       (faults (stores.files_of old)) (faults (stores.files_of new))
       (asked_names (name_asked (composes_in asks_records old) p)) error
+
+  -- and one of a full name
+  abbrev pub FailsFull : (old new : StoreValue F) → Records R G → (name : List ℕ) → Error → Type 0
+  FailsFull old new asked name error = CandidateFails honest (settings_of old)
+      (means (stores.files_of old)).tree asked
+      (faults (stores.files_of old)) (faults (stores.files_of new)) name error
 
   -- and one that has to find something: it fails, or finds nothing
   abbrev pub MissesIn : (asks_records : Bool) → (old new : StoreValue F) → Records R G → List ℕ →

@@ -6,6 +6,7 @@ use gix_ref_queries::for_each_ref::for_each_ref;
 use gix_ref_queries::locks::{list_locks, remove_locks};
 use gix_ref_queries::reflog::{log_exists, show_log};
 use gix_ref_queries::verify::{symbolic, verify};
+use gix_ref_session::words::count;
 use gix_ref_store::file::Store;
 use std::alloc::{AllocError, Global};
 
@@ -30,12 +31,12 @@ fn two_words<F: Files>(
 ) -> Result<Option<Answer>, AllocError> {
     match (word, last) {
         (b"locks", b"--remove") => Ok(Some(remove_locks(alloc, store)?)),
-        (b"symbolic-ref", name) => Ok(Some(symbolic(alloc, store, name)?)),
+        (b"symbolic-ref", name) => Ok(Some(symbolic(alloc, store, false, name)?)),
         _ => Ok(None),
     }
 }
 
-/// `show-ref --verify NAME`, `reflog exists NAME`, `reflog show NAME`.
+/// `show-ref --verify NAME`, `symbolic-ref --short NAME`, `reflog exists NAME`, `reflog show NAME`.
 fn three_words<F: Files>(
     alloc: Global,
     store: &mut Store<F>,
@@ -45,6 +46,7 @@ fn three_words<F: Files>(
 ) -> Result<Option<Answer>, AllocError> {
     match (word, second) {
         (b"show-ref", b"--verify") => Ok(Some(verify(alloc, store, name)?)),
+        (b"symbolic-ref", b"--short") => Ok(Some(symbolic(alloc, store, true, name)?)),
         (b"reflog", b"exists") => Ok(Some(log_exists(alloc, store, name)?)),
         (b"reflog", b"show") => Ok(Some(show_log(alloc, store, name, None)?)),
         _ => Ok(None),
@@ -60,23 +62,6 @@ struct Each<'w> {
     patterns: Vec<&'w [u8]>,
 }
 
-/// A number in decimal digits; `None` for other bytes, and for one that does not fit.
-fn number(digits: &[u8]) -> Option<usize> {
-    if digits.is_empty() {
-        return None;
-    }
-    let mut number = 0usize;
-    for digit in digits {
-        if !digit.is_ascii_digit() {
-            return None;
-        }
-        number = number
-            .checked_mul(10)?
-            .checked_add((*digit - b'0') as usize)?;
-    }
-    Some(number)
-}
-
 /// Takes an option; false for another word.
 fn take_option<'w>(each: &mut Each<'w>, word: &'w [u8]) -> bool {
     if let Some(format) = word.strip_prefix(b"--format=".as_slice()) {
@@ -84,11 +69,15 @@ fn take_option<'w>(each: &mut Each<'w>, word: &'w [u8]) -> bool {
         return true;
     }
     if let Some(digits) = word.strip_prefix(b"--count=".as_slice()) {
-        let Some(count) = number(digits) else {
+        let Some(count) = count(digits) else {
             return false;
         };
         // All where it is 0.
-        each.count = if count == 0 { None } else { Some(count) };
+        each.count = if count == 0 {
+            None
+        } else {
+            Some(count as usize)
+        };
         return true;
     }
     match word {
@@ -145,8 +134,8 @@ fn show_some<F: Files>(
     digits: &[u8],
     name: &[u8],
 ) -> Result<Option<Answer>, AllocError> {
-    match number(digits) {
-        Some(count) => Ok(Some(show_log(alloc, store, name, Some(count))?)),
+    match count(digits) {
+        Some(count) => Ok(Some(show_log(alloc, store, name, Some(count as usize))?)),
         None => Ok(None),
     }
 }

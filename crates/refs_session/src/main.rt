@@ -5,11 +5,13 @@
 #![tactic(auto)]
 
 mod ask;
+mod pack;
 
 use ask::answer_to;
 use bstr::ByteSlice;
 use gix_ref_files::disk::Disk;
 use gix_ref_program::open::lent_words;
+use gix_ref_queries::answer::Answer;
 use gix_ref_session::fatal::Fatal;
 use gix_ref_session::run::{open, run};
 use gix_ref_session::words::{Line, Parsed, parse};
@@ -44,14 +46,45 @@ fn serve_input(rt: &HostRuntime, line: &Line<'_>) -> Result<u8, Fatal> {
     Ok(0)
 }
 
-/// Answers a command of the command line, and returns its status: 129 for one that is none.
-fn answer_words(rt: &HostRuntime, parsed: &Parsed<'_, '_>) -> Result<u8, Fatal> {
-    let files = disk(rt, &parsed.line)?;
-    let mut store = match open(rt.alloc(), files, &parsed.line) {
+/// The words after `pack-refs`, where that is the command.
+fn packing_words<'a, 'w>(words: &'a [&'w [u8]]) -> Option<&'a [&'w [u8]]> {
+    let (first, rest) = words.split_first()?;
+    if *first == b"pack-refs".as_slice() {
+        Some(rest)
+    } else {
+        None
+    }
+}
+
+/// The answer to the words of a command; `None` where they are none.
+fn answer_of(rt: &HostRuntime, parsed: &Parsed<'_, '_>) -> Result<Option<Answer>, Fatal> {
+    let alloc = rt.alloc();
+    let mut files = disk(rt, &parsed.line)?;
+    let packing = match packing_words(parsed.rest) {
+        Some(words) => {
+            let Some(asked) = pack::parse(words) else {
+                return Ok(None);
+            };
+            match pack::read_objects(alloc, &mut files, &asked)? {
+                Ok(objects) => Some((asked, objects)),
+                Err(answer) => return Ok(Some(answer)),
+            }
+        }
+        None => None,
+    };
+    let mut store = match open(alloc, files, &parsed.line) {
         Ok(store) => store,
         Err((_, fatal)) => return Err(fatal),
     };
-    let Some(answer) = answer_to(rt.alloc(), &mut store, parsed.rest)? else {
+    match packing {
+        Some((asked, objects)) => Ok(Some(pack::pack(alloc, &mut store, &asked, objects)?)),
+        None => Ok(answer_to(alloc, &mut store, parsed.rest)?),
+    }
+}
+
+/// Answers a command of the command line, and returns its status: 129 for one that is none.
+fn answer_words(rt: &HostRuntime, parsed: &Parsed<'_, '_>) -> Result<u8, Fatal> {
+    let Some(answer) = answer_of(rt, parsed)? else {
         let _ = eprintln!(rt; "usage: refs-session GITDIR [options] [command]");
         return Ok(129);
     };

@@ -6,15 +6,13 @@ ghost use Rattle.gix_ref_name.specs.Namespaces.{stripped};
 ghost use Rattle.gix_ref_target.specs.PackedRecords.{Record};
 ghost use Rattle.gix_ref_target.specs.Targets.{target_value};
 ghost use Rattle.gix_ref_target.specs.Targets.TargetValue.{object_id};
-ghost use Rattle.gix_ref_files.specs.Files.{AtEveryStop};
-ghost use Rattle.gix_ref_files.specs.Calls.{Unchanged};
 ghost use Rattle.gix_ref_theory.specs.OnRealTrees.{contents};
 ghost use Rattle.gix_ref_lookup.specs.StoreLayout.{namespace_text};
 ghost use Rattle.gix_ref_packed_text.specs.Positions.{CannotRead};
 ghost use Rattle.gix_ref_packed.specs.Buffers.{IsRefusedFile};
 ghost use Rattle.gix_ref_packed.specs.OpenFiles.{HasReadFault};
 ghost use Rattle.gix_ref_lookup.specs.Lookups.{AreAsked, AreAskedWith, AreHonest, CandidateFails, FindsNone, HasKey, HasNoKey, IsByRecord, IsCandidate, IsFaultOf, IsFaultOrMemory, IsHit, IsHitOfKey, IsLooseTarget, IsMissing, IsNotPacked, IsNotRead, IsNotReadAt, IsOfKey, IsReady, IsSearched, IsSearchedWith, IsSound, OfKey, OfSearched, SearchesNone, meaning_in, packed_refs_in};
-ghost use Rattle.gix_ref_lookup.specs.Looks.{OnlyLooks};
+ghost use Rattle.gix_ref_files.specs.ReadOnly.{OnlyReads};
 
 use crate::find::loose::{Loose, loose_at};
 use crate::find::records::Records;
@@ -44,7 +42,7 @@ pub fn read_at<F: Files>(
     ensures failed { IfErr result (IsNotReadAt F.honest settings.entry.kind
         (meaning_in settings.entry) (contents F.means files.old) (F.faults files.old)
         (F.faults files.new) (full_ref_bytes name.entry) path.items) }
-    ensures looks { OnlyLooks F.honest F.means F.faults files.old files.new }
+    ensures reads { OnlyReads F.honest F.means F.faults files.old files.new }
     ensures no_fault { OnOk result (F.faults files.new ≡ F.faults files.old) }
 {
     if settings.is_prohibited(&path) {
@@ -86,7 +84,7 @@ fn read_loose<F: Files>(
         (meaning_in settings.entry) (contents F.means files.old) (F.faults files.old)
         (F.faults files.new) (full_ref_bytes name.entry)) }
     ensures no_fault { OnOk result (F.faults files.new ≡ F.faults files.old) }
-    ensures leaves { F.honest → AtEveryStop F.means files.old files.new Unchanged }
+    ensures reads { OnlyReads F.honest F.means F.faults files.old files.new }
 {
     let place = settings.place(alloc, name)?;
     read_at(alloc, files, settings, name, place)
@@ -190,7 +188,7 @@ fn find_at_key<F: Files>(
     ensures still_none { F.honest → SearchesNone (packed_refs_in settings.entry (F.means files.old))
         records.new → SearchesNone (packed_refs_in settings.entry (F.means files.old)) records.old }
     ensures no_fault { OnOk result (F.faults files.new ≡ F.faults files.old) }
-    ensures leaves { F.honest → AtEveryStop F.means files.old files.new Unchanged }
+    ensures reads { OnlyReads F.honest F.means F.faults files.old files.new }
 {
     match records.open(alloc, files, settings) {
         Ok(()) => find_key(alloc, settings.namespace, records, key),
@@ -234,7 +232,7 @@ fn find_packed<F: Files>(
     ensures still_none { F.honest → SearchesNone (packed_refs_in settings.entry (F.means files.old))
         records.new → SearchesNone (packed_refs_in settings.entry (F.means files.old)) records.old }
     ensures no_fault { OnOk result (F.faults files.new ≡ F.faults files.old) }
-    ensures leaves { F.honest → AtEveryStop F.means files.old files.new Unchanged }
+    ensures reads { OnlyReads F.honest F.means F.faults files.old files.new }
 {
     if settings.key_is_name(name) {
         return find_at_key(alloc, files, settings, name, records);
@@ -277,7 +275,7 @@ pub fn find_candidate<F: Files>(
     ensures still_none { F.honest → SearchesNone (packed_refs_in settings.entry (F.means files.old))
         records.new → SearchesNone (packed_refs_in settings.entry (F.means files.old)) records.old }
     ensures no_fault { OnOk result (F.faults files.new ≡ F.faults files.old) }
-    ensures leaves { F.honest → AtEveryStop F.means files.old files.new Unchanged }
+    ensures reads { OnlyReads F.honest F.means F.faults files.old files.new }
 {
     match read_loose(alloc, files, settings, name) {
         Ok(Some(target)) => Ok(Some(Reference {

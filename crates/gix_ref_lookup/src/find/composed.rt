@@ -3,8 +3,7 @@ ghost use Rattle.std.specs.Prelude.{◌≡◌, ◌≢◌, ◌⊎◌, List, IfOk,
 ghost use Rattle.gix_ref_name.specs.ComposedNames.{decomposed};
 ghost use Rattle.gix_ref_name.specs.Names.{full_bytes, partial_bytes, partial_ref_bytes};
 ghost use Rattle.gix_ref_target.specs.PackedRecords.{Record};
-ghost use Rattle.gix_ref_files.specs.Files.{AtEveryStop};
-ghost use Rattle.gix_ref_files.specs.Calls.{Unchanged};
+ghost use Rattle.gix_ref_files.specs.ReadOnly.{OnlyReads};
 ghost use Rattle.gix_ref_theory.specs.OnRealTrees.{contents};
 ghost use Rattle.gix_ref_lookup.specs.Lookups.{AreAskedWith, AreHonest, AreMissing, AreStillAskedWith, FailsAmong, IsGivenOf, IsHitOf, IsSound, ReturnsHit, asked_names, lookup_of, meaning_in, name_asked};
 
@@ -88,7 +87,7 @@ pub fn find_reference<F: Files>(
     ensures asked { F.honest → OnOk result (AreStillAskedWith settings.entry (F.means files.old)
         records.old records.new) }
     ensures no_fault { OnOk result (F.faults files.new ≡ F.faults files.old) }
-    ensures leaves { F.honest → AtEveryStop F.means files.old files.new Unchanged }
+    ensures reads { OnlyReads F.honest F.means F.faults files.old files.new }
 {
     match composed_name(alloc, composes, name) {
         Ok(None) => find_asked(alloc, files, settings, name, records),

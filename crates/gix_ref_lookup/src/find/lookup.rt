@@ -4,8 +4,7 @@ ghost use Rattle.std.specs.List.{AllByRecursion};
 ghost use Rattle.gix_ref_name.specs.Candidates.{candidates, remote_head};
 ghost use Rattle.gix_ref_name.specs.Names.{partial_ref_bytes};
 ghost use Rattle.gix_ref_target.specs.PackedRecords.{Record};
-ghost use Rattle.gix_ref_files.specs.Files.{AtEveryStop};
-ghost use Rattle.gix_ref_files.specs.Calls.{Unchanged};
+ghost use Rattle.gix_ref_files.specs.ReadOnly.{OnlyReads};
 ghost use Rattle.gix_ref_theory.specs.Lookups.{first_hit, hit_or_head, lookup};
 ghost use Rattle.gix_ref_theory.specs.OnRealTrees.{contents};
 ghost use Rattle.gix_ref_lookup.specs.Lookups.{Among, AreAskedWith, AreHonest, AreMissing, AreStillAskedWith, FailsAmong, IsHit, IsMissing, IsSound, ReturnsHit, asked_names, meaning_in};
@@ -45,7 +44,7 @@ fn find_first<F: Files>(
     ensures asked { F.honest → OnOk result (AreStillAskedWith settings.entry (F.means files.old)
         records.old records.new) }
     ensures no_fault { OnOk result (F.faults files.new ≡ F.faults files.old) }
-    ensures leaves { F.honest → AtEveryStop F.means files.old files.new Unchanged }
+    ensures reads { OnlyReads F.honest F.means F.faults files.old files.new }
 {
     let fronts = lookup_prefixes(name);
     for front in fronts {
@@ -82,7 +81,7 @@ fn find_head<F: Files>(
         (λ r. Among (λ n. IsHit {G = F.Reader.ReadAt} settings.entry (contents F.means files.old)
         Records.None n r) (option_to_list (remote_head (partial_ref_bytes name.entry))))) }
     ensures no_fault { OnOk result (F.faults files.new ≡ F.faults files.old) }
-    ensures leaves { F.honest → AtEveryStop F.means files.old files.new Unchanged }
+    ensures reads { OnlyReads F.honest F.means F.faults files.old files.new }
 {
     match remote_head(alloc, name) {
         Ok(Some(head)) => {
@@ -120,7 +119,7 @@ pub fn find_asked<F: Files>(
     ensures asked { F.honest → OnOk result (AreStillAskedWith settings.entry (F.means files.old)
         records.old records.new) }
     ensures no_fault { OnOk result (F.faults files.new ≡ F.faults files.old) }
-    ensures leaves { F.honest → AtEveryStop F.means files.old files.new Unchanged }
+    ensures reads { OnlyReads F.honest F.means F.faults files.old files.new }
 {
     match find_first(alloc, files, settings, name, records) {
         Ok(None) => find_head(alloc, files, settings, name),

@@ -7,11 +7,12 @@ use crate::file::settings::settings;
 use crate::file::store::Store;
 use crate::raw::Reference;
 use gix_ref_files::files::Files;
+use gix_ref_lookup::find::candidate::find_candidate;
 use gix_ref_lookup::find::composed::find_reference;
 pub use gix_ref_lookup::find::records::Records;
 pub use gix_ref_lookup::find::{Error, ReadError, existing};
 use gix_ref_lookup::loose;
-use gix_ref_name::name::PartialNameRef;
+use gix_ref_name::name::{FullNameRef, PartialNameRef};
 use gix_ref_packed::packed::Buffer;
 use std::alloc::Global;
 
@@ -27,12 +28,12 @@ fn not_found(alloc: Global, partial: PartialNameRef<'_>) -> existing::Error
 
 impl<F: Files> Store<F> {
     ghost use Rattle.std.specs.Prelude.{◌≡◌, List, Some, IfOk, IfErr, IfNone, OnOk, true, false, is_some};
-    ghost use Rattle.gix_ref_name.specs.Names.{partial_ref_bytes};
+    ghost use Rattle.gix_ref_name.specs.Names.{full_ref_bytes, partial_ref_bytes};
     ghost use Rattle.gix_ref_target.specs.PackedRecords.{Record};
     ghost use Rattle.gix_ref_lookup.specs.Lookups.{IsSound, AreHonest};
     ghost use Rattle.gix_ref_lookup.specs.declared.find.records.Records.TheVariants.{Unopened};
     ghost use Rattle.gix_ref_store.specs.Store.{files_of};
-    ghost use Rattle.gix_ref_store.specs.Lookup.{AreRecordsIn, AreAskedIn, AreHeld, held, composes_in, FindsBy, FindsAmong, FindsHeld, FindsLoose, HitsIn, FailsIn, MissesIn, MissesBy, MissesAmong, MissesHeld, MissesLoose, LooksUp, AreStillAskedIn, FindsNothing, IfNotFound};
+    ghost use Rattle.gix_ref_store.specs.Lookup.{AreRecordsIn, AreAskedIn, AreHeld, held, composes_in, FindsBy, FindsAmong, FindsFull, FindsHeld, FindsLoose, HitsFull, HitsIn, FailsFull, FailsIn, MissesIn, MissesBy, MissesAmong, MissesHeld, MissesLoose, LooksUp, AreStillAskedIn, FindsNoFull, FindsNothing, IfNotFound};
 
     /// Whether names are composed in a lookup.
     fn composes(&self, asks_records: bool) -> bool
@@ -190,6 +191,48 @@ impl<F: Files> Store<F> {
             Ok(None) => Err(not_found(alloc, partial)),
             Err(error) => Err(existing::Error::Find(error)),
         }
+    }
+
+    /// The reference of this full name, in the namespace of the store: by its loose file, or else by its record in `packed-refs`. Unlike
+    /// `try_find` it looks for no other name that this one may be short for, and for the name as it is, also with `precompose_unicode`.
+    /// `None` where there is no such reference. As `refs_read_raw_ref` of git. Not in gix-ref.
+    ///
+    /// The reference has this name; a packed one that is asked for below `main-worktree/` or `worktrees/` has the name of its record.
+    /// The errors are those of `try_find`. Reads one file, and opens `packed-refs` only where there is no loose file.
+    ///
+    /// ```text
+    /// match store.find_full(alloc, name.as_ref())? {
+    ///     Some(branch) => println!(rt; "{}", branch.target)?,
+    ///     None => println!(rt; "no reference {name}")?,
+    /// }
+    /// ```
+    pub fn find_full(
+        &mut self,
+        alloc: Global,
+        name: FullNameRef<'_>,
+    ) -> Result<Option<Reference>, Error>
+        ensures found { F.honest → (records : List Record) → AreRecordsIn F.means self.old records →
+            IfOk result (FindsFull F.means self.old records (full_ref_bytes name.entry)) }
+        ensures sound { F.honest → (records : List Record) → AreRecordsIn F.means self.old records →
+            IfErr result IsSound }
+        ensures hit { F.honest → IfOk result (HitsFull {G = F.Reader.ReadAt} F.means self.old
+            Unopened (full_ref_bytes name.entry)) }
+        ensures missing { F.honest → IfOk result (λ r. IfNone r (FindsNoFull {G = F.Reader.ReadAt}
+            F.means self.old Unopened (full_ref_bytes name.entry))) }
+        ensures failed { IfErr result (FailsFull {G = F.Reader.ReadAt} F.honest F.means F.faults
+            self.old self.new Unopened (full_ref_bytes name.entry)) }
+        ensures no_fault { OnOk result (F.faults (files_of self.new)
+            ≡ F.faults (files_of self.old)) }
+        ensures unchanged { LooksUp F.honest F.means self.old self.new }
+    {
+        let settings = settings!(self);
+        find_candidate(
+            alloc,
+            &mut self.files,
+            settings,
+            name,
+            &mut Records::Unopened,
+        )
     }
 
     /// As `try_find`, among loose files alone: the name is looked for as it is, also with `precompose_unicode`. One read for each

@@ -27,7 +27,7 @@ returns-in-Ok-None-clause-item g c =
     inr (
       (λ h. subst (λ (p : List ℕ). view p ≡ None) at (rw c.in-Ok-None.field-0-is at (c.in-Ok-None.ensures.found h))),
       subst (λ (p : List ℕ). s.is_prohibited p ≡ false) at c.in-Ok-None.ensures.allowed,
-      packed_from F.honest c.args.settings view (view_of (F.means c.read_at.new.files).tree) (λ h. ap view_of (c.in-Ok-None.ensures.looks.leaves h).tree) c.args.name c.find_packed.result c.find_packed.ensures.item,
+      packed_from F.honest c.args.settings view (view_of (F.means c.read_at.new.files).tree) (λ h. ap view_of (c.in-Ok-None.ensures.reads.leaves h).tree) c.args.name c.find_packed.result c.find_packed.ensures.item,
     )
 
 pub returns-in-Err-clause-item : goal.returns-in-Err-clause-item

@@ -12,6 +12,7 @@ returns-clause-next g c =
       rises = step.rises;
       counts = step.counts;
       leaves = step.leaves;
+      passes = step.passes;
       ends = step.ends;
       stays_ended = step.stays_ended;
     }

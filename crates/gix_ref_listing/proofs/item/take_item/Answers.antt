@@ -20,6 +20,7 @@ returns-in-Some-clause-next g c =
       rises = c.item.ensures.looks.no_fewer;
       counts = counts_none (F.faults before) (F.faults now) c.item.result c.item.ensures.no_fault;
       leaves = c.item.ensures.looks.leaves;
+      passes = c.item.ensures.looks.passes;
       ends = λ none. absurd (cc);
       stays_ended = λ drained. let none = c.take.ensures.stays_ended drained in absurd (cc);
     }

@@ -9,7 +9,7 @@ use Rattle.gix_ref_listing.specs.Walks.{FoundEntry, IsAnyMet, IsFile}
 use Rattle.gix_ref_listing.proofs.FolderWalks.{any_from}
 use Rattle.gix_ref_listing.proofs.PristineLemmas.{says, none_left, found_file}
 use Rattle.gix_ref_listing.proofs.StoreWalks.{all_none}
-use Rattle.gix_ref_lookup.proofs.Looks.{looks_more}
+use Rattle.gix_ref_files.proofs.ReadOnly.{reads_more}
 use Rattle.gix_ref_listing.proofs.pristine.any_readable.Goals as goal
 use Rattle.gix_ref_lookup.specs.Lookups.{Among}
 
@@ -35,7 +35,7 @@ loop-one-preserved g c =
           before.none no.0 h (subst (All U) (sym removal) (All-cons U first rest (subst (λ (T : Tree). IsUnreadableFile s (view_of T) one) (before.looks.leaves h).tree (no.1 h)) all));
       has = λ h has. before.has h (subst (Among R) (sym removal) (inr has));
       files = λ all. All-tail IsFile first rest (subst (All IsFile) removal (before.files all));
-      looks = looks_more _ _ _ _ _ _ before.looks c.is_readable.ensures.looks;
+      looks = reads_more _ _ _ _ _ _ before.looks c.is_readable.ensures.looks;
     }
 
 pub returns-in-None-clause-says : goal.returns-in-None-clause-says

@@ -6,7 +6,7 @@ use Rattle.gix_ref_listing.specs.PristineStores.{IsReadableFile, IsUnreadableFil
 use Rattle.gix_ref_listing.specs.Walks.{FoundEntry, IsFile}
 use Rattle.gix_ref_listing.proofs.pristine.any_readable.Given as goal
 use Rattle.gix_ref_lookup.specs.Lookups.{Among}
-use Rattle.gix_ref_lookup.specs.Looks.{OnlyLooks}
+use Rattle.gix_ref_files.specs.ReadOnly.{OnlyReads}
 
 abbrev pub decreases-loop-one : goal.decreases-loop-one
 decreases-loop-one g l = length l.found.entries
@@ -21,5 +21,5 @@ invariant-loop-one g l =
       none : l.any ≡ false → F.honest → All (λ (e : FoundEntry). IsUnreadableFile (plain l.settings) view e.1) l.found.entries → All (λ (e : FoundEntry). IsUnreadableFile (plain l.settings) view e.1) l.fn.found.entries;
       has : F.honest → Among (λ (e : FoundEntry). IsReadableFile (plain l.settings) view e.1) l.found.entries → Among (λ (e : FoundEntry). IsReadableFile (plain l.settings) view e.1) l.fn.found.entries;
       files : All IsFile l.fn.found.entries → All IsFile l.found.entries;
-      looks : OnlyLooks F.honest F.means F.faults l.fn.files l.files;
+      looks : OnlyReads F.honest F.means F.faults l.fn.files l.files;
     }

@@ -5,7 +5,7 @@ use Rattle.gix_ref_files.specs.Tree.{Tree}
 use Rattle.gix_ref_files.specs.Lock.{lock_of}
 use Rattle.gix_ref_files.proofs.Meeting.{no_fewer_joins}
 use Rattle.gix_ref_lookup.specs.Lookups.{meaning_in}
-use Rattle.gix_ref_lookup.proofs.Looks.{looks_more}
+use Rattle.gix_ref_files.proofs.ReadOnly.{reads_more}
 use Rattle.gix_ref_listing.proofs.StoreWalks.{all_none}
 use Rattle.gix_ref_locks.specs.LockFiles.{IsLockFile}
 use Rattle.gix_ref_locks.proofs.Failing.{fails_earlier}
@@ -24,7 +24,7 @@ search_in-requires-2-clause-folder g c =
     subst (λ (p : List ℕ). p ≢ []) (sym c.deref.ensures.value) (clean_named dirs.git_dir dirs.common_dir dirs.clean).0
 
 pub returns-then-eq-clause-looks : goal.returns-then-eq-clause-looks
-returns-then-eq-clause-looks g c = looks_more _ _ _ _ _ _ c.look_for_packed_lock.ensures.looks c.search_in.ensures.looks
+returns-then-eq-clause-looks g c = reads_more _ _ _ _ _ _ c.look_for_packed_lock.ensures.looks c.search_in.ensures.looks
 
 pub returns-then-eq-clause-only : goal.returns-then-eq-clause-only
 returns-then-eq-clause-only g c h =
@@ -48,10 +48,10 @@ returns-then-eq-clause-each g c h =
     (λ file. c.in_ok-search_in.ensures.stays (lock_of (meaning_in settings).packed_path) (c.in_ok-look_for_packed_lock.ensures.finds h file))
 
 pub returns-in-Ok-clause-looks : goal.returns-in-Ok-clause-looks
-returns-in-Ok-clause-looks g c = looks_more _ _ _ _ _ _ (looks_more _ _ _ _ _ _ c.look_for_packed_lock.ensures.looks c.search_in.ensures.looks) c.search_in-2.ensures.looks
+returns-in-Ok-clause-looks g c = reads_more _ _ _ _ _ _ (reads_more _ _ _ _ _ _ c.look_for_packed_lock.ensures.looks c.search_in.ensures.looks) c.search_in-2.ensures.looks
 
 pub returns-in-Err-clause-looks : goal.returns-in-Err-clause-looks
-returns-in-Err-clause-looks g c = looks_more _ _ _ _ _ _ (looks_more _ _ _ _ _ _ c.look_for_packed_lock.ensures.looks c.search_in.ensures.looks) c.search_in-2.ensures.looks
+returns-in-Err-clause-looks g c = reads_more _ _ _ _ _ _ (reads_more _ _ _ _ _ _ c.look_for_packed_lock.ensures.looks c.search_in.ensures.looks) c.search_in-2.ensures.looks
 
 pub returns-in-Err-clause-failed : goal.returns-in-Err-clause-failed
 returns-in-Err-clause-failed g c =

@@ -1,15 +1,15 @@
 use Rattle.std.proofs.Common.{◌≡◌, ◌+◌, ◌-◌, suc, ◌∙◌, ap, arith, Some}
 use Rattle.gix_ref_name.specs.Names.{full_bytes, full_ref_bytes}
 use Rattle.gix_ref_target.specs.Targets.TargetValue.{object_id, symbolic_name}
-use Rattle.gix_ref_queries.specs.Resolving.{finds_in, resolved}
-use Rattle.gix_ref_queries.proofs.Names.{step_end, same_finds, same_records, looks_up}
+use Rattle.gix_ref_queries.specs.Resolving.{targets_in, resolved}
+use Rattle.gix_ref_queries.proofs.Names.{step_end, same_finds, same_records, looks_up, unread_before}
 use Rattle.gix_ref_queries.proofs.resolve.follow.Goals as goal
 
 pub returns-in-Is-Object-clause-ends : goal.returns-in-Is-Object-clause-ends
 returns-in-Is-Object-clause-ends g c h records are =
     let F = g.F.Files in
-    let find = finds_in F.means c.args.store.now records in
-    let mid = finds_in F.means c.loop.store records in
+    let find = targets_in F.means c.args.store.now records in
+    let mid = targets_in F.means c.loop.store records in
     let last = full_bytes c.loop.last in
     let looked = c.loop.invariant.unchanged in
     let one : 5 - c.loop.counter ≡ suc (4 - c.loop.counter) = omega arith in
@@ -18,8 +18,8 @@ returns-in-Is-Object-clause-ends g c h records are =
 pub returns-in-Absent-clause-ends : goal.returns-in-Absent-clause-ends
 returns-in-Absent-clause-ends g c h records are =
     let F = g.F.Files in
-    let find = finds_in F.means c.args.store.now records in
-    let mid = finds_in F.means c.loop.store records in
+    let find = targets_in F.means c.args.store.now records in
+    let mid = targets_in F.means c.loop.store records in
     let last = full_bytes c.loop.last in
     let looked = c.loop.invariant.unchanged in
     let one : 5 - c.loop.counter ≡ suc (4 - c.loop.counter) = omega arith in
@@ -28,8 +28,7 @@ returns-in-Absent-clause-ends g c h records are =
 pub returns-in-Unread-clause-failed : goal.returns-in-Unread-clause-failed
 returns-in-Unread-clause-failed g c =
     let F = g.F.Files in
-    let u = c.in-Unread.ensures.failed in
-    (u.0, u.1, u.2, u.3, looks_up F.honest F.means c.args.store.now c.loop.store u.0 c.loop.invariant.unchanged u.4, u.5)
+    unread_before g.F.Reader.ReadAt F.honest F.means F.faults c.args.store.now c.loop.store c.in-Unread.error c.loop.invariant.unchanged c.in-Unread.ensures.failed
 
 pub loop-preserved : goal.loop-preserved
 loop-preserved g c =
@@ -41,8 +40,8 @@ loop-preserved g c =
     let less : 4 - c.loop.counter ≡ 5 - (c.loop.counter + 1) = omega arith in
     record {
       ends = λ h records are.
-          let find = finds_in F.means c.args.store.now records in
-          let mid = finds_in F.means c.loop.store records in
+          let find = targets_in F.means c.args.store.now records in
+          let mid = targets_in F.means c.loop.store records in
           step_end find mid (4 - c.loop.counter) last (full_ref_bytes c.as_ref.result) (resolved find 5 (full_bytes c.args.name)) (Some (symbolic_name next)) (c.loop.invariant.ends h records are ∙ ap (λ n. resolved find n last) one) (same_finds F.honest F.means c.args.store.now c.loop.store records looked h) c.as_ref.ensures
           (rw c.in-Is-Symbolic.field-0-is at (c.in-Is-Symbolic.ensures.reads h records (same_records F.honest F.means c.args.store.now c.loop.store records looked h are)))
           ∙ ap (λ n. resolved find n next) less;
@@ -52,4 +51,4 @@ loop-preserved g c =
 pub returns-clause-ends : goal.returns-clause-ends
 returns-clause-ends g c h records are =
     let none : 5 - c.loop.counter ≡ 0 = omega arith in
-    c.loop.invariant.ends h records are ∙ ap (λ n. resolved (finds_in g.F.Files.means c.args.store.now records) n (full_bytes c.loop.last)) none
+    c.loop.invariant.ends h records are ∙ ap (λ n. resolved (targets_in g.F.Files.means c.args.store.now records) n (full_bytes c.loop.last)) none

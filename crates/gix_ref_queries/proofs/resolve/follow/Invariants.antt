@@ -1,7 +1,7 @@
 use Rattle.std.proofs.Common.{◌≡◌, ◌-◌, List}
 use Rattle.gix_ref_name.specs.Names.{full_bytes}
 use Rattle.gix_ref_target.specs.PackedRecords.{Record}
-use Rattle.gix_ref_queries.specs.Resolving.{finds_in}
+use Rattle.gix_ref_queries.specs.Resolving.{targets_in}
 use Rattle.gix_ref_store.specs.Lookup.{AreRecordsIn, LooksUp}
 use Rattle.gix_ref_queries.specs.Resolving.{resolved}
 use Rattle.gix_ref_queries.proofs.resolve.follow.Given as goal
@@ -11,6 +11,6 @@ abbrev pub invariant-loop : goal.invariant-loop
 invariant-loop g l =
     let F = g.F.Files in
     record {
-      ends : F.honest → (records : List Record) → AreRecordsIn F.means l.fn.store records → resolved (finds_in F.means l.fn.store records) 5 (full_bytes l.fn.name) ≡ resolved (finds_in F.means l.fn.store records) (5 - l.counter) (full_bytes l.last);
+      ends : F.honest → (records : List Record) → AreRecordsIn F.means l.fn.store records → resolved (targets_in F.means l.fn.store records) 5 (full_bytes l.fn.name) ≡ resolved (targets_in F.means l.fn.store records) (5 - l.counter) (full_bytes l.last);
       unchanged : LooksUp F.honest F.means l.fn.store l.store;
     }

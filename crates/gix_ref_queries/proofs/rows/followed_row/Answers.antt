@@ -1,16 +1,16 @@
 use Rattle.gix_ref_name.specs.Names.{full_bytes, full_ref_bytes}
-use Rattle.gix_ref_queries.specs.Resolving.{finds_in, resolved}
+use Rattle.gix_ref_queries.specs.Resolving.{targets_in, resolved}
 use Rattle.gix_ref_queries.proofs.RowLemmas.{row_reached, row_missing}
 use Rattle.gix_ref_queries.proofs.rows.followed_row.Goals as goal
 
 pub returns-in-Object-clause-rows : goal.returns-in-Object-clause-rows
 returns-in-Object-clause-rows g c h records are =
     let done = c.follow-last.result in
-    row_reached (resolved (finds_in g.F.Files.means c.args.store.now records) 5) c.args.parts.now (full_ref_bytes c.args.name) (full_bytes c.in_ok-owned.owned) (full_bytes done.name) c.in_ok-owned.ensures
+    row_reached (resolved (targets_in g.F.Files.means c.args.store.now records) 5) c.args.parts.now (full_ref_bytes c.args.name) c.args.short.now (full_bytes c.in_ok-owned.owned) (full_bytes done.name) c.in_ok-owned.ensures
     c.to_path.result.now c.to_path-in-Object.result.now c.in-Object.id done.end c.in_ok-text-in-Object.text.items (c.follow-last.ensures.ends h records are) c.in-Object.is c.to_path.ensures.bytes c.to_path-in-Object.ensures.bytes c.in_ok-text-in-Object.ensures
 
 pub returns-in-Absent-clause-rows : goal.returns-in-Absent-clause-rows
 returns-in-Absent-clause-rows g c h records are =
     let done = c.follow-last.result in
-    row_missing (resolved (finds_in g.F.Files.means c.args.store.now records) 5) c.args.parts.now (full_ref_bytes c.args.name) (full_bytes c.in_ok-owned.owned) (full_bytes done.name) c.in_ok-owned.ensures
+    row_missing (resolved (targets_in g.F.Files.means c.args.store.now records) 5) c.args.parts.now (full_ref_bytes c.args.name) c.args.short.now (full_bytes c.in_ok-owned.owned) (full_bytes done.name) c.in_ok-owned.ensures
     done.end (c.follow-last.ensures.ends h records are) c.in-Absent.is

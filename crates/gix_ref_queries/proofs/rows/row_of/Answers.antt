@@ -1,17 +1,39 @@
-use Rattle.std.proofs.Common.{◌≡◌, ◌∙◌, ap, sym, List, ℕ, Option, Vec}
+use Rattle.std.proofs.Common.{◌≡◌, ◌∙◌, subst, List, ℕ, Option, Vec}
 use Rattle.std.specs.Option.{option_map}
 use Rattle.std.specs.declared.alloc.Global.{Global}
-use Rattle.gix_ref_name.specs.Names.{full_ref_bytes}
-use Rattle.gix_ref_queries.specs.Resolving.{finds_in, resolved}
-use Rattle.gix_ref_queries.specs.Rows.{followed_row, row_of}
-use Rattle.gix_ref_queries.proofs.RowLemmas.{if_ok, row_symbolic}
+use Rattle.gix_ref_name.specs.Names.{full_bytes, full_ref_bytes}
+use Rattle.gix_ref_queries.specs.Resolving.{targets_in, resolved}
+use Rattle.gix_ref_queries.specs.Rows.{IsRowError, followed_row, row_of}
+use Rattle.gix_ref_queries.proofs.Names.{same_finds, same_records}
+use Rattle.gix_ref_queries.proofs.RowLemmas.{if_err, if_ok, row_direct, row_error_before, row_led}
 use Rattle.gix_ref_queries.proofs.rows.row_of.Goals as goal
+
+pub returns-in_ok-text-in-Object-clause-rows : goal.returns-in_ok-text-in-Object-clause-rows
+returns-in_ok-text-in-Object-clause-rows g c h records are =
+    row_direct (targets_in g.F.Files.means c.args.store.now records) c.args.parts.now c.args.reference.now _ (full_ref_bytes c.as_ref-name.result) c.to_path.result.now c.in-Ok.short.now c.in_ok-text-in-Object.text.items c.in-Object.is
+    c.as_ref-name.ensures (c.to_path.ensures.bytes ∙ c.as_ref-name.ensures) (c.in-Ok.ensures.short h records are) c.in_ok-text-in-Object.ensures
 
 pub returns-in-Symbolic-clause-rows : goal.returns-in-Symbolic-clause-rows
 returns-in-Symbolic-clause-rows g c h records are =
-    let find = finds_in g.F.Files.means c.args.store.now records in
+    let F = g.F.Files in
+    let old = c.args.store.now in
+    let mid = c.shown_short.new.store in
+    let looked = c.shown_short.ensures.unchanged in
+    let find = targets_in F.means old records in
     let parts = c.args.parts.now in
+    let name = full_ref_bytes c.as_ref-name.result in
+    let short = c.in-Ok.short.now in
     let texts = λ (row : Option (Vec ℕ Global)). option_map (λ (text : Vec ℕ Global). text.items) row in
-    let row = λ (name : List ℕ). followed_row parts name (resolved find 5 name) in
-    if_ok c.followed_row.result (λ o. texts o ≡ row (full_ref_bytes c.as_ref.result)) (λ o. texts o ≡ row_of find parts c.args.reference.now)
-    (λ o is. is ∙ (ap row c.as_ref.ensures ∙ sym (row_symbolic find parts c.args.reference.now c.in-Symbolic.field-0 c.in-Symbolic.is))) (c.followed_row.ensures.rows h records are)
+    if_ok c.followed_row.result (λ o. texts o ≡ followed_row parts name short (resolved (targets_in F.means mid records) 5 name)) (λ o. texts o ≡ row_of find parts c.args.reference.now)
+    (λ o is. row_led find (targets_in F.means mid records) parts c.args.reference.now c.in-Symbolic.field-0 name name short (texts o) c.in-Symbolic.is (same_finds F.honest F.means old mid records looked h)
+    c.as_ref-name.ensures c.as_ref-name.ensures (c.in-Ok.ensures.short h records are) is) (c.followed_row.ensures.rows h records (same_records F.honest F.means old mid records looked h are))
+
+pub returns-in-Symbolic-clause-failed : goal.returns-in-Symbolic-clause-failed
+returns-in-Symbolic-clause-failed g c =
+    let F = g.F.Files in
+    let G = g.F.Reader.ReadAt in
+    let old = c.args.store.now in
+    let mid = c.shown_short.new.store in
+    let name = full_ref_bytes c.as_ref-name.result in
+    if_err c.followed_row.result (IsRowError F.honest F.means F.faults G mid name) (IsRowError F.honest F.means F.faults G old (full_bytes c.args.reference.now.name))
+    (λ e is. subst (λ (n : List ℕ). IsRowError F.honest F.means F.faults G old n e) c.as_ref-name.ensures (row_error_before G F.honest F.means F.faults old mid name e c.shown_short.ensures.unchanged is)) c.followed_row.ensures.failed

@@ -1,5 +1,5 @@
 use Rattle.std.proofs.Common.{◌∙◌}
-use Rattle.gix_ref_queries.specs.Resolving.{finds_in}
+use Rattle.gix_ref_queries.specs.Resolving.{targets_in}
 use Rattle.gix_ref_queries.specs.Rows.{row_texts}
 use Rattle.gix_ref_queries.proofs.Names.{looks_up, same_finds, same_records}
 use Rattle.gix_ref_queries.proofs.RowLemmas.{rows_more, unfollowed_at}
@@ -18,7 +18,7 @@ loop-reference-preserved g c =
     let looked = c.loop-reference.invariant.unchanged in
     record {
       rows = λ h records are.
-          c.in_ok-keep.ensures ∙ rows_more (finds_in F.means old records) (finds_in F.means mid records) c.args.parts.now c.args.references.now c.loop-reference.reference-index c.reference-item.result (row_texts c.loop-reference.rows.items) _ c.loop-reference-test.true c.reference-item.is (c.loop-reference.invariant.rows h records are)
+          c.in_ok-keep.ensures ∙ rows_more (targets_in F.means old records) (targets_in F.means mid records) c.args.parts.now c.args.references.now c.loop-reference.reference-index c.reference-item.result (row_texts c.loop-reference.rows.items) _ c.loop-reference-test.true c.reference-item.is (c.loop-reference.invariant.rows h records are)
           (same_finds F.honest F.means old mid records looked h) (c.in-Ok.ensures.rows h records (same_records F.honest F.means old mid records looked h are));
       unchanged = looks_up F.honest F.means old mid c.row_of.new.store looked c.row_of.ensures.unchanged;
     }

@@ -2,8 +2,10 @@ use Rattle.std.proofs.Common.{rules, ◌∙◌, sym, Some, None}
 use Rattle.std.specs.Option.{option_map}
 use Rattle.gix_ref_edits.specs.RefEdits.{name_of}
 use Rattle.gix_ref_name.specs.Names.{full_bytes}
-use Rattle.gix_ref_queries.specs.Resolving.{finds_in}
+use Rattle.gix_ref_queries.specs.Resolving.{targets_in}
 use Rattle.gix_ref_queries.proofs.Names.{same_records}
+use Rattle.gix_ref_session.specs.Clashes.{IsFindFailure}
+use Rattle.gix_ref_session.proofs.ClashLemmas.{find_before, told}
 use Rattle.gix_ref_session.proofs.LeadLemmas.{ends_in, to_end, to_itself}
 use Rattle.gix_ref_session.proofs.lead.led_edit.Goals.{then-is_followed+in_ok-name+in-Some, then-is_followed+in_ok-name+in_default, else-is_followed}
 use Rattle.gix_ref_session.proofs.lead.led_edit.Goals as goal
@@ -13,7 +15,7 @@ returns-clause-leads g c h records are =
     let F = g.F.Files in
     let first = c.args.store.now in
     let mid = c.is_through_head.new.store in
-    let find = finds_in F.means first records in
+    let find = targets_in F.means first records in
     let branch = option_map full_bytes c.args.branch.now in
     let edit = c.args.edit.now in
     let looked = c.is_through_head.ensures.unchanged in
@@ -26,3 +28,12 @@ returns-clause-leads g c h records are =
           (ends_in F.honest F.means first mid looked records (name_of edit) None h (rw w.in_default.is at (w.in_ok-name.ensures.ends h records then_are))) (search rules) (search rules)
       | else-is_followed w ↦ to_itself find branch edit c.if-is_followed.led not (sym c.is_followed.ensures ∙ w.if-is_followed.false) (search rules) (search rules)
     ]
+
+pub returns-in_err-name-clause-fails : goal.returns-in_err-name-clause-fails
+returns-in_err-name-clause-fails g c =
+    let F = g.F.Files in
+    let G = g.F.Reader.ReadAt in
+    let first = c.args.store.now in
+    let fatal = c.in_err-name.field-0.0 in
+    told c.from_residual-in_err-name.result fatal (IsFindFailure F.honest F.means F.faults G first) c.from_residual-in_err-name.ensures.1
+    (find_before F.honest F.means first c.is_through_head.new.store c.is_through_head.ensures.unchanged F.faults G fatal c.in_err-name.ensures.fails)

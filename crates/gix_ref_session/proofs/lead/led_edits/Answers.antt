@@ -1,6 +1,8 @@
 use Rattle.std.proofs.Common.{subst, sym, List, []}
 use Rattle.gix_ref_edits.specs.declared.transaction.RefEdit.{RefEdit}
 use Rattle.gix_ref_session.specs.Leading.{AreLed, IsLed, LeadsIn}
+use Rattle.gix_ref_session.specs.Clashes.{IsLookFailure}
+use Rattle.gix_ref_session.proofs.ClashLemmas.{find_look_before, told}
 use Rattle.gix_ref_session.proofs.LeadLemmas.{branch_in, leads_in, led_more}
 use Rattle.gix_ref_session.proofs.Looking.{looks_on}
 use Rattle.gix_ref_session.proofs.lead.led_edits.Goals as goal
@@ -30,3 +32,21 @@ loop-edit-preserved g c =
           (record { change = c.in_ok-edit.ensures.change; leads = leads_in F.honest F.means first mid looked c.args.writes_lines c.loop-edit.branch-1 c.edit-item.result c.in_ok-edit.edit branch c.in_ok-edit.ensures.leads })) c.in_ok-push_edit.ensures,
       branch,
     )
+
+pub returns-in_err-branch-clause-fails : goal.returns-in_err-branch-clause-fails
+returns-in_err-branch-clause-fails g c =
+    let F = g.F.Files in
+    let G = g.F.Reader.ReadAt in
+    let first = c.args.store.now in
+    let fatal = c.in_err-branch.field-0.0 in
+    told c.from_residual-in_err-branch.result fatal (IsLookFailure F.honest F.means F.faults G first c.args.edits.now) c.from_residual-in_err-branch.ensures.1
+    (find_look_before F.honest F.means first c.check_names.new.store c.check_names.ensures.unchanged F.faults G c.args.edits.now fatal c.in_err-branch.ensures.fails)
+
+pub returns-in_err-edit-clause-fails : goal.returns-in_err-edit-clause-fails
+returns-in_err-edit-clause-fails g c =
+    let F = g.F.Files in
+    let G = g.F.Reader.ReadAt in
+    let first = c.args.store.now in
+    let fatal = c.in_err-edit.field-0.0 in
+    told c.from_residual-in_err-edit.result fatal (IsLookFailure F.honest F.means F.faults G first c.args.edits.now) c.from_residual-in_err-edit.ensures.1
+    (find_look_before F.honest F.means first c.loop-edit.store c.loop-edit.invariant.0 F.faults G c.args.edits.now fatal c.in_err-edit.ensures.fails)

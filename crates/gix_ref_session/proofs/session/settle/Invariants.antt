@@ -1,5 +1,4 @@
 use Rattle.std.proofs.Common.{◌≡◌, ◌+◌}
-use Rattle.gix_ref_packed.specs.OpenFiles.{HasReadFault}
 use Rattle.gix_ref_session.proofs.Settling.{SoFar}
 use Rattle.gix_ref_session.proofs.session.settle.Given as goal
 
@@ -9,6 +8,6 @@ decreases-tries g l = l.patience.lock + l.patience.packed
 abbrev pub invariant-tries : goal.invariant-tries
 invariant-tries g l =
     let F = g.F.Files in
-    SoFar F.honest (HasReadFault g.F.Reader.ReadAt.faults) F.means F.faults l.session l.edits l.fn.store l.store l.patience
+    SoFar g.F.Reader.ReadAt F.honest F.means F.faults l.session l.edits l.fn.store l.store l.patience
     × (g.R.Read.remaining l.input ≡ g.R.Read.remaining l.fn.input)
     × (g.W.Write.contents l.out ≡ g.W.Write.contents l.fn.out)

@@ -15,12 +15,11 @@ use Rattle.gix_ref_session.proofs.try_once.make.Goals as goal
 pub returns-in-Ok-clause-ends : goal.returns-in-Ok-clause-ends
 returns-in-Ok-clause-ends g c =
     let F = g.F.Files in
-    let read = HasReadFault g.F.Reader.ReadAt.faults in
     let old = c.args.store.now in
     let mid = c.in-Ok.prepared.store.now in
     let edits = c.args.led.items in
     let from : Prepares F.honest F.means F.faults old mid edits c.in-Ok.prepared.plan.packed c.in-Ok.prepared.plan.edits.items = rw (c.transaction_with.ensures.packed_refs, c.transaction_with.ensures.value) at c.in-Ok.ensures.prepared in
-    at_same (λ now. MakeEnds F.honest read F.means F.faults c.args.session.now c.args.closing edits (way (g.R.Read.remaining c.args.input.now) (g.W.Write.contents c.args.out.now) old) (way (g.R.Read.remaining c.finish.new.input) (g.W.Write.contents c.finish.new.out) now) c.finish.result)
+    at_same (λ now. MakeEnds g.F.Reader.ReadAt F.honest F.means F.faults c.args.session.now c.args.closing edits (way (g.R.Read.remaining c.args.input.now) (g.W.Write.contents c.args.out.now) old) (way (g.R.Read.remaining c.finish.new.input) (g.W.Write.contents c.finish.new.out) now) c.finish.result)
     {x = c.store-in-Ok-1.given.0} {y = c.finish.new.prepared.0} (search rules) (inr (c.finish.ensures.ends old edits from))
 
 pub returns-in-Ok-clause-leaves : goal.returns-in-Ok-clause-leaves
@@ -46,7 +45,7 @@ returns-in-Err-clause-ends g c =
     let i = g.R.Read.remaining c.args.input.now in
     let seen : RefusesGiven F.honest read F.means F.faults (OfFinder claims-value.it c.transaction_with.result.packed_refs) (ends_of meaning-value.it c.transaction_with.result.packed_refs) (mode_in c.transaction_with.result.packed_refs) c.transaction_with.result.store.now new edits c.in-Err.refused.error left = search rules in
     let from : RefusesGiven F.honest read F.means F.faults (OfFinder claims-value.it uses) (ends_of meaning-value.it uses) (mode_in uses) old new edits c.in-Err.refused.error left = rw (c.transaction_with.ensures.packed_refs, c.transaction_with.ensures.value) at seen in
-    at_same (λ now. MakeEnds F.honest read F.means F.faults c.args.session.now c.args.closing edits (way i x old) (way i x now) (Err c.refusal_of.result))
+    at_same (λ now. MakeEnds g.F.Reader.ReadAt F.honest F.means F.faults c.args.session.now c.args.closing edits (way i x old) (way i x now) (Err c.refusal_of.result))
     {x = c.store-in-Err-2.given.0} {y = new} same
     (inl (record { error = c.in-Err.refused.error; is = ap Err c.refusal_of.ensures; refused = record { left = left; fails = from }; input = refl; output = refl }))
 

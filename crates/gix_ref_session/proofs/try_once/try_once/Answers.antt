@@ -10,14 +10,14 @@ returns-in-Ok-clause-ends g c =
     let F = g.F.Files in
     let writes : c.is_some.result ≡ is_some c.args.session.now.committer = search rules in
     let are = subst (λ (b : Bool). AreLed (LeadsIn F.honest F.means c.args.store.now b) c.args.edits.now c.in-Ok.led.items) writes c.in-Ok.ensures.led in
-    inr (record { at = c.led_edits.new.store; led = c.in-Ok.led.items; looked = c.led_edits.ensures.unchanged; are_led = are; ends = c.make.ensures.ends })
+    inr (record { at = c.led_edits.new.store; led = c.in-Ok.led.items; looked = c.led_edits.ensures.unchanged; clear = c.in-Ok.ensures.clear; are_led = are; ends = c.make.ensures.ends })
 
 pub returns-in-Ok-clause-leaves : goal.returns-in-Ok-clause-leaves
 returns-in-Ok-clause-leaves g c =
     let F = g.F.Files in
     let writes : c.is_some.result ≡ is_some c.args.session.now.committer = search rules in
     let are = subst (λ (b : Bool). AreLed (LeadsIn F.honest F.means c.args.store.now b) c.args.edits.now c.in-Ok.led.items) writes c.in-Ok.ensures.led in
-    led_leaves F.honest F.means F.faults c.args.session.now.committer (HasReadFault g.F.Reader.ReadAt.faults) c.args.edits.now c.args.store.now c.led_edits.new.store c.make.new.store c.in-Ok.led.items c.led_edits.ensures.unchanged are c.make.ensures.leaves
+    led_leaves F.honest F.means F.faults c.args.session.now.committer (HasReadFault g.F.Reader.ReadAt.faults) c.args.edits.now c.args.store.now c.led_edits.new.store c.make.new.store c.in-Ok.led.items c.led_edits.ensures.unchanged c.in-Ok.ensures.clear are c.make.ensures.leaves
 
 pub returns-in-Err-clause-ends : goal.returns-in-Err-clause-ends
 returns-in-Err-clause-ends g c = inl (record { fatal = c.in-Err.fatal; is = refl; why = c.in-Err.ensures.fails; looked = c.led_edits.ensures.unchanged; input = refl; output = refl })

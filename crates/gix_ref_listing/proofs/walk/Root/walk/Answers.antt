@@ -4,7 +4,7 @@ use Rattle.std.specs.List.{All}
 use Rattle.gix_ref_files.specs.Tree.{Tree}
 use Rattle.gix_ref_theory.specs.OnRealTrees.{view_of}
 use Rattle.gix_ref_listing.specs.Walks.{IsThereOr, IsLooseName, IsBelow}
-use Rattle.gix_ref_lookup.proofs.Looks.{looks_more}
+use Rattle.gix_ref_files.proofs.ReadOnly.{reads_more}
 use Rattle.gix_ref_listing.proofs.walk.Root.walk.Goals as goal
 
 pub loop-preserved : goal.loop-preserved
@@ -27,5 +27,5 @@ loop-preserved g c =
       paths = λ k d below. inr (done.paths k d below);
       files = λ start le all. done.files start (no_fewer_joins le before.looks.no_fewer) (before.files start le all);
       there = λ h others all. subst (λ (T : Tree). All (IsThereOr others root (view_of T)) found) (before.looks.leaves h).tree (done.there h others (subst (λ (T : Tree). All (IsThereOr others root (view_of T)) c.loop.found.entries) (sym (before.looks.leaves h).tree) (before.there h others all)));
-      looks = looks_more _ _ _ _ _ _ before.looks step.looks;
+      looks = reads_more _ _ _ _ _ _ before.looks step.looks;
     }

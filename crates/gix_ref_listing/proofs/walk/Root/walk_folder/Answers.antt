@@ -52,7 +52,7 @@ returns-in-Ok-keep_unlisted g c =
           let new = g.F.Files.faults c.list.new.self in
           c.keep_unlisted.ensures.files start new (met_wider le (no_fewer_starts new) (met_after c.in-Err.error old new other c.in-Err.ensures.count)) (met_on start old new c.args.found.now.entries (counts_up c.in-Err.error old new c.in-Err.ensures.count) all);
       there = λ h at others all. let way = path_of_folder c.args.self.path.now c.args.folder.now c.requires at in c.keep_unlisted.ensures.there others c.args.self (view_of (g.F.Files.means c.args.files.now).tree) all other (ap (λ p. p ++ 47 ∷ []) (c.in-Ok.ensures way.0 way.2) ∙ sym way.2);
-      looks = record { leaves = c.list.ensures.leaves; no_fewer = counts_up c.in-Err.error _ _ c.in-Err.ensures.count };
+      looks = record { leaves = c.list.ensures.leaves; passes = c.list.ensures.passes; no_fewer = counts_up c.in-Err.error _ _ c.in-Err.ensures.count };
       memory = _;
     }
 

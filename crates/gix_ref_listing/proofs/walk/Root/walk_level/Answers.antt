@@ -6,7 +6,7 @@ use Rattle.gix_ref_files.specs.Tree.{Tree}
 use Rattle.gix_ref_theory.specs.OnRealTrees.{view_of}
 use Rattle.gix_ref_listing.specs.Walks.{Holds, IsThereOr, IsLooseName, IsFolderPath, IsBelow}
 use Rattle.gix_ref_listing.proofs.FolderWalks.{among_next, among_none}
-use Rattle.gix_ref_lookup.proofs.Looks.{looks_more}
+use Rattle.gix_ref_files.proofs.ReadOnly.{reads_more}
 use Rattle.gix_ref_listing.proofs.walk.Root.walk_level.Goals as goal
 use Rattle.gix_ref_lookup.specs.Lookups.{Among}
 
@@ -38,7 +38,7 @@ loop-folder-preserved g c =
       paths = done.paths before.paths;
       files = λ start le all. done.files start (no_fewer_joins le before.looks.no_fewer) (before.files start le all);
       there = λ h others all. subst (λ (T : Tree). All (IsThereOr others root (view_of T)) found) (before.looks.leaves h).tree (done.there h at others (subst (λ (T : Tree). All (IsThereOr others root (view_of T)) c.loop-folder.found.entries) (sym (before.looks.leaves h).tree) (before.there h others all)));
-      looks = looks_more _ _ _ _ _ _ before.looks step.looks;
+      looks = reads_more _ _ _ _ _ _ before.looks step.looks;
     }
 
 pub returns-clause-reaches : goal.returns-clause-reaches

@@ -5,7 +5,7 @@ use Rattle.gix_ref_theory.specs.OnRealTrees.{view_of}
 use Rattle.gix_ref_listing.specs.Walks.{IsThereOr, FoundEntry, StaysFound, IsInnerPath, IsBelow, Holds, IsLooseName, IsFileOrMet}
 use Rattle.gix_ref_listing.proofs.walk.Root.walk_level.Given as goal
 use Rattle.gix_ref_lookup.specs.Lookups.{Among}
-use Rattle.gix_ref_lookup.specs.Looks.{OnlyLooks}
+use Rattle.gix_ref_files.specs.ReadOnly.{OnlyReads}
 
 -- the names below the folders that were seen are found, or are below a folder of the next level
 abbrev pub invariant-loop-folder : goal.invariant-loop-folder
@@ -18,5 +18,5 @@ invariant-loop-folder g l =
       paths : All (λ f. IsInnerPath f.items) l.next.items;
       files : (start : FaultCounts) → NoFewer start (F.faults l.fn.files) → All (IsFileOrMet start (F.faults l.fn.files)) l.fn.found.entries → All (IsFileOrMet start (F.faults l.files)) l.found.entries;
       there : F.honest → (others : List FoundEntry) → All (IsThereOr others l.self view) l.fn.found.entries → All (IsThereOr others l.self view) l.found.entries;
-      looks : OnlyLooks F.honest F.means F.faults l.fn.files l.files;
+      looks : OnlyReads F.honest F.means F.faults l.fn.files l.files;
     }

@@ -3,7 +3,7 @@ use Rattle.std.specs.List.{All}
 use Rattle.gix_ref_files.specs.Tree.{Tree}
 use Rattle.gix_ref_files.specs.Lock.{lock_of}
 use Rattle.gix_ref_lookup.specs.Lookups.{meaning_in}
-use Rattle.gix_ref_lookup.proofs.Looks.{looks_more}
+use Rattle.gix_ref_files.proofs.ReadOnly.{reads_more}
 use Rattle.gix_ref_listing.specs.Walks.{IsBelow}
 use Rattle.gix_ref_locks.specs.LockFiles.{IsLockFile}
 use Rattle.gix_ref_locks.specs.LockWalks.{IsLockBelow}
@@ -30,7 +30,7 @@ loop-preserved g c =
           (before.reaches h stem lock begins);
       paths = λ k d below. inr (done.paths k d below);
       only = λ h all. subst (λ (T : Tree). All (λ p. IsLockFile s T p.items) found) (before.looks.leaves h).tree (done.only h (subst (λ (T : Tree). All (λ p. IsLockFile s T p.items) c.loop.found.keys) (sym (before.looks.leaves h).tree) (before.only h all)));
-      looks = looks_more _ _ _ _ _ _ before.looks step.looks;
+      looks = reads_more _ _ _ _ _ _ before.looks step.looks;
     }
 
 pub returns-then-is_empty-clause-finds : goal.returns-then-is_empty-clause-finds

@@ -3,7 +3,7 @@ use Rattle.std.specs.List.{All}
 use Rattle.gix_ref_hash.specs.Bytes.{BeginsWith}
 use Rattle.gix_ref_files.specs.Lock.{lock_of}
 use Rattle.gix_ref_lookup.specs.Lookups.{meaning_in}
-use Rattle.gix_ref_lookup.specs.Looks.{OnlyLooks}
+use Rattle.gix_ref_files.specs.ReadOnly.{OnlyReads}
 use Rattle.gix_ref_listing.specs.Walks.{IsFolderPath, IsBelow}
 use Rattle.gix_ref_locks.specs.LockFiles.{IsLockFile, HasPath}
 use Rattle.gix_ref_locks.specs.LockWalks.{IsLockBelow, StaysFound}
@@ -21,5 +21,5 @@ invariant-loop g l =
       reaches : F.honest → (stem : List ℕ) → IsLockBelow s front T stem → BeginsWith stem l.start → HasPath (front ++ lock_of stem) l.found.keys ⊎ IsBelow l.folders.items stem;
       paths : All (λ f. IsFolderPath f.items) l.folders.items;
       only : F.honest → All (λ p. IsLockFile s T p.items) l.fn.found.keys → All (λ p. IsLockFile s T p.items) l.found.keys;
-      looks : OnlyLooks F.honest F.means F.faults l.fn.files l.files;
+      looks : OnlyReads F.honest F.means F.faults l.fn.files l.files;
     }

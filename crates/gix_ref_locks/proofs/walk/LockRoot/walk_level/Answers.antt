@@ -4,7 +4,7 @@ use Rattle.gix_ref_hash.specs.Bytes.{BeginsWith}
 use Rattle.gix_ref_files.specs.Tree.{Tree}
 use Rattle.gix_ref_files.specs.Lock.{lock_of}
 use Rattle.gix_ref_lookup.specs.Lookups.{meaning_in}
-use Rattle.gix_ref_lookup.proofs.Looks.{looks_more}
+use Rattle.gix_ref_files.proofs.ReadOnly.{reads_more}
 use Rattle.gix_ref_listing.specs.Walks.{IsFolderPath, IsBelow}
 use Rattle.gix_ref_listing.proofs.FolderWalks.{among_next, among_none}
 use Rattle.gix_ref_locks.specs.LockFiles.{HasPath, IsLockFile}
@@ -37,7 +37,7 @@ loop-folder-preserved g c =
           (before.reaches h stem lock below);
       paths = done.paths before.paths;
       only = λ h all. subst (λ (T : Tree). All (λ p. IsLockFile s T p.items) found) (before.looks.leaves h).tree (done.only h (subst (λ (T : Tree). All (λ p. IsLockFile s T p.items) c.loop-folder.found.keys) (sym (before.looks.leaves h).tree) (before.only h all)));
-      looks = looks_more _ _ _ _ _ _ before.looks step.looks;
+      looks = reads_more _ _ _ _ _ _ before.looks step.looks;
     }
 
 pub walk_folder-requires-clause-path : goal.walk_folder-requires-clause-path

@@ -2,7 +2,7 @@ use Rattle.std.proofs.Common.{ℕ, List, ◌⊎◌, ◌++◌, drop}
 use Rattle.std.specs.List.{All}
 use Rattle.gix_ref_files.specs.Lock.{lock_of}
 use Rattle.gix_ref_lookup.specs.Lookups.{meaning_in}
-use Rattle.gix_ref_lookup.specs.Looks.{OnlyLooks}
+use Rattle.gix_ref_files.specs.ReadOnly.{OnlyReads}
 use Rattle.gix_ref_listing.specs.Walks.{IsInnerPath, IsBelow}
 use Rattle.gix_ref_locks.specs.LockFiles.{IsLockFile, HasPath}
 use Rattle.gix_ref_locks.specs.LockWalks.{IsLockBelow, StaysFound}
@@ -20,5 +20,5 @@ invariant-loop-folder g l =
       reaches : F.honest → (stem : List ℕ) → IsLockBelow s front T stem → IsBelow l.folders stem → HasPath (front ++ lock_of stem) l.found.keys ⊎ (IsBelow l.next.items stem ⊎ IsBelow (drop l.folder-index l.folders) stem);
       paths : All (λ f. IsInnerPath f.items) l.next.items;
       only : F.honest → All (λ p. IsLockFile s T p.items) l.fn.found.keys → All (λ p. IsLockFile s T p.items) l.found.keys;
-      looks : OnlyLooks F.honest F.means F.faults l.fn.files l.files;
+      looks : OnlyReads F.honest F.means F.faults l.fn.files l.files;
     }

@@ -4,7 +4,7 @@ use Rattle.gix_ref_name.specs.Candidates.{candidates, lookup_prefixes}
 use Rattle.gix_ref_name.specs.Names.{partial_ref_bytes, full_ref_bytes}
 use Rattle.gix_ref_target.specs.PackedRecords.{Record}
 use Rattle.gix_ref_files.specs.Tree.{Tree}
-use Rattle.gix_ref_files.proofs.Moments.{joins, weaken}
+use Rattle.gix_ref_files.proofs.ReadOnly.{reads_more}
 use Rattle.gix_ref_theory.specs.Lookups.{first_hit}
 use Rattle.gix_ref_theory.specs.Readings.{reading_among}
 use Rattle.gix_ref_theory.specs.Readings.Reading.{Absent}
@@ -48,7 +48,7 @@ returns-in-Err-clause-failed g c =
     let Fails = λ (n : List ℕ). CandidateFails {R = g.row.F-Reader.Denot} {G = g.F.Reader.ReadAt} g.F.Files.honest settings first.tree c.args.records.now before now n error in
     x.fails now error (fails_here (IsPassed {R = g.row.F-Reader.Denot} {G = g.F.Reader.ReadAt} g.F.Files.honest settings first.tree c.args.records.now) Fails
     (candidates p) i ((get_or lent i d).now ++ p) next
-    (subst Fails named (fails_from g.F.Files.honest settings first.tree mid.tree c.args.records.now c.loop-front.records (λ h. (x.leaves h).tree) x.readers x.searched
+    (subst Fails named (fails_from g.F.Files.honest settings first.tree mid.tree c.args.records.now c.loop-front.records (λ h. (x.reads.leaves h).tree) x.readers x.searched
     before (g.F.Files.faults c.loop-front.files) now (full_ref_bytes c.as_ref.result) error x.no_fault c.in-Err.ensures.failed)))
 
 pub returns-in-Ok-Some-clause-found : goal.returns-in-Ok-Some-clause-found
@@ -64,7 +64,7 @@ returns-in-Ok-Some-clause-found g c h rs are =
     let n = (get_or lent i d).now ++ p in
     let next = next_name lent (lookup_prefixes p) p i d c.lookup_prefixes-fronts.ensures (omega arith) in
     let named = c.as_ref.ensures ∙ c.in-Ok.ensures.bytes in
-    let same = (x.leaves h).tree in
+    let same = (x.reads.leaves h).tree in
     let r = c.in-Ok-Some.reference in
     let asked = subst (λ (T : Tree). AreAsked settings.kind (packed_refs_at settings T) c.loop-front.records rs) (sym same) (x.asked h rs are) in
     let found = rw c.in-Ok-Some.field-0-is at (c.in-Ok-Some.ensures.found h rs asked) in
@@ -89,7 +89,7 @@ returns-in-Ok-Some-clause-hit g c h honest =
     let Hits = λ (m : List ℕ). IsHit {R = g.row.F-Reader.Denot} {G = g.F.Reader.ReadAt} settings (view_of first.tree) c.args.records.now m r in
     let hit = rw c.in-Ok-Some.field-0-is at (c.in-Ok-Some.ensures.hit h (x.readers h honest)) in
     among_here Hits (candidates p) i n next
-    (subst Hits named (hit_from g.F.Files.honest settings first.tree mid.tree c.args.records.now c.loop-front.records (λ k. (x.leaves k).tree) x.readers x.searched h (full_ref_bytes c.as_ref.result) r hit))
+    (subst Hits named (hit_from g.F.Files.honest settings first.tree mid.tree c.args.records.now c.loop-front.records (λ k. (x.reads.leaves k).tree) x.readers x.searched h (full_ref_bytes c.as_ref.result) r hit))
 
 pub loop-front-preserved : goal.loop-front-preserved
 loop-front-preserved g c =
@@ -108,7 +108,7 @@ loop-front-preserved g c =
     let names = candidates p in
     let next = next_name lent (lookup_prefixes p) p i d c.lookup_prefixes-fronts.ensures (omega arith) in
     let named = c.as_ref.ensures ∙ c.in-Ok.ensures.bytes in
-    let same = λ (h : g.F.Files.honest). (x.leaves h).tree in
+    let same = λ (h : g.F.Files.honest). (x.reads.leaves h).tree in
     let asked = λ (h : g.F.Files.honest) (rs : List Record) (are : AreAsked settings.kind (packed_refs_at settings first.tree) c.args.records.now rs). subst (λ (T : Tree). AreAsked settings.kind (packed_refs_at settings T) c.loop-front.records rs) (sym (same h)) (x.asked h rs are) in
     let mid = g.F.Files.means c.loop-front.files in
     let Missing = λ (m : List ℕ). IsMissing {R = g.row.F-Reader.Denot} {G = g.F.Reader.ReadAt} settings view c.args.records.now m in
@@ -130,7 +130,7 @@ loop-front-preserved g c =
       fails = λ now error later. x.fails now error (fails_later (IsPassed {R = g.row.F-Reader.Denot} {G = g.F.Reader.ReadAt} g.F.Files.honest settings first.tree c.args.records.now)
           (λ m. CandidateFails {R = g.row.F-Reader.Denot} {G = g.F.Reader.ReadAt} g.F.Files.honest settings first.tree c.args.records.now before now m error) names i n next absent later);
       no_fault = e.no_fault ∙ x.no_fault;
-      leaves = λ h. joins (x.leaves h) (weaken (e.leaves h) (λ T is. is ∙ same h));
+      reads = reads_more _ _ _ _ _ _ x.reads e.reads;
     }
 
 pub returns-in-Ok-Some-clause-asked : goal.returns-in-Ok-Some-clause-asked
@@ -141,7 +141,7 @@ returns-in-Ok-Some-clause-asked g c h =
     let first = g.F.Files.means c.args.files.now in
     let mid = g.F.Files.means c.loop-front.files in
     still_asked {R = g.row.F-Reader.Denot} {G = g.F.Reader.ReadAt} settings.kind (packed_refs_at settings first.tree) (packed_refs_at settings mid.tree) c.args.records.now c.loop-front.records c.find_candidate.new.records
-    (ap (packed_refs_at settings) (x.leaves h).tree)
+    (ap (packed_refs_at settings) (x.reads.leaves h).tree)
     (record { asked = x.asked h; readers = x.readers h; searched = x.searched h; none = x.none h })
     (record { asked = e.asked h; readers = e.honest h; searched = e.searched h; none = e.still_none h })
 

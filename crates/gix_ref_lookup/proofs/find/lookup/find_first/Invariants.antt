@@ -4,8 +4,8 @@ use Rattle.gix_ref_hash.specs.declared.hash.Kind.{Kind}
 use Rattle.gix_ref_name.specs.Candidates.{candidates}
 use Rattle.gix_ref_name.specs.Names.{partial_ref_bytes}
 use Rattle.gix_ref_target.specs.PackedRecords.{Record}
-use Rattle.gix_ref_files.specs.Files.{FaultCounts, Leaves}
-use Rattle.gix_ref_files.specs.Calls.{Unchanged}
+use Rattle.gix_ref_files.specs.Files.{FaultCounts}
+use Rattle.gix_ref_files.specs.ReadOnly.{OnlyReads}
 use Rattle.gix_ref_theory.specs.Lookups.{first_hit}
 use Rattle.gix_ref_theory.specs.OnRealTrees.{view_of}
 use Rattle.gix_ref_lookup.specs.Lookups.{meaning_in, packed_refs_in, AreAsked, AreHonest, IsMissing, IsSearched, FailsAmong, SearchesNone}
@@ -17,7 +17,6 @@ abbrev pub invariant-loop-front : goal.invariant-loop-front
 invariant-loop-front g l =
     let settings = l.settings in
     let first = g.F.Files.means l.fn.files in
-    let now = g.F.Files.means l.files in
     let s = meaning_in settings in
     let view = view_of first.tree in
     let file = packed_refs_in settings first in
@@ -33,5 +32,5 @@ invariant-loop-front g l =
       fails : (now : FaultCounts) (error : Error) → FailsAmong g.F.Files.honest settings first.tree l.fn.records (g.F.Files.faults l.fn.files) now rest error →
           FailsAmong g.F.Files.honest settings first.tree l.fn.records (g.F.Files.faults l.fn.files) now names error;
       no_fault : g.F.Files.faults l.files ≡ g.F.Files.faults l.fn.files;
-      leaves : g.F.Files.honest → Leaves first now (Unchanged first.tree);
+      reads : OnlyReads g.F.Files.honest g.F.Files.means g.F.Files.faults l.fn.files l.files;
     }

@@ -12,6 +12,7 @@ returns-in-Ok g c = (
     same_reference = refl;
     looks_up = record {
       leaves = c.in-Ok.ensures.looks.leaves;
+      passes = c.in-Ok.ensures.looks.passes;
       same = record { dirs = refl; namespace = refl; of_kind = refl; reflogs = refl; composes = refl; prohibits = refl; threshold = refl };
     };
     lists = λ h.

@@ -1,5 +1,5 @@
 use Rattle.std.proofs.Common.{refl, sym, ap, subst}
-use Rattle.gix_ref_files.proofs.Moments.{starts}
+use Rattle.gix_ref_files.proofs.Moments.{starts, passes_starts}
 use Rattle.gix_ref_theory.specs.OnRealTrees.{view_of}
 use Rattle.gix_ref_lookup.specs.declared.settings.Settings.{Settings}
 use Rattle.gix_ref_listing.specs.WholeListings.{IsWalkOf, ListsAll}
@@ -19,6 +19,7 @@ returns-in-Ok g c = (
     same = refl;
     looks_up = record {
       leaves = λ h. starts (g.F.Files.means c.args.self.now.files) _ refl;
+      passes = λ h. passes_starts (g.F.Files.means c.args.self.now.files) _ refl;
       same = record { dirs = refl; namespace = refl; of_kind = refl; reflogs = refl; composes = refl; prohibits = refl; threshold = refl };
     };
     lists = λ h start records walked held.

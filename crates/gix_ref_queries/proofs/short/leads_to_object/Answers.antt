@@ -1,0 +1,22 @@
+use Rattle.std.proofs.Common.{◌∙◌, ap, refl, true, false, subst, sym}
+use Rattle.std.specs.Option.{is_none}
+use Rattle.gix_ref_name.specs.Names.{full_bytes}
+use Rattle.gix_ref_queries.specs.Resolving.{targets_in}
+use Rattle.gix_ref_queries.specs.declared.resolve.End.{End}
+use Rattle.gix_ref_queries.proofs.ShortLemmas.{IsAtObject, leads_by}
+use Rattle.gix_ref_queries.proofs.short.leads_to_object.Goals as goal
+
+pub returns-in-Object-clause-leads : goal.returns-in-Object-clause-leads
+returns-in-Object-clause-leads g c h records are =
+    leads_by (targets_in g.F.Files.means c.args.store.now records) c.args.name.now (full_bytes c.in_ok-owned.owned) (full_bytes c.follow-end.result.name) c.follow-end.result.end _ (ap is_none c.in-Ok.ensures.1)
+    (c.in_ok-owned.ensures ∙ c.in-Ok.ensures.0) (c.follow-end.ensures.ends h records are) (subst (λ (e : End). IsAtObject e true) (sym c.in-Object.is) refl)
+
+pub returns-in-Absent-clause-leads : goal.returns-in-Absent-clause-leads
+returns-in-Absent-clause-leads g c h records are =
+    leads_by (targets_in g.F.Files.means c.args.store.now records) c.args.name.now (full_bytes c.in_ok-owned.owned) (full_bytes c.follow-end.result.name) c.follow-end.result.end _ (ap is_none c.in-Ok.ensures.1)
+    (c.in_ok-owned.ensures ∙ c.in-Ok.ensures.0) (c.follow-end.ensures.ends h records are) (subst (λ (e : End). IsAtObject e false) (sym c.in-Absent.is) refl)
+
+pub returns-in-TooDeep-clause-leads : goal.returns-in-TooDeep-clause-leads
+returns-in-TooDeep-clause-leads g c h records are =
+    leads_by (targets_in g.F.Files.means c.args.store.now records) c.args.name.now (full_bytes c.in_ok-owned.owned) (full_bytes c.follow-end.result.name) c.follow-end.result.end _ (ap is_none c.in-Ok.ensures.1)
+    (c.in_ok-owned.ensures ∙ c.in-Ok.ensures.0) (c.follow-end.ensures.ends h records are) (subst (λ (e : End). IsAtObject e false) (sym c.in-TooDeep.is) refl)

@@ -1,0 +1,41 @@
+use Rattle.std.proofs.Common.{◌+◌, [], List, ℕ, Bor, drop, get_or, sym, ◌∙◌}
+use Rattle.gix_ref_queries.specs.Patterns.{texts}
+use Rattle.gix_ref_queries.specs.Resolving.{targets_in}
+use Rattle.gix_ref_queries.proofs.Names.{looks_up, same_finds, same_records}
+use Rattle.gix_ref_queries.proofs.ShortLemmas.{no_short_before, short_step, shortens, shortens_not}
+use Rattle.gix_ref_queries.proofs.short.short_by.Goals as goal
+
+pub returns-in-Ok-Some-clause-short : goal.returns-in-Ok-Some-clause-short
+returns-in-Ok-Some-clause-short g c h records are =
+    let F = g.F.Files in
+    let old = c.args.store.now in
+    let mid = c.loop-front.store in
+    let find = targets_in F.means old records in
+    let looked = c.loop-front.invariant.unchanged in
+    let fronts = c.args.fronts.now in
+    let i = c.loop-front.front-index in
+    let none : Bor (List ℕ) = record { ref_ptr = (0, 0); now = [] } in
+    shortens find (targets_in F.means mid records) c.args.strict c.args.name.now (get_or fronts i none).now c.in-Ok-Some.short.now (texts (drop (i + 1) fronts)) (same_finds F.honest F.means old mid records looked h)
+    (rw c.in-Ok-Some.field-0-is at (c.in-Ok-Some.ensures.short h records (same_records F.honest F.means old mid records looked h are)))
+    ∙ (sym (short_step find c.args.strict c.args.name.now fronts i none c.loop-front-test.true) ∙ sym (c.loop-front.invariant.short h records are))
+
+pub returns-in-Err-clause-failed : goal.returns-in-Err-clause-failed
+returns-in-Err-clause-failed g c = no_short_before g.F.Reader.ReadAt g.F.Files.honest g.F.Files.means g.F.Files.faults c.args.store.now c.loop-front.store c.in-Err.error c.loop-front.invariant.unchanged c.in-Err.ensures.failed
+
+pub loop-front-preserved : goal.loop-front-preserved
+loop-front-preserved g c =
+    let F = g.F.Files in
+    let old = c.args.store.now in
+    let mid = c.loop-front.store in
+    let looked = c.loop-front.invariant.unchanged in
+    let fronts = c.args.fronts.now in
+    let i = c.loop-front.front-index in
+    let none : Bor (List ℕ) = record { ref_ptr = (0, 0); now = [] } in
+    record {
+      short = λ h records are.
+          let find = targets_in F.means old records in
+          c.loop-front.invariant.short h records are ∙ (short_step find c.args.strict c.args.name.now fronts i none c.loop-front-test.true
+          ∙ shortens_not find (targets_in F.means mid records) c.args.strict c.args.name.now (get_or fronts i none).now (texts (drop (i + 1) fronts)) (same_finds F.honest F.means old mid records looked h)
+          (rw c.in-Ok-None.field-0-is at (c.in-Ok-None.ensures.short h records (same_records F.honest F.means old mid records looked h are))));
+      unchanged = looks_up F.honest F.means old mid c.short_after.new.store looked c.short_after.ensures.unchanged;
+    }

@@ -1,0 +1,88 @@
+-- Short names of references (`git symbolic-ref --short`, `%(refname:short)` of `git for-each-ref`).
+use Rattle.std.specs.Prelude.{ℕ, List, [], ◌∷◌, ◌++◌, Bool, true, false, ◌&&◌, codes, drop, length, map, take, Option, Some, None, bytes_eq, if◌then◌else◌, is_none}
+use denote.Ref.{Bor}
+use Rattle.gix_ref_name.specs.NameGrammar.{full_error}
+use Rattle.gix_ref_files.specs.Files.{FaultCounts, Meaning}
+use Rattle.gix_ref_files.specs.declared.files.ReadAt.{Ghosts}
+use Rattle.gix_ref_store.specs.declared.file.store.Store.{Store}
+use Rattle.gix_ref_queries.specs.Resolving.{IsUnreadBy, NameEnd, TargetsByName, resolved}
+use Rattle.gix_ref_queries.specs.Resolving.NameEnd.{Reached, Missing, TooDeep}
+use Rattle.gix_ref_queries.specs.declared.short.ShortError.{ShortError}
+use Rattle.gix_ref_queries.specs.declared.short.ShortError.TheVariants as shorts
+
+-- a following ends at an object
+abbrev pub is_reached : NameEnd → Bool
+is_reached (Reached name id) = true
+is_reached (Missing name) = false
+is_reached TooDeep = false
+
+-- a name leads to an object, by what lookups find
+abbrev pub leads_to_object : TargetsByName → (name : List ℕ) → Bool
+leads_to_object find name = is_none (full_error name) && is_reached (resolved find 5 name)
+
+-- what Git puts before a short name and after it to look it up, in its order (`gitrevisions`)
+abbrev pub rules : List (List ℕ × List ℕ)
+rules =
+    (codes "", codes "")
+    ∷ (codes "refs/", codes "")
+    ∷ (codes "refs/tags/", codes "")
+    ∷ (codes "refs/heads/", codes "")
+    ∷ (codes "refs/remotes/", codes "")
+    ∷ (codes "refs/remotes/", codes "/HEAD")
+    ∷ []
+
+-- the full names that a short one may be short for
+abbrev pub full_names : (short : List ℕ) → List (List ℕ)
+full_names short = map (λ (rule : List ℕ × List ℕ). rule.0 ++ (short ++ rule.1)) rules
+
+-- What one of them decides: where it is the name that is shown, it is clear, unless that is strict and those after it are asked for too;
+-- where another one leads to an object, it is not.
+abbrev pub decided : TargetsByName → (strict : Bool) → (name full : List ℕ) → Option Bool
+decided find strict name full =
+    if bytes_eq full name then (if strict then None else Some true)
+    else (if leads_to_object find full then Some false else None)
+
+abbrev pub decided_or : Option Bool → (other : Bool) → Bool
+decided_or (Some clear) other = clear
+decided_or None other = other
+
+-- of these names the first that decides it does; where none does, it is clear
+abbrev pub is_clear_among : TargetsByName → (strict : Bool) → (name : List ℕ) → List (List ℕ) → Bool
+is_clear_among find strict name [] = true
+is_clear_among find strict name (full ∷ more) =
+    decided_or (decided find strict name full) (is_clear_among find strict name more)
+
+-- the rest of a name after this front, where that is short for it alone
+abbrev pub short_after : TargetsByName → (strict : Bool) → (name front : List ℕ) → Option (List ℕ)
+short_after find strict name front =
+    let short = drop (length front) name in
+    if bytes_eq (take (length front) name) front
+    && is_clear_among find strict name (full_names short) then Some short else None
+
+abbrev pub short_or : Option (List ℕ) → (other : List ℕ) → List ℕ
+short_or (Some short) other = short
+short_or None other = other
+
+-- and so by the first of these fronts; else the name itself
+abbrev pub short_by : TargetsByName → (strict : Bool) → (name : List ℕ) → (fronts : List (List ℕ)) →
+    List ℕ
+short_by find strict name [] = name
+short_by find strict name (front ∷ fronts) =
+    short_or (short_after find strict name front) (short_by find strict name fronts)
+
+-- the short name of a reference
+abbrev pub short_name : TargetsByName → (strict : Bool) → (name : List ℕ) → List ℕ
+short_name find strict name = short_by find strict name
+    (codes "refs/remotes/" ∷ codes "refs/heads/" ∷ codes "refs/tags/" ∷ codes "refs/" ∷ [])
+
+-- the bytes that are lent
+abbrev pub lent_bytes : Option (Bor (List ℕ)) → Option (List ℕ)
+lent_bytes None = None
+lent_bytes (Some bytes) = Some bytes.now
+
+-- why there is no short name: a lookup failed; or there was no memory
+abbrev pub IsNoShort : {F R : Type 0} (G : Ghosts R) (honest : Type 0) (means : F → Meaning)
+    (faults : F → FaultCounts) → Store F → ShortError → Type 0
+IsNoShort G honest means faults old (shorts.Unread error) =
+    IsUnreadBy G honest means faults old error
+IsNoShort G honest means faults old shorts.Memory = Unit {0}

@@ -1,0 +1,47 @@
+use Rattle.std.proofs.Common.{◌∙◌, ap, sym, subst, Bool, List, ℕ, Option}
+use Rattle.std.specs.Option.{option_map}
+use Rattle.std.specs.Prelude.{IfSome, MatchBool}
+use Rattle.gix_ref_name.specs.Names.{full_bytes}
+use Rattle.gix_ref_queries.specs.Resolving.{targets_in}
+use Rattle.gix_ref_queries.proofs.Names.{same_records}
+use Rattle.gix_ref_session.specs.Clashes.{IsClearName, IsEditFailure, IsInTheWay, ListsNone}
+use Rattle.gix_ref_session.proofs.ClashLemmas.{clear_before, name_edit_before, told, way_before}
+use Rattle.gix_ref_session.proofs.clash.check_name.Goals as goal
+
+pub returns-in_err-is_in_the_way-clause-fails : goal.returns-in_err-is_in_the_way-clause-fails
+returns-in_err-is_in_the_way-clause-fails g c edits names =
+    let F = g.F.Files in
+    let G = g.F.Reader.ReadAt in
+    let old = c.args.store.now in
+    let edit = c.args.edit.now in
+    let fatal = c.in_err-is_in_the_way.field-0.0 in
+    told c.from_residual-in_err-is_in_the_way.result fatal (IsEditFailure F.honest F.means F.faults G old edits edit) c.from_residual-in_err-is_in_the_way.ensures.1
+    (name_edit_before F.honest F.means old c.missing_name.new.store c.missing_name.ensures.unchanged F.faults G edits edit (full_bytes c.in-Some.name) fatal
+    (λ h records are. sym (c.in_ok-name.ensures.makes h records are) ∙ ap (option_map full_bytes) c.in-Some.is) c.in_err-is_in_the_way.ensures.fails)
+
+pub returns-then-branch-clause-fails : goal.returns-then-branch-clause-fails
+returns-then-branch-clause-fails g c edits names =
+    let F = g.F.Files in
+    let old = c.args.store.now in
+    let mid = c.missing_name.new.store in
+    let looked = c.missing_name.ensures.unchanged in
+    let name = full_bytes c.in-Some.name in
+    record {
+      makes = λ h records are. sym (c.in_ok-name.ensures.makes h records are) ∙ ap (option_map full_bytes) c.in-Some.is;
+      in_the_way = λ h records are.
+          way_before F.honest F.means old mid looked F.faults records edits name h
+          (subst (λ (b : Bool). MatchBool b (IsInTheWay F.honest F.means F.faults mid edits records name) (IsClearName (targets_in F.means mid records) edits (ListsNone F.honest F.means mid records) name)) c.if-branch.true
+          (c.in_ok-is_in_the_way.ensures.clashes h records (same_records F.honest F.means old mid records looked h are) edits names));
+    }
+
+pub returns-clause-clear : goal.returns-clause-clear
+returns-clause-clear g c h records are edits names =
+    let F = g.F.Files in
+    let old = c.args.store.now in
+    let mid = c.missing_name.new.store in
+    let looked = c.missing_name.ensures.unchanged in
+    let name = full_bytes c.in-Some.name in
+    subst (λ (made : Option (List ℕ)). IfSome made (IsClearName (targets_in F.means old records) edits (ListsNone F.honest F.means old records))) (sym (sym (c.in_ok-name.ensures.makes h records are) ∙ ap (option_map full_bytes) c.in-Some.is))
+    (clear_before F.honest F.means old mid looked records edits name h
+    (subst (λ (b : Bool). MatchBool b (IsInTheWay F.honest F.means F.faults mid edits records name) (IsClearName (targets_in F.means mid records) edits (ListsNone F.honest F.means mid records) name)) c.if-branch.false
+    (c.in_ok-is_in_the_way.ensures.clashes h records (same_records F.honest F.means old mid records looked h are) edits names)))

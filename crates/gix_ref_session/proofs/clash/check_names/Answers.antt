@@ -1,0 +1,33 @@
+use Rattle.std.proofs.Common.{List, Bor, ℕ, sym, subst}
+use Rattle.gix_ref_queries.specs.Resolving.{targets_in}
+use Rattle.gix_ref_queries.proofs.Names.{same_records}
+use Rattle.gix_ref_session.specs.Clashes.{AreNamesOf, IsClearEdit, IsLookFailure, ListsNone}
+use Rattle.gix_ref_session.proofs.ClashLemmas.{all_taken, clear_edit_before, edit_look_before, told}
+use Rattle.gix_ref_session.proofs.Looking.{looks_on}
+use Rattle.gix_ref_session.proofs.clash.check_names.Goals as goal
+
+pub returns-in_err-check_name-clause-fails : goal.returns-in_err-check_name-clause-fails
+returns-in_err-check_name-clause-fails g c =
+    let F = g.F.Files in
+    let G = g.F.Reader.ReadAt in
+    let first = c.args.store.now in
+    let edits = c.args.edits.now in
+    let fatal = c.in_err-check_name.field-0.0 in
+    let names = subst (λ (ns : List (Bor (List ℕ))). AreNamesOf edits ns) (sym c.deref.ensures.value) c.in_ok-edited.ensures in
+    told c.from_residual-in_err-check_name.result fatal (IsLookFailure F.honest F.means F.faults G first edits) c.from_residual-in_err-check_name.ensures.1
+    (edit_look_before F.honest F.means first c.loop-edit.store c.loop-edit.invariant.looked F.faults G edits c.loop-edit.edit-index c.edit-item.result fatal c.loop-edit-test.true c.edit-item.is (c.in_err-check_name.ensures.fails edits names))
+
+pub loop-edit-preserved : goal.loop-edit-preserved
+loop-edit-preserved g c =
+    let F = g.F.Files in
+    let first = c.args.store.now in
+    let mid = c.loop-edit.store in
+    let edits = c.args.edits.now in
+    let looked = c.loop-edit.invariant.looked in
+    let names = subst (λ (ns : List (Bor (List ℕ))). AreNamesOf edits ns) (sym c.deref.ensures.value) c.in_ok-edited.ensures in
+    record {
+      looked = looks_on F.honest F.means first mid c.check_name.new.store looked c.check_name.ensures.unchanged;
+      clear = λ h records are.
+          all_taken (IsClearEdit (targets_in F.means first records) edits (ListsNone F.honest F.means first records)) edits c.loop-edit.edit-index c.edit-item.result c.loop-edit-test.true (c.loop-edit.invariant.clear h records are) c.edit-item.is
+          (clear_edit_before F.honest F.means first mid looked records edits c.edit-item.result h (c.in_ok-check_name.ensures.clear h records (same_records F.honest F.means first mid records looked h are) edits names));
+    }

@@ -1,0 +1,23 @@
+use Rattle.std.proofs.Common.{rules, ◌≡◌, ◌∙◌, ap, sym, List, ℕ}
+use Rattle.gix_ref_name.specs.Names.{full_bytes}
+use Rattle.gix_ref_queries.specs.Resolving.{targets_in, resolved}
+use Rattle.gix_ref_session.specs.Clashes.{missing_last}
+use Rattle.gix_ref_session.proofs.clash.missing_end.Goals as goal
+
+pub returns-in-Object-clause-ends : goal.returns-in-Object-clause-ends
+returns-in-Object-clause-ends g c h records are =
+    let find = targets_in g.F.Files.means c.args.store.now records in
+    let same : full_bytes c.in_ok-clone.field-0 ≡ full_bytes c.args.name.now = search rules in
+    sym (ap missing_last (sym (ap (λ (n : List ℕ). resolved find 5 n) same) ∙ rw c.in-Object.is at (c.follow-last.ensures.ends h records are)))
+
+pub returns-in-Absent-clause-ends : goal.returns-in-Absent-clause-ends
+returns-in-Absent-clause-ends g c h records are =
+    let find = targets_in g.F.Files.means c.args.store.now records in
+    let same : full_bytes c.in_ok-clone.field-0 ≡ full_bytes c.args.name.now = search rules in
+    sym (ap missing_last (sym (ap (λ (n : List ℕ). resolved find 5 n) same) ∙ rw c.in-Absent.is at (c.follow-last.ensures.ends h records are)))
+
+pub returns-in-TooDeep-clause-ends : goal.returns-in-TooDeep-clause-ends
+returns-in-TooDeep-clause-ends g c h records are =
+    let find = targets_in g.F.Files.means c.args.store.now records in
+    let same : full_bytes c.in_ok-clone.field-0 ≡ full_bytes c.args.name.now = search rules in
+    sym (ap missing_last (sym (ap (λ (n : List ℕ). resolved find 5 n) same) ∙ rw c.in-TooDeep.is at (c.follow-last.ensures.ends h records are)))

@@ -1,0 +1,32 @@
+use Rattle.std.proofs.Common.{rules, Some, ◌≡◌, ◌∙◌, ap, sym, subst, List, ℕ, Option, IfOk}
+use Rattle.std.specs.Option.{option_map}
+use Rattle.gix_ref_edits.specs.RefEdits.{name_of}
+use Rattle.gix_ref_name.specs.Names.{full_bytes}
+use Rattle.gix_ref_queries.specs.Resolving.{targets_in}
+use Rattle.std.specs.Prelude.{is_some}
+use Rattle.gix_ref_session.proofs.ClashLemmas.{makes_itself, makes_last, makes_none, makes_not}
+use Rattle.gix_ref_session.proofs.clash.missing_name.Goals as goal
+
+pub returns-then-expects_value-clause-makes : goal.returns-then-expects_value-clause-makes
+returns-then-expects_value-clause-makes g c h records are =
+    let find = targets_in g.F.Files.means c.args.store.now records in
+    sym (makes_none find c.args.edit.now (sym c.expects_value.ensures ∙ c.if-expects_value.true))
+
+pub returns-then-edit-clause-makes : goal.returns-then-edit-clause-makes
+returns-then-edit-clause-makes g c h records are =
+    let find = targets_in g.F.Files.means c.args.store.now records in
+    subst (λ (made : Option (List ℕ)). IfOk c.missing_end.result (λ last. option_map full_bytes last ≡ made)) (sym (makes_last find c.args.edit.now (sym c.expects_value.ensures ∙ c.if-expects_value.false) c.if-edit.true))
+    (c.missing_end.ensures.ends h records are)
+
+pub returns-then-branch-clause-makes : goal.returns-then-branch-clause-makes
+returns-then-branch-clause-makes g c h records are =
+    let find = targets_in g.F.Files.means c.args.store.now records in
+    sym (makes_not find c.args.edit.now (sym c.expects_value.ensures ∙ c.if-expects_value.false) c.if-edit.false
+    (sym (c.in_ok-exists.ensures.finds h records are ∙ ap (λ (name : List ℕ). is_some (find name)) c.as_ref.ensures) ∙ c.if-branch.true))
+
+pub returns-clause-makes : goal.returns-clause-makes
+returns-clause-makes g c h records are =
+    let find = targets_in g.F.Files.means c.args.store.now records in
+    let same : full_bytes c.in_ok-clone.field-0 ≡ name_of c.args.edit.now = search rules in
+    ap Some same ∙ sym (makes_itself find c.args.edit.now (sym c.expects_value.ensures ∙ c.if-expects_value.false) c.if-edit.false
+    (sym (c.in_ok-exists.ensures.finds h records are ∙ ap (λ (name : List ℕ). is_some (find name)) c.as_ref.ensures) ∙ c.if-branch.false))

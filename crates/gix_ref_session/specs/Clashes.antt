@@ -1,0 +1,184 @@
+-- Names that are in one another's way: of `refs/heads/a` and `refs/heads/a/b` only one may exist (`git update-ref`).
+use Rattle.std.specs.Prelude.{◌≡◌, ◌⊎◌, ℕ, List, [], ◌∷◌, ◌++◌, length, map, if◌then◌else◌, Option, Some, None, is_some, IfSome, IsSome}
+use Rattle.std.specs.Cmp.Lexicographic.{slice_cmp}
+use Rattle.std.specs.List.{AllByRecursion, Any, Contains}
+use Rattle.std.specs.List.Sorted.{IsPermutation, IsSorted}
+use Rattle.std.specs.Ordering.{nat_cmp}
+use denote.Ref.{Bor}
+use Rattle.gix_ref_edits.specs.RefEdits.{expected_of, matched, name_of}
+use Rattle.gix_ref_edits.specs.declared.transaction.RefEdit.{RefEdit}
+use Rattle.gix_ref_files.specs.Files.{Meaning, FaultCounts}
+use Rattle.gix_ref_files.specs.declared.files.ReadAt.{Ghosts}
+use Rattle.gix_ref_listing.specs.Listings.{Listed}
+use Rattle.gix_ref_listing.specs.WholeListings.{IsListing, IsNameOrMet}
+use Rattle.gix_ref_listing.specs.declared.prefix.Error.{Error as ListError}
+use Rattle.gix_ref_lookup.specs.declared.find.error.Error.{Error as FindError}
+use Rattle.gix_ref_name.specs.NameGrammar.{full_error}
+use Rattle.gix_ref_name.specs.Names.{full_bytes}
+use Rattle.gix_ref_name.specs.declared.name.FullName.{FullName}
+use Rattle.gix_ref_queries.specs.Resolving.{TargetsByName, NameEnd, Missing, Reached, TooDeep, IsUnreadBy, targets_in, resolved}
+use Rattle.gix_ref_store.specs.Listings.{IsNoListing}
+use Rattle.gix_ref_store.specs.Lookup.{AreRecordsIn, LooksUp, settings_of, view_in}
+use Rattle.gix_ref_store.specs.Store.{files_of}
+use Rattle.gix_ref_store.specs.declared.file.store.Store.{Store}
+use Rattle.gix_ref_target.specs.PackedRecords.{Record}
+use Rattle.gix_ref_target.specs.Targets.{TargetValue}
+use Rattle.gix_ref_session.specs.declared.fatal.Fatal.{Fatal}
+use Rattle.gix_ref_session.specs.declared.fatal.Fatal.TheVariants as fatals
+
+-- a name, where there is no reference of it
+abbrev pub missing_own : (name : List ℕ) → Option TargetValue → Option (List ℕ)
+missing_own name None = Some name
+missing_own name (Some target) = None
+
+-- the last name of a chain of symbolic references, where there is no reference of it
+abbrev pub missing_last : NameEnd → Option (List ℕ)
+missing_last (Missing last) = Some last
+missing_last (Reached last id) = None
+missing_last TooDeep = None
+
+-- The name of which an edit makes a reference: there is none of it. Where it follows symbolic references it is the last of the chain,
+-- else its own. An edit that expects a value makes none.
+abbrev pub made_name : TargetsByName → RefEdit → Option (List ℕ)
+made_name find edit =
+    if is_some (matched (expected_of edit.change)) then None
+    else if edit.deref then missing_last (resolved find 5 (name_of edit))
+    else missing_own (name_of edit) (find (name_of edit))
+
+-- a folder of a name: what stands before one of its slashes, where that is a full name
+pub record IsFolderOf (folder name : List ℕ) : Type 0 where
+  pub rest : List ℕ
+  pub is : name ≡ folder ++ 47 ∷ rest
+  pub full : full_error folder ≡ None
+
+-- and it ends before this place
+abbrev pub IsFolderAt : (at : ℕ) → (folder name : List ℕ) → Type 0
+IsFolderAt at folder name = IsFolderOf folder name × (length folder ≡ at)
+
+-- what the names below a name begin with
+abbrev pub front_below : List ℕ → List ℕ
+front_below name = name ++ 47 ∷ []
+
+-- the bytes of a name
+abbrev pub lent_bytes : Bor (List ℕ) → List ℕ
+lent_bytes name = name.now
+
+-- why a look failed: there was no memory; for one of these reasons a lookup or a listing failed; or a name is in the way of another
+abbrev pub IsFailedLook : (Unread : FindError → Type 0) → (Unlisted : ListError → Type 0) →
+    (Clashes : FullName → Type 0) → Fatal → Type 0
+IsFailedLook Unread Unlisted Clashes fatals.Memory = Unit {0}
+IsFailedLook Unread Unlisted Clashes (fatals.Find error) = Unread error
+IsFailedLook Unread Unlisted Clashes (fatals.List error) = Unlisted error
+IsFailedLook Unread Unlisted Clashes (fatals.Clash name) = Clashes name
+IsFailedLook Unread Unlisted Clashes fatal = ⊥
+
+-- these are the names of edits, in order
+pub record AreNamesOf (edits : List RefEdit) (names : List (Bor (List ℕ))) : Type 0 where
+  pub sorted : IsSorted (λ (a b : Bor (List ℕ)). slice_cmp nat_cmp a.now b.now) names
+  pub reordered : IsPermutation (map name_of edits) (map lent_bytes names)
+
+module _ (find : TargetsByName) (edits : List RefEdit) where
+  -- a name is taken: there is a reference of it, or an edit of it
+  abbrev pub IsTaken : (name : List ℕ) → Type 0
+  IsTaken name = IsSome (find name) ⊎ Contains (map name_of edits) name
+
+  -- the folder of a name that ends before this place is taken
+  abbrev pub IsTakenAt : (at : ℕ) → (name : List ℕ) → Type 0
+  IsTakenAt at name = (folder : List ℕ) × IsFolderAt at folder name × IsTaken folder
+
+  -- a name is below one that is taken
+  abbrev pub IsBelowTaken : (name : List ℕ) → Type 0
+  IsBelowTaken name = (folder : List ℕ) × IsFolderOf folder name × IsTaken folder
+
+  -- no other name is in the way of this one
+  pub record IsClearName (ListsNone : (prefix : List ℕ) → Type 0) (name : List ℕ) : Type 0 where
+    pub folders : (folder : List ℕ) → IsFolderOf folder name → IsTaken folder → ⊥
+    pub below : ListsNone (front_below name)
+
+  -- nor of the name that an edit makes
+  abbrev pub IsClearEdit : (ListsNone : (prefix : List ℕ) → Type 0) → RefEdit → Type 0
+  IsClearEdit ListsNone edit = IfSome (made_name find edit) (IsClearName ListsNone)
+
+module _ {F : Type 0} (honest : Type 0) (means : F → Meaning) where
+  -- the listing of a prefix has no item
+  abbrev pub ListsNone : Store F → List Record → (prefix : List ℕ) → Type 0
+  ListsNone store records prefix =
+      IsListing (settings_of store) (view_in means store) records prefix []
+
+  -- The edits are clear of one another and of the references of a store: of the names that they make, none has a folder that is
+  -- taken, and nothing is listed below one.
+  abbrev pub AreClear : Store F → List RefEdit → Type 0
+  AreClear store edits = honest → (records : List Record) → AreRecordsIn means store records →
+      AllByRecursion (IsClearEdit (targets_in means store records) edits (ListsNone store records))
+      edits
+
+  -- an edit makes a reference of this name
+  abbrev pub Makes : Store F → RefEdit → (name : List ℕ) → Type 0
+  Makes store edit name = honest → (records : List Record) → AreRecordsIn means store records →
+      made_name (targets_in means store records) edit ≡ Some name
+
+module _ {F : Type 0} (honest : Type 0) (means : F → Meaning) (faults : F → FaultCounts) where
+  -- The listing of a prefix has an item: a reference, or a folder that could not be listed, by a fault that was counted when the
+  -- store was looked at.
+  pub record ListsOne (store : Store F) (records : List Record) (prefix : List ℕ) : Type 0 where
+    pub first : Listed
+    pub more : List Listed
+    pub is : IsListing (settings_of store) (view_in means store) records prefix (first ∷ more)
+    pub before : Store F
+    pub now : Store F
+    pub looked : LooksUp honest means store before
+    pub looks : LooksUp honest means before now
+    pub met : IsNameOrMet (faults (files_of before)) (faults (files_of now)) first
+
+  -- a name is in the way of another: it is below one that is taken, or one is listed below it
+  abbrev pub IsInTheWay : Store F → List RefEdit → List Record → (name : List ℕ) → Type 0
+  IsInTheWay store edits records name = IsBelowTaken (targets_in means store records) edits name
+      ⊎ ListsOne store records (front_below name)
+
+  -- an edit makes a reference of this name, which is in the way of another
+  pub record IsClash (store : Store F) (edits : List RefEdit) (name : List ℕ)
+      (edit : RefEdit) : Type 0 where
+    pub makes : Makes honest means store edit name
+    pub in_the_way : honest → (records : List Record) → AreRecordsIn means store records →
+        IsInTheWay store edits records name
+
+  module _ {R : Type 0} (G : Ghosts R) where
+    -- the listing of a prefix failed with this error, when the store was looked at
+    pub record IsNotListed (store : Store F) (prefix : List ℕ) (error : ListError) : Type 0 where
+      pub mid : Store F
+      pub now : Store F
+      pub looked : LooksUp honest means store mid
+      pub none : IsNoListing honest means faults G mid now prefix error
+
+    -- an edit makes a reference of a name, below which the listing failed with this error
+    pub record IsUnlisted (store : Store F) (error : ListError) (edit : RefEdit) : Type 0 where
+      pub name : List ℕ
+      pub makes : Makes honest means store edit name
+      pub fails : IsNotListed store (front_below name) error
+
+    -- why a lookup failed
+    abbrev pub IsFindFailure : Store F → Fatal → Type 0
+    IsFindFailure store = IsFailedLook (IsUnreadBy G honest means faults store)
+        (λ error. ⊥) (λ name. ⊥)
+
+    -- why a listing failed
+    abbrev pub IsListFailure : Store F → (prefix : List ℕ) → Fatal → Type 0
+    IsListFailure store prefix = IsFailedLook (λ error. ⊥) (IsNotListed store prefix) (λ name. ⊥)
+
+    -- why it is not known whether a name is in the way of another
+    abbrev pub IsNameFailure : Store F → (name : List ℕ) → Fatal → Type 0
+    IsNameFailure store name = IsFailedLook (IsUnreadBy G honest means faults store)
+        (IsNotListed store (front_below name)) (λ name. ⊥)
+
+    -- why an edit, one of these, is refused: a look failed; or it makes a reference of this name, which is in the way of another
+    abbrev pub IsEditFailure : Store F → (edits : List RefEdit) → RefEdit → Fatal → Type 0
+    IsEditFailure store edits edit = IsFailedLook (IsUnreadBy G honest means faults store)
+        (λ error. IsUnlisted store error edit)
+        (λ name. IsClash store edits (full_bytes name) edit)
+
+    -- Why these edits are not begun: there was no memory; a lookup failed; what is below a name that one of them makes could not be
+    -- listed; or such a name is in the way of another.
+    abbrev pub IsLookFailure : Store F → (edits : List RefEdit) → Fatal → Type 0
+    IsLookFailure store edits = IsFailedLook (IsUnreadBy G honest means faults store)
+        (λ error. Any (IsUnlisted store error) edits)
+        (λ name. Any (IsClash store edits (full_bytes name)) edits)
