@@ -1,1 +1,4 @@
 pub mod KeptObjects
+pub mod KnownObjects
+pub mod LooseObjects
+pub mod Packings

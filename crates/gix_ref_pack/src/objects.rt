@@ -1,5 +1,8 @@
 //! The objects of a repository, as far as packing has to know them.
-ghost use Rattle.gix_ref_object.specs.Objects.Stored.{Absent};
+ghost use Rattle.std.specs.Prelude.{◌≡◌, ◌||◌, ◌++◌, OnOk};
+ghost use Rattle.std.specs.Ordering.{is_eq};
+ghost use Rattle.gix_ref_hash.specs.declared.hash.ObjectId.{ObjectId as Id};
+ghost use Rattle.gix_ref_pack.specs.KnownObjects.{id_order, is_known, stored_in, tag_text};
 
 use gix_ref_hash::bytes::cut;
 use gix_ref_hash::hash::ObjectId;
@@ -7,7 +10,8 @@ use gix_ref_object::object::{Data, Find, FindError, Kind};
 use std::alloc::{AllocError, Global};
 use std::collections::BTreeMap;
 
-/// A finder of objects by a table. It has of a tag the object that the tag leads to, and nothing of other objects.
+/// A finder of objects by a table. Of a tag it has the object that the tag leads to; any other object of the table it takes for a commit,
+/// which is as good for peeling.
 #[derive(Drop)]
 pub struct Objects {
     /// Each object, with the one at the end of its tags if it is a tag.
@@ -85,19 +89,28 @@ impl Objects {
     }
 
     /// Adds an object that is no tag, unless it is known already.
-    pub fn add_commit(&mut self, id: ObjectId) -> Result<(), AllocError> {
-        self.ends.entry(id)?.or_insert(None);
+    pub fn add_commit(&mut self, id: ObjectId) -> Result<(), AllocError>
+        ensures { OnOk result ((other : Id) → is_known self.new other
+            ≡ (is_eq (id_order id other) || is_known self.old other)) }
+    {
+        if !self.has(&id) {
+            self.ends.insert(id, None)?;
+        }
         Ok(())
     }
 
     /// Whether an object is known.
-    pub fn has(&self, id: &ObjectId) -> bool {
+    pub fn has(&self, id: &ObjectId) -> bool
+        ensures { result ≡ is_known self.now id.now }
+    {
         self.ends.get(id).is_some()
     }
 }
 
 /// Puts the text of a tag of this object into the buffer, as far as it is read.
-fn put_tag(buf: &mut Vec<u8>, end: &ObjectId) -> Result<(), AllocError> {
+fn put_tag(buf: &mut Vec<u8>, end: &ObjectId) -> Result<(), AllocError>
+    ensures { OnOk result (buf.new.items ≡ buf.old.items ++ tag_text end.now) }
+{
     buf.extend_from_slice(b"object ")?;
     end.push_hex(buf)?;
     buf.extend_from_slice(b"\n")?;
@@ -105,10 +118,9 @@ fn put_tag(buf: &mut Vec<u8>, end: &ObjectId) -> Result<(), AllocError> {
 }
 
 impl Find for Objects {
-    // Nothing is said of a table that was read.
-    ghost meaning = { λ _ id. Absent };
+    ghost meaning = { λ objects id. stored_in objects id };
 
-    ghost claims = { λ _. ⊥ };
+    ghost claims = { λ _. Unit {0} };
 
     fn try_find<'b>(
         &self,

@@ -1,20 +1,36 @@
 //! Packing of loose references (`git pack-refs`).
-ghost use Rattle.std.specs.Prelude.{◌≡◌, List, IfOk};
-ghost use Rattle.std.specs.List.{AllByRecursion};
-ghost use Rattle.gix_ref_name.specs.Names.{full_bytes};
-ghost use Rattle.gix_ref_edits.specs.RefEdits.{name_of};
-ghost use Rattle.gix_ref_pack.specs.KeptObjects.{KeepsObject};
+ghost use Rattle.std.specs.Prelude.{◌≡◌, ◌++◌, ◌||◌, List, true, IfErr, IfOk, OnOk, is_some};
+ghost use Rattle.std.specs.List.{filter};
+ghost use Rattle.gix_ref_files.specs.Files.{LossesLeave, StopsLeave};
+ghost use Rattle.gix_ref_hash.specs.declared.hash.ObjectId.{ObjectId as Id};
+ghost use Rattle.gix_ref_packed.specs.Buffers.{HoldsRecords, buffer_kind, buffer_text};
+ghost use Rattle.gix_ref_packed.specs.OpenFiles.{HasReadFault};
+ghost use Rattle.gix_ref_read_back.specs.ListedReadings.{AreComposed};
+ghost use Rattle.gix_ref_store.specs.Lookup.{AreHeld, LooksUp, settings_of, view_in};
+ghost use Rattle.gix_ref_store.specs.Prepared.{HasGoodRecords, IsAtRest, tree_of};
+ghost use Rattle.gix_ref_store.specs.Store.{files_of, IsSameStore};
+ghost use Rattle.gix_ref_target.specs.PackedRecords.{Record, record_named};
+ghost use Rattle.gix_ref_transaction.specs.OwnLocks.{paths_of};
+ghost use Rattle.gix_ref_pack.specs.KeptObjects.{AreKeptFor, KeepsObject};
+ghost use Rattle.gix_ref_pack.specs.KnownObjects.{is_known};
+ghost use Rattle.gix_ref_pack.specs.LooseObjects.{faults_among, has_branch, is_branch, is_shared, is_tag, IsKeyName, key_for, loose_among, loose_to, packable};
+ghost use Rattle.gix_ref_pack.specs.Packings.{Chooses, ChoosesAmong, EachReadsAsItDid, IsAskError, Packs, PlanComes, PutEnds, TellsChosen, uses_of};
 
 use crate::objects::Objects;
 use gix_ref_edits::transaction::{Change, LogChange, PreviousValue, RefEdit};
 use gix_ref_files::files::Files;
 use gix_ref_hash::hash::ObjectId;
 use gix_ref_name::name::FullName;
+use gix_ref_name::namespace::Namespace;
 use gix_ref_packed::packed::{Buffer, buffer, find};
 use gix_ref_packed::raw::Reference;
+use gix_ref_read_back::error::Error;
+use gix_ref_read_back::list::list_loose;
+use gix_ref_read_back::make::make;
 use gix_ref_store::file::Store;
-use gix_ref_store::file::iter::{self, loose_then_packed};
+use gix_ref_store::file::iter::loose_then_packed;
 use gix_ref_store::file::transaction::{PackedRefs, commit, prepare};
+use gix_ref_target::layout::packed_key;
 use gix_ref_target::target::Target;
 use std::alloc::{AllocError, Global};
 use thiserror::Error;
@@ -25,9 +41,6 @@ pub enum PackError {
     /// There was no memory.
     #[error("out of memory")]
     Memory,
-    /// The loose references could not be listed.
-    #[error("{0}")]
-    List(iter::Error),
     /// `packed-refs` could not be opened.
     #[error("{0}")]
     Open(buffer::open::Error),
@@ -71,94 +84,175 @@ struct Loose {
     id: ObjectId,
 }
 
-/// The loose reference to an object that is packed; `None` for a symbolic one, and for one that each worktree has for itself.
-fn packable(reference: Reference) -> Option<Loose> {
+/// What is to be packed, and with which finder of objects.
+#[derive(Drop)]
+struct Plan {
+    edits: Vec<RefEdit>,
+    objects: Objects,
+}
+
+/// Whether the reference is below `refs/` and all worktrees share it: `packed-refs` may have it.
+fn shares(name: &FullName) -> bool
+    ensures { result ≡ is_shared name.now }
+{
+    name.to_path().starts_with(b"refs/") && packed_key(name.as_ref()).is_some()
+}
+
+/// The loose reference to an object that may be packed; `None` for a symbolic one, and for one that each worktree has for itself.
+fn loose_of(reference: Reference) -> Option<Loose>
+    ensures { result ≡ packable reference }
+{
     let Reference { name, target, .. } = reference;
-    let is_private = name.category().is_some_and(|c| c.is_worktree_private());
     match target {
-        Target::Object(id) if !is_private && name.to_path().starts_with(b"refs/") => Some(Loose {
-            name,
-            id,
-        }),
+        Target::Object(id) if shares(&name) => Some(Loose { name, id }),
         _ => None,
     }
 }
 
-/// The loose references to objects, below `refs/` and shared by all worktrees. A fault is added to `broken`.
-fn loose_objects<F: Files>(
+/// The loose references among these items of a listing that may be packed. The faults among them are added to `broken`.
+fn loose_objects(
     alloc: Global,
-    store: &mut Store<F>,
+    items: Vec<Result<Reference, loose_then_packed::Error>>,
     broken: &mut Vec<loose_then_packed::Error>,
-) -> Result<Vec<Loose>, PackError> {
+) -> Result<Vec<Loose>, AllocError>
+    ensures found { IfOk result (λ found. found.items ≡ loose_among items.items) }
+    ensures broken { OnOk result (broken.new.items ≡ broken.old.items ++ faults_among items.items) }
+{
     let mut found = Vec::new(alloc);
-    let items = match store.loose_iter(alloc) {
-        Ok(items) => items,
-        Err(error) => return Err(PackError::List(error)),
-    };
     for item in items {
         match item {
             Ok(reference) => {
-                if let Some(loose) = packable(reference) {
-                    found.push(loose).map_err(AllocError::from)?;
+                if let Some(loose) = loose_of(reference) {
+                    found.push(loose)?;
                 }
             }
-            Err(loose_then_packed::Error::Memory) => return Err(PackError::Memory),
-            Err(error) => broken.push(error).map_err(AllocError::from)?,
+            Err(error) => broken.push(error)?,
         }
     }
     Ok(found)
 }
 
-/// Whether a name of the store has a record.
-fn has_record<F>(
+/// Whether the reference is a tag.
+fn tags(name: &FullName) -> bool
+    ensures { result ≡ is_tag name.now }
+{
+    name.to_path().starts_with(b"refs/tags/")
+}
+
+/// Whether the reference is a branch, or one of a remote: it points to a commit, by Git's own rule.
+fn is_commit(name: &FullName) -> bool
+    ensures { result ≡ is_branch name.now }
+{
+    let path = name.to_path();
+    path.starts_with(b"refs/heads/") || path.starts_with(b"refs/remotes/")
+}
+
+/// The name that `packed-refs` is asked for: with the namespace in front. `None` where that is no full name.
+fn key_of(
     alloc: Global,
-    store: &Store<F>,
-    records: &Buffer,
+    namespace: &Option<Namespace>,
     name: &FullName,
-) -> Result<bool, PackError> {
-    let mut key = name.clone()?;
-    if let Some(namespace) = &store.namespace {
-        key.prefix_namespace(alloc, namespace)?;
+) -> Result<Option<FullName>, AllocError>
+    ensures { IfOk result (λ found. IsKeyName (key_for namespace.now name.now) found) }
+{
+    let mut key = Vec::new(alloc);
+    if let Some(namespace) = namespace {
+        key.extend_from_slice(namespace.to_path())?;
     }
-    match records.try_find_key(key.as_ref()) {
-        Ok(found) => Ok(found.is_some()),
-        Err(error) => Err(PackError::Find(error)),
+    key.extend_from_slice(name.to_path())?;
+    match FullName::try_from(key) {
+        Ok(key) => Ok(Some(key)),
+        Err(_) => Ok(None),
     }
 }
 
-/// Those of these references that are packed: all, or tags and those with a record.
-fn chosen<F: Files>(
+/// Whether one of the records has this name.
+fn has_record(
     alloc: Global,
-    store: &mut Store<F>,
-    is_all: bool,
-    found: Vec<Loose>,
-) -> Result<Vec<Loose>, PackError> {
-    if is_all {
-        return Ok(found);
+    namespace: &Option<Namespace>,
+    records: &Buffer,
+    name: &FullName,
+) -> Result<bool, PackError>
+    ensures chosen { (rs : List Record) → HoldsRecords (buffer_kind records.now) rs
+        (buffer_text records.now) → TellsChosen result
+        (is_some (record_named (key_for namespace.now name.now) rs)) }
+    ensures errors { IfErr result IsAskError }
+{
+    match key_of(alloc, namespace, name)? {
+        Some(key) => match records.try_find_key(key.as_ref()) {
+            Ok(found) => Ok(found.is_some()),
+            Err(error) => Err(PackError::Find(error)),
+        },
+        None => Ok(false),
     }
-    let records = match store.open_packed_buffer(alloc) {
-        Ok(records) => records,
-        Err(error) => return Err(PackError::Open(error)),
-    };
+}
+
+/// Whether the reference is a tag, or has a record.
+fn is_packed_again(
+    alloc: Global,
+    namespace: &Option<Namespace>,
+    records: Option<&Buffer>,
+    name: &FullName,
+) -> Result<bool, PackError>
+    ensures chosen { (rs : List Record) → AreHeld records.entry rs → TellsChosen result
+        (is_tag name.now || is_some (record_named (key_for namespace.now name.now) rs)) }
+    ensures errors { IfErr result IsAskError }
+{
+    if tags(name) {
+        return Ok(true);
+    }
+    match records {
+        Some(records) => has_record(alloc, namespace, records, name),
+        None => Ok(false),
+    }
+}
+
+/// Those of these references that are tags, or have a record.
+fn chosen_among(
+    alloc: Global,
+    namespace: &Option<Namespace>,
+    records: Option<&Buffer>,
+    found: Vec<Loose>,
+) -> Result<Vec<Loose>, PackError>
+    ensures chosen { (rs : List Record) → AreHeld records.entry rs → ChoosesAmong namespace.now rs
+        found.items result }
+    ensures errors { IfErr result IsAskError }
+{
     let mut chosen = Vec::new(alloc);
     for loose in found {
-        let is_chosen = loose.name.to_path().starts_with(b"refs/tags/")
-            || match &records {
-                Some(records) => has_record(alloc, store, records, &loose.name)?,
-                None => false,
-            };
-        if is_chosen {
+        if is_packed_again(alloc, namespace, records, &loose.name)? {
             chosen.push(loose).map_err(AllocError::from)?;
         }
     }
     Ok(chosen)
 }
 
+/// Those of these references that are packed: all, or tags and those with a record.
+fn choose<F: Files>(
+    alloc: Global,
+    store: &mut Store<F>,
+    is_all: bool,
+    found: Vec<Loose>,
+) -> Result<Vec<Loose>, PackError>
+    ensures chooses { Chooses F.honest F.means is_all store.old found.items result }
+    ensures looks { LooksUp F.honest F.means store.old store.new }
+{
+    if is_all {
+        return Ok(found);
+    }
+    match store.open_packed_buffer(alloc) {
+        Ok(records) => chosen_among(alloc, &store.namespace, records.as_ref(), found),
+        Err(error) => Err(PackError::Open(error)),
+    }
+}
+
 /// Adds the objects of branches, and of those of remotes: commits, by Git's own rule.
-fn add_branches(objects: &mut Objects, chosen: &[Loose]) -> Result<(), AllocError> {
+fn add_branches(objects: &mut Objects, chosen: &[Loose]) -> Result<(), AllocError>
+    ensures { OnOk result ((id : Id) → is_known objects.new id
+        ≡ (has_branch chosen.now id || is_known objects.old id)) }
+{
     for loose in chosen {
-        let path = loose.name.to_path();
-        if path.starts_with(b"refs/heads/") || path.starts_with(b"refs/remotes/") {
+        if is_commit(&loose.name) {
             objects.add_commit(loose.id)?;
         }
     }
@@ -167,8 +261,7 @@ fn add_branches(objects: &mut Objects, chosen: &[Loose]) -> Result<(), AllocErro
 
 /// The edit that gives a reference the object that it has already.
 fn same_object(alloc: Global, name: FullName, id: ObjectId) -> RefEdit
-    ensures keeps { KeepsObject result }
-    ensures name { name_of result ≡ full_bytes name }
+    ensures { KeepsObject (loose_to name id) result }
 {
     RefEdit {
         change: Change::Update {
@@ -187,7 +280,8 @@ fn edits_of(
     chosen: Vec<Loose>,
     objects: &Objects,
 ) -> Result<Vec<RefEdit>, AllocError>
-    ensures { IfOk result (λ edits. AllByRecursion KeepsObject edits.items) }
+    ensures { IfOk result (λ edits. AreKeptFor (filter (λ l. is_known objects.now l.id)
+        chosen.items) edits.items) }
 {
     let mut edits = Vec::new(alloc);
     for Loose { name, id } in chosen {
@@ -198,28 +292,6 @@ fn edits_of(
     Ok(edits)
 }
 
-/// Makes one transaction of the edits, which puts their objects into `packed-refs`, and removes their loose files or keeps them.
-fn put<F: Files>(
-    alloc: Global,
-    store: &mut Store<F>,
-    prune: bool,
-    edits: Vec<RefEdit>,
-    objects: Objects,
-) -> (Result<(), PackError>, Vec<Vec<u8>>) {
-    let mode = if prune {
-        PackedRefs::DeletionsAndNonSymbolicUpdatesRemoveLooseSourceReference(objects)
-    } else {
-        PackedRefs::DeletionsAndNonSymbolicUpdates(objects)
-    };
-    match store.transaction_with(mode).prepare(alloc, edits) {
-        Ok(prepared) => match prepared.commit(alloc, None) {
-            Ok(done) => (Ok(()), done.locks_left),
-            Err(failed) => (Err(PackError::Commit(failed.error)), failed.locks_left),
-        },
-        Err(refused) => (Err(PackError::Prepare(refused.error)), refused.locks_left),
-    }
-}
-
 /// The edits that pack what is asked for, and the finder for their transaction.
 fn planned<F: Files>(
     alloc: Global,
@@ -227,12 +299,65 @@ fn planned<F: Files>(
     is_all: bool,
     mut objects: Objects,
     broken: &mut Vec<loose_then_packed::Error>,
-) -> Result<(Vec<RefEdit>, Objects), PackError> {
-    let found = loose_objects(alloc, store, broken)?;
-    let chosen = chosen(alloc, store, is_all, found)?;
+) -> Result<Plan, PackError>
+    ensures plans { PlanComes F.honest F.means F.faults is_all objects store.old
+        broken.old.items broken.new.items result }
+    ensures looks { LooksUp F.honest F.means store.old store.new }
+{
+    let items = match list_loose(alloc, store) {
+        Ok(items) => items,
+        Err(_) => return Err(PackError::Memory),
+    };
+    let found = loose_objects(alloc, items, broken)?;
+    let chosen = choose(alloc, store, is_all, found)?;
     add_branches(&mut objects, &chosen)?;
     let edits = edits_of(alloc, chosen, &objects)?;
-    Ok((edits, objects))
+    Ok(Plan { edits, objects })
+}
+
+/// What the transaction does with `packed-refs`.
+fn mode(prune: bool, objects: Objects) -> PackedRefs<Objects>
+    ensures { result ≡ uses_of prune objects }
+{
+    if prune {
+        PackedRefs::DeletionsAndNonSymbolicUpdatesRemoveLooseSourceReference(objects)
+    } else {
+        PackedRefs::DeletionsAndNonSymbolicUpdates(objects)
+    }
+}
+
+/// Makes one transaction of the edits of a plan.
+fn put<F: Files>(
+    alloc: Global,
+    store: &mut Store<F>,
+    prune: bool,
+    plan: Plan,
+    broken: Vec<loose_then_packed::Error>,
+) -> Packed
+    ensures ends { PutEnds F.honest F.means F.faults (HasReadFault F.Reader.faults) prune plan
+        store.old store.new result.result (paths_of result.locks_left.items) }
+    ensures broken { result.broken ≡ broken }
+    ensures same { IsSameStore store.old store.new }
+{
+    let Plan { edits, objects } = plan;
+    let count = edits.len();
+    match make(alloc, store, mode(prune, objects), edits, None) {
+        Ok(done) => Packed {
+            result: Ok(count),
+            broken,
+            locks_left: done.locks_left,
+        },
+        Err(Error::Prepare(refused)) => Packed {
+            result: Err(PackError::Prepare(refused.error)),
+            broken,
+            locks_left: refused.locks_left,
+        },
+        Err(Error::Commit(failed)) => Packed {
+            result: Err(PackError::Commit(failed.error)),
+            broken,
+            locks_left: failed.locks_left,
+        },
+    }
 }
 
 /// Puts loose references into `packed-refs`, each with the object at the end of its tags, and with `prune` removes their loose files
@@ -240,35 +365,49 @@ fn planned<F: Files>(
 ///
 /// With `is_all` these are all loose references below `refs/` that point to a known object, except for those of one worktree alone, below
 /// `refs/bisect/`, `refs/rewritten/` and `refs/worktree/`. Without it they are the tags among these, and those that have a record in
-/// `packed-refs` already. Known are the objects of the table, and those of branches, below `refs/heads/` and `refs/remotes/`, which are
-/// commits by Git's own rule. In a namespace they are references of that namespace. Symbolic references stay as they are, and so do broken
-/// ones, which are handed back. All is one transaction, each of whose edits gives a reference the object that it has: no reference reads
-/// otherwise afterwards, also where an error is returned.
+/// `packed-refs` already. Known are the objects of the table, and those of the branches that are chosen, below `refs/heads/` and
+/// `refs/remotes/`, which are commits by Git's own rule. In a namespace they are references of that namespace. Symbolic references stay as
+/// they are, and so do broken ones, which are handed back. All is one transaction (clause `packs`), each of whose edits gives a reference
+/// the object that it has: no reference reads otherwise afterwards, whatever becomes of the call, nor at a stop or after a loss of power
+/// at any moment of it (clauses `stays`, `stops`, `losses`).
+///
+/// `Memory`; without `is_all` `Open`, where `packed-refs` cannot be opened, and `Find`, where a record that is asked for cannot be read;
+/// `Prepare`, as `Transaction::prepare`, and `Commit`, as `Prepared::commit`. Costs the listing of the loose references and one
+/// transaction of those that are packed.
 pub fn pack_refs<F: Files>(
     alloc: Global,
     store: &mut Store<F>,
     is_all: bool,
     prune: bool,
     objects: Objects,
-) -> Packed {
+) -> Packed
+    ensures packs { Packs F.honest F.means F.faults (HasReadFault F.Reader.faults) is_all prune
+        objects store.old store.new result }
+    ensures stays { F.honest → HasGoodRecords F.means store.old →
+        AreComposed (settings_of store.old) (view_in F.means store.old) →
+        EachReadsAsItDid F.honest F.means F.faults store.old (tree_of F.means store.new) }
+    ensures stops { F.honest → HasGoodRecords F.means store.old →
+        AreComposed (settings_of store.old) (view_in F.means store.old) →
+        StopsLeave (F.means (files_of store.old)) (F.means (files_of store.new))
+        (EachReadsAsItDid F.honest F.means F.faults store.old) }
+    ensures losses { F.honest → HasGoodRecords F.means store.old →
+        AreComposed (settings_of store.old) (view_in F.means store.old) →
+        IsAtRest F.means store.old →
+        LossesLeave (F.means (files_of store.old)) (F.means (files_of store.new))
+        (EachReadsAsItDid F.honest F.means F.faults store.old) }
+    ensures same { IsSameStore store.old store.new }
+{
     let mut broken = Vec::new(alloc);
     match planned(alloc, store, is_all, objects, &mut broken) {
-        Ok((edits, objects)) => {
-            let count = edits.len();
-            if count == 0 {
-                return Packed {
-                    result: Ok(0),
-                    broken,
-                    locks_left: Vec::new(alloc),
-                };
-            }
-            let (made, locks_left) = put(alloc, store, prune, edits, objects);
+        Ok(plan) => if plan.edits.is_empty() {
             Packed {
-                result: made.map(|_| count),
+                result: Ok(0),
                 broken,
-                locks_left,
+                locks_left: Vec::new(alloc),
             }
-        }
+        } else {
+            put(alloc, store, prune, plan, broken)
+        },
         Err(error) => Packed {
             result: Err(error),
             broken,

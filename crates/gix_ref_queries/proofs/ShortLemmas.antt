@@ -48,14 +48,14 @@ pub goes_on : (find mid : TargetsByName) (strict : Bool) (name full : List ℕ) 
 goes_on find mid strict name full more same is =
     sym (ap (λ (d : Option Bool). decided_or d (is_clear_among find strict name more)) (is ∙ ap (λ (f : TargetsByName). decided f strict name full) same))
 
--- the short name by one front, or by those after it
-pub shortens : (find mid : TargetsByName) (strict : Bool) (name front : List ℕ) (short : List ℕ) (more : List (List ℕ)) → mid ≡ find → Some short ≡ short_after mid strict name front → short ≡ short_by find strict name (front ∷ more)
-shortens find mid strict name front short more same is =
-    ap (λ (s : Option (List ℕ)). short_or s (short_by find strict name more)) (is ∙ ap (λ (f : TargetsByName). short_after f strict name front) same)
+-- the short name by one prefix, or by those after it
+pub shortens : (find mid : TargetsByName) (strict : Bool) (name prefix : List ℕ) (short : List ℕ) (more : List (List ℕ)) → mid ≡ find → Some short ≡ short_after mid strict name prefix → short ≡ short_by find strict name (prefix ∷ more)
+shortens find mid strict name prefix short more same is =
+    ap (λ (s : Option (List ℕ)). short_or s (short_by find strict name more)) (is ∙ ap (λ (f : TargetsByName). short_after f strict name prefix) same)
 
-pub shortens_not : (find mid : TargetsByName) (strict : Bool) (name front : List ℕ) (more : List (List ℕ)) → mid ≡ find → None ≡ short_after mid strict name front → short_by find strict name (front ∷ more) ≡ short_by find strict name more
-shortens_not find mid strict name front more same is =
-    sym (ap (λ (s : Option (List ℕ)). short_or s (short_by find strict name more)) (is ∙ ap (λ (f : TargetsByName). short_after f strict name front) same))
+pub shortens_not : (find mid : TargetsByName) (strict : Bool) (name prefix : List ℕ) (more : List (List ℕ)) → mid ≡ find → None ≡ short_after mid strict name prefix → short_by find strict name (prefix ∷ more) ≡ short_by find strict name more
+shortens_not find mid strict name prefix more same is =
+    sym (ap (λ (s : Option (List ℕ)). short_or s (short_by find strict name more)) (is ∙ ap (λ (f : TargetsByName). short_after f strict name prefix) same))
 
 -- why there is no short name, once the store was looked at
 pub no_short_before : {F R : Type 0} (G : Ghosts R) (honest : Type 0) (means : F → Meaning) (faults : F → FaultCounts) (old mid : Store F) (error : ShortError) → LooksUp honest means old mid → IsNoShort G honest means faults mid error → IsNoShort G honest means faults old error
@@ -69,16 +69,16 @@ clear_step find strict name names i full lt is =
     at_drop_more (λ (ns : List (Vec ℕ Global)). is_clear_among find strict name (row_texts ns)) names i full lt
     ∙ ap (λ (v : Vec ℕ Global). is_clear_among find strict name (row_texts (v ∷ drop (i + 1) names))) (sym is)
 
--- one front more
-pub short_step : (find : TargetsByName) (strict : Bool) (name : List ℕ) (fronts : List (Bor (List ℕ))) (i : ℕ) (none : Bor (List ℕ)) → i < length fronts →
-    short_by find strict name (texts (drop i fronts)) ≡ short_by find strict name ((get_or fronts i none).now ∷ texts (drop (i + 1) fronts))
-short_step find strict name fronts i none lt = at_drop_more (λ (fs : List (Bor (List ℕ))). short_by find strict name (texts fs)) fronts i none lt
+-- one prefix more
+pub short_step : (find : TargetsByName) (strict : Bool) (name : List ℕ) (prefixes : List (Bor (List ℕ))) (i : ℕ) (none : Bor (List ℕ)) → i < length prefixes →
+    short_by find strict name (texts (drop i prefixes)) ≡ short_by find strict name ((get_or prefixes i none).now ∷ texts (drop (i + 1) prefixes))
+short_step find strict name prefixes i none lt = at_drop_more (λ (fs : List (Bor (List ℕ))). short_by find strict name (texts fs)) prefixes i none lt
 
--- the rest of a name after a front, where it is short for it alone, or is not
-pub short_is : (find : TargetsByName) (strict clear : Bool) (name front short : List ℕ) (names : List (List ℕ)) (result : Option (List ℕ)) → bytes_eq (take (length front) name) front ≡ true → short ≡ drop (length front) name → names ≡ full_names short →
-    clear ≡ is_clear_among find strict name names → result ≡ (if clear then Some short else None) → result ≡ short_after find strict name front
-short_is find strict clear name front short names result begins rest are is made =
+-- the rest of a name after a prefix, where it is short for it alone, or is not
+pub short_is : (find : TargetsByName) (strict clear : Bool) (name prefix short : List ℕ) (names : List (List ℕ)) (result : Option (List ℕ)) → bytes_eq (take (length prefix) name) prefix ≡ true → short ≡ drop (length prefix) name → names ≡ full_names short →
+    clear ≡ is_clear_among find strict name names → result ≡ (if clear then Some short else None) → result ≡ short_after find strict name prefix
+short_is find strict clear name prefix short names result begins rest are is made =
     made
     ∙ (ap (λ (b : Bool). let o : Option (List ℕ) = if b then Some short else None in o) (is ∙ ap (is_clear_among find strict name) are)
     ∙ (ap (λ (s : List ℕ). let o : Option (List ℕ) = if is_clear_among find strict name (full_names s) then Some s else None in o) rest
-    ∙ sym (ap (λ (b : Bool). let o : Option (List ℕ) = if b && is_clear_among find strict name (full_names (drop (length front) name)) then Some (drop (length front) name) else None in o) begins)))
+    ∙ sym (ap (λ (b : Bool). let o : Option (List ℕ) = if b && is_clear_among find strict name (full_names (drop (length prefix) name)) then Some (drop (length prefix) name) else None in o) begins)))

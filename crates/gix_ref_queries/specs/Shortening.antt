@@ -52,23 +52,23 @@ is_clear_among find strict name [] = true
 is_clear_among find strict name (full ∷ more) =
     decided_or (decided find strict name full) (is_clear_among find strict name more)
 
--- the rest of a name after this front, where that is short for it alone
-abbrev pub short_after : TargetsByName → (strict : Bool) → (name front : List ℕ) → Option (List ℕ)
-short_after find strict name front =
-    let short = drop (length front) name in
-    if bytes_eq (take (length front) name) front
+-- the rest of a name after this prefix, where that is short for it alone
+abbrev pub short_after : TargetsByName → (strict : Bool) → (name prefix : List ℕ) → Option (List ℕ)
+short_after find strict name prefix =
+    let short = drop (length prefix) name in
+    if bytes_eq (take (length prefix) name) prefix
     && is_clear_among find strict name (full_names short) then Some short else None
 
 abbrev pub short_or : Option (List ℕ) → (other : List ℕ) → List ℕ
 short_or (Some short) other = short
 short_or None other = other
 
--- and so by the first of these fronts; else the name itself
-abbrev pub short_by : TargetsByName → (strict : Bool) → (name : List ℕ) → (fronts : List (List ℕ)) →
+-- and so by the first of these prefixes; else the name itself
+abbrev pub short_by : TargetsByName → (strict : Bool) → (name : List ℕ) → (prefixes : List (List ℕ)) →
     List ℕ
 short_by find strict name [] = name
-short_by find strict name (front ∷ fronts) =
-    short_or (short_after find strict name front) (short_by find strict name fronts)
+short_by find strict name (prefix ∷ prefixes) =
+    short_or (short_after find strict name prefix) (short_by find strict name prefixes)
 
 -- the short name of a reference
 abbrev pub short_name : TargetsByName → (strict : Bool) → (name : List ℕ) → List ℕ

@@ -65,14 +65,14 @@ fn leads_to_object<F: Files>(
 fn push_name(
     alloc: Global,
     names: &mut Vec<Vec<u8>>,
-    front: &[u8],
+    prefix: &[u8],
     short: &[u8],
     end: &[u8],
 ) -> Result<(), AllocError>
     ensures { OnOk result (row_texts names.new.items
-        ≡ row_texts names.old.items ++ (front.now ++ (short.now ++ end.now)) ∷ []) }
+        ≡ row_texts names.old.items ++ (prefix.now ++ (short.now ++ end.now)) ∷ []) }
 {
-    let mut name = front.to_vec(alloc)?;
+    let mut name = prefix.to_vec(alloc)?;
     name.extend_from_slice(short)?;
     name.extend_from_slice(end)?;
     names.push(name)?;
@@ -143,22 +143,22 @@ fn is_clear_among<F: Files>(
     Ok(true)
 }
 
-/// The rest of a name after this front, where that is short for it alone.
+/// The rest of a name after this prefix, where that is short for it alone.
 fn short_after<'n, F: Files>(
     alloc: Global,
     store: &mut Store<F>,
     strict: bool,
     name: &'n [u8],
-    front: &[u8],
+    prefix: &[u8],
 ) -> Result<Option<&'n [u8]>, ShortError>
     ensures short { F.honest → (records : List Record) → AreRecordsIn F.means store.old records →
         IfOk result (λ short. lent_bytes short
-        ≡ short_after (targets_in F.means store.old records) strict name.now front.now) }
+        ≡ short_after (targets_in F.means store.old records) strict name.now prefix.now) }
     ensures failed { IfErr result
         (IsNoShort F.Reader.ReadAt F.honest F.means F.faults store.old) }
     ensures unchanged { LooksUp F.honest F.means store.old store.new }
 {
-    let Some(short) = name.strip_prefix(front) else {
+    let Some(short) = name.strip_prefix(prefix) else {
         return Ok(None);
     };
     let names = full_names(alloc, short)?;
@@ -168,23 +168,23 @@ fn short_after<'n, F: Files>(
     }
 }
 
-/// The short name by the first of these fronts that gives one; else the name itself.
+/// The short name by the first of these prefixes that gives one; else the name itself.
 fn short_by<'n, F: Files>(
     alloc: Global,
     store: &mut Store<F>,
     strict: bool,
     name: &'n [u8],
-    fronts: &[&[u8]],
+    prefixes: &[&[u8]],
 ) -> Result<&'n [u8], ShortError>
     ensures short { F.honest → (records : List Record) → AreRecordsIn F.means store.old records →
         IfOk result (λ short. short.now
-        ≡ short_by (targets_in F.means store.old records) strict name.now (texts fronts.now)) }
+        ≡ short_by (targets_in F.means store.old records) strict name.now (texts prefixes.now)) }
     ensures failed { IfErr result
         (IsNoShort F.Reader.ReadAt F.honest F.means F.faults store.old) }
     ensures unchanged { LooksUp F.honest F.means store.old store.new }
 {
-    for front in fronts {
-        match short_after(alloc, store, strict, name, front) {
+    for prefix in prefixes {
+        match short_after(alloc, store, strict, name, prefix) {
             Ok(Some(short)) => return Ok(short),
             Ok(None) => {}
             Err(error) => return Err(error),
@@ -213,6 +213,6 @@ pub fn short_name<'n, F: Files>(
         (IsNoShort F.Reader.ReadAt F.honest F.means F.faults store.old) }
     ensures unchanged { LooksUp F.honest F.means store.old store.new }
 {
-    let fronts: &[&[u8]] = &[b"refs/remotes/", b"refs/heads/", b"refs/tags/", b"refs/"];
-    short_by(alloc, store, strict, name, fronts)
+    let prefixes: &[&[u8]] = &[b"refs/remotes/", b"refs/heads/", b"refs/tags/", b"refs/"];
+    short_by(alloc, store, strict, name, prefixes)
 }

@@ -1,9 +1,11 @@
 //! A listing after a transaction.
-ghost use Rattle.std.specs.Prelude.{◌≡◌, ◌<◌, true, IfOk, IfErr};
+ghost use Rattle.std.specs.Prelude.{◌≡◌, ◌<◌, [], true, IfOk, IfErr};
+ghost use Rattle.gix_ref_listing.specs.declared.prefix.Error.TheVariants.{Memory};
 ghost use Rattle.gix_ref_packed.specs.OpenFiles.{HasReadFault};
-ghost use Rattle.gix_ref_store.specs.Listings.{AreHeldFor, items_ahead, store_listed, walked_prefix};
+ghost use Rattle.gix_ref_store.specs.Listings.{AreHeldFor, items_ahead, prefix_of_all, store_listed, walked_prefix};
 ghost use Rattle.gix_ref_store.specs.Lookup.{LooksUp};
-ghost use Rattle.gix_ref_read_back.specs.ListedItems.{TakesNext, GivesAll, ListsAmong, ListsIn};
+ghost use Rattle.gix_ref_store.specs.Store.{files_of};
+ghost use Rattle.gix_ref_read_back.specs.ListedItems.{AreItemsIn, TakesNext, GivesAll, ListsAmong, ListsIn};
 ghost use Rattle.gix_ref_read_back.specs.WholeRuns.{ListsAfter, IsNotMade};
 
 use crate::error::Error;
@@ -105,6 +107,33 @@ pub(crate) fn list<F: Files>(
     match store.open_packed_prefixed(alloc, prefix) {
         Ok(packed) => list_among(alloc, store, names, packed.as_ref()),
         Err(error) => Err(iter::Error::PackedOpen(error)),
+    }
+}
+
+/// The items of the listing of the loose references alone, up to its end, as `Store::loose_iter` gives them: below `refs/`, in a namespace
+/// all. Costs the calls of files of that listing, and the memory of its items.
+///
+/// `Memory`.
+pub fn list_loose<F: Files>(
+    alloc: Global,
+    store: &mut Store<F>,
+) -> Result<Vec<Result<Reference, loose_then_packed::Error>>, iter::Error>
+    ensures lists { F.honest → IfOk result (λ all. AreItemsIn F.honest F.means F.faults store.old
+        (F.faults (files_of store.old)) (F.faults (files_of store.new)) []
+        (prefix_of_all store.old.namespace) all.items) }
+    ensures unchanged { LooksUp F.honest F.means store.old store.new }
+    ensures memory { IfErr result (λ error. error ≡ Memory) }
+{
+    match store.loose_iter(alloc) {
+        Ok(mut items) => {
+            let all = collect(alloc, &mut items);
+            items.into_store();
+            match all {
+                Ok(all) => Ok(all),
+                Err(_) => Err(iter::Error::Memory),
+            }
+        }
+        Err(error) => Err(error),
     }
 }
 

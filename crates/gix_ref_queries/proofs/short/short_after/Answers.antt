@@ -10,7 +10,7 @@ pub returns-in-Ok-clause-short : goal.returns-in-Ok-clause-short
 returns-in-Ok-clause-short g c h records are =
     let short = c.in-Some.short.now in
     let either = λ (b : Bool). let o : Option (List ℕ) = if b then Some short else None in o in
-    short_is (targets_in g.F.Files.means c.args.store.now records) c.args.strict c.in-Ok.clear c.args.name.now c.args.front.now short (row_texts c.deref.result.now) (lent_bytes c.if-clear.result) c.in-Some.ensures.cases.0 c.in-Some.ensures.cases.1
+    short_is (targets_in g.F.Files.means c.args.store.now records) c.args.strict c.in-Ok.clear c.args.name.now c.args.prefix.now short (row_texts c.deref.result.now) (lent_bytes c.if-clear.result) c.in-Some.ensures.cases.0 c.in-Some.ensures.cases.1
     (ap row_texts c.deref.ensures.value ∙ c.in_ok-names.ensures) (c.in-Ok.ensures.clear h records are)
     (elim c.if-clear.branch [
       | then-clear w ↦ ap lent_bytes w.result-is ∙ sym (ap either w.if-clear.true)

@@ -9,33 +9,33 @@ pub returns-in-Ok-Some-clause-short : goal.returns-in-Ok-Some-clause-short
 returns-in-Ok-Some-clause-short g c h records are =
     let F = g.F.Files in
     let old = c.args.store.now in
-    let mid = c.loop-front.store in
+    let mid = c.loop-prefix.store in
     let find = targets_in F.means old records in
-    let looked = c.loop-front.invariant.unchanged in
-    let fronts = c.args.fronts.now in
-    let i = c.loop-front.front-index in
+    let looked = c.loop-prefix.invariant.unchanged in
+    let prefixes = c.args.prefixes.now in
+    let i = c.loop-prefix.prefix-index in
     let none : Bor (List ℕ) = record { ref_ptr = (0, 0); now = [] } in
-    shortens find (targets_in F.means mid records) c.args.strict c.args.name.now (get_or fronts i none).now c.in-Ok-Some.short.now (texts (drop (i + 1) fronts)) (same_finds F.honest F.means old mid records looked h)
+    shortens find (targets_in F.means mid records) c.args.strict c.args.name.now (get_or prefixes i none).now c.in-Ok-Some.short.now (texts (drop (i + 1) prefixes)) (same_finds F.honest F.means old mid records looked h)
     (rw c.in-Ok-Some.field-0-is at (c.in-Ok-Some.ensures.short h records (same_records F.honest F.means old mid records looked h are)))
-    ∙ (sym (short_step find c.args.strict c.args.name.now fronts i none c.loop-front-test.true) ∙ sym (c.loop-front.invariant.short h records are))
+    ∙ (sym (short_step find c.args.strict c.args.name.now prefixes i none c.loop-prefix-test.true) ∙ sym (c.loop-prefix.invariant.short h records are))
 
 pub returns-in-Err-clause-failed : goal.returns-in-Err-clause-failed
-returns-in-Err-clause-failed g c = no_short_before g.F.Reader.ReadAt g.F.Files.honest g.F.Files.means g.F.Files.faults c.args.store.now c.loop-front.store c.in-Err.error c.loop-front.invariant.unchanged c.in-Err.ensures.failed
+returns-in-Err-clause-failed g c = no_short_before g.F.Reader.ReadAt g.F.Files.honest g.F.Files.means g.F.Files.faults c.args.store.now c.loop-prefix.store c.in-Err.error c.loop-prefix.invariant.unchanged c.in-Err.ensures.failed
 
-pub loop-front-preserved : goal.loop-front-preserved
-loop-front-preserved g c =
+pub loop-prefix-preserved : goal.loop-prefix-preserved
+loop-prefix-preserved g c =
     let F = g.F.Files in
     let old = c.args.store.now in
-    let mid = c.loop-front.store in
-    let looked = c.loop-front.invariant.unchanged in
-    let fronts = c.args.fronts.now in
-    let i = c.loop-front.front-index in
+    let mid = c.loop-prefix.store in
+    let looked = c.loop-prefix.invariant.unchanged in
+    let prefixes = c.args.prefixes.now in
+    let i = c.loop-prefix.prefix-index in
     let none : Bor (List ℕ) = record { ref_ptr = (0, 0); now = [] } in
     record {
       short = λ h records are.
           let find = targets_in F.means old records in
-          c.loop-front.invariant.short h records are ∙ (short_step find c.args.strict c.args.name.now fronts i none c.loop-front-test.true
-          ∙ shortens_not find (targets_in F.means mid records) c.args.strict c.args.name.now (get_or fronts i none).now (texts (drop (i + 1) fronts)) (same_finds F.honest F.means old mid records looked h)
+          c.loop-prefix.invariant.short h records are ∙ (short_step find c.args.strict c.args.name.now prefixes i none c.loop-prefix-test.true
+          ∙ shortens_not find (targets_in F.means mid records) c.args.strict c.args.name.now (get_or prefixes i none).now (texts (drop (i + 1) prefixes)) (same_finds F.honest F.means old mid records looked h)
           (rw c.in-Ok-None.field-0-is at (c.in-Ok-None.ensures.short h records (same_records F.honest F.means old mid records looked h are))));
       unchanged = looks_up F.honest F.means old mid c.short_after.new.store looked c.short_after.ensures.unchanged;
     }

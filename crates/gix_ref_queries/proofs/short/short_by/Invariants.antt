@@ -6,11 +6,11 @@ use Rattle.gix_ref_queries.specs.Shortening.{short_by}
 use Rattle.gix_ref_store.specs.Lookup.{AreRecordsIn, LooksUp}
 use Rattle.gix_ref_queries.proofs.short.short_by.Given as goal
 
--- no front so far gives a short name
-abbrev pub invariant-loop-front : goal.invariant-loop-front
-invariant-loop-front g l =
+-- no prefix so far gives a short name
+abbrev pub invariant-loop-prefix : goal.invariant-loop-prefix
+invariant-loop-prefix g l =
     let F = g.F.Files in
     record {
-      short : F.honest → (records : List Record) → AreRecordsIn F.means l.fn.store records → short_by (targets_in F.means l.fn.store records) l.fn.strict l.fn.name (texts l.fn.fronts) ≡ short_by (targets_in F.means l.fn.store records) l.fn.strict l.fn.name (texts (drop l.front-index l.fn.fronts));
+      short : F.honest → (records : List Record) → AreRecordsIn F.means l.fn.store records → short_by (targets_in F.means l.fn.store records) l.fn.strict l.fn.name (texts l.fn.prefixes) ≡ short_by (targets_in F.means l.fn.store records) l.fn.strict l.fn.name (texts (drop l.prefix-index l.fn.prefixes));
       unchanged : LooksUp F.honest F.means l.fn.store l.store;
     }

@@ -1,0 +1,189 @@
+-- What is chosen, one loose reference after the other.
+use Rattle.std.proofs.Common.{◌≡◌, ℕ, Bool, true, false, List, [], ◌∷◌, ◌++◌, refl, sym, ◌∙◌, ap, subst, Option, Some, None, Result, cond, append-nil, append_assoc}
+use Rattle.std.specs.Prelude.{◌&&◌, ◌||◌, bytes_eq, is_some}
+use Rattle.std.specs.Cmp.Lexicographic.{bytes_decides}
+use Rattle.std.specs.Option.{option_copied}
+use denote.Ref.{Bor}
+use Rattle.std.specs.List.{cons_option, filter, filter_map}
+use Rattle.std.specs.Ordering.{is_eq}
+use Rattle.std.specs.declared.cmp.Ordering.{Ordering}
+use Rattle.std.specs.declared.cmp.Ordering.TheVariants.{Less, Equal, Greater}
+use Rattle.std.proofs.lemmas.List.Elements.{filter-append, filter_map-append}
+use Rattle.std.proofs.lemmas.List.Folds.{list_any-append}
+use Rattle.std.proofs.lemmas.Map.Lookups.{exact_bytes}
+use Rattle.gix_ref_files.specs.Tree.{Content, bytes_of, is_file}
+use Rattle.gix_ref_files.specs.Tree.Content.{File, Folder}
+use Rattle.gix_ref_hash.specs.declared.hash.Kind.{Kind}
+use Rattle.gix_ref_hash.specs.declared.hash.ObjectId.{ObjectId}
+use Rattle.gix_ref_hash.specs.declared.hash.ObjectId.TheVariants.{Sha1, Sha256}
+use Rattle.gix_ref_name.specs.NameGrammar.{IsFullName}
+use Rattle.gix_ref_target.specs.PackedRecords.{Record, record_named}
+use Rattle.gix_ref_packed_text.specs.RecordGrammar.{Records as AreRecords}
+use Rattle.gix_ref_packed.specs.Buffers.{HoldsRecords, Opened, buffer_kind, buffer_text}
+use Rattle.gix_ref_packed.specs.declared.packed.buffer.Buffer.{Buffer}
+use Rattle.gix_ref_packed.proofs.WellFormedLemmas.{opened_holds}
+use Rattle.gix_ref_theory.specs.OnRealTrees.{file_of}
+use Rattle.gix_ref_edits.specs.declared.transaction.RefEdit.{RefEdit}
+use Rattle.gix_ref_lookup.specs.Lookups.{ArePackedRecords}
+use Rattle.gix_ref_packed_text.specs.declared.raw.Reference.{Reference}
+use Rattle.gix_ref_listing.specs.declared.error.Error.{Error}
+use Rattle.gix_ref_store.specs.Lookup.{AreHeld}
+use Rattle.gix_ref_pack.specs.KeptObjects.{AreKeptFor, KeepsObject}
+use Rattle.gix_ref_pack.specs.KnownObjects.{id_order, is_known}
+use Rattle.gix_ref_pack.specs.LooseObjects.{fault_in, faults_among, has_branch, is_branch}
+use Rattle.gix_ref_pack.specs.declared.objects.Objects.{Objects}
+use Rattle.gix_ref_pack.specs.declared.pack.Loose.{Loose}
+
+-- one more that a filter keeps, or not
+pub filter_more : {A : Type 0} (test : A → Bool) (xs kept : List A) (x : A) → kept ≡ filter test xs → test x ≡ true → kept ++ x ∷ [] ≡ filter test (xs ++ x ∷ [])
+filter_more {A = A} test xs kept x so_far is =
+    ap (λ (ks : List A). ks ++ x ∷ []) so_far
+    ∙ (ap (λ b. filter test xs ++ cond b (x ∷ []) []) (sym is) ∙ sym (filter-append test xs (x ∷ [])))
+
+pub filter_not : {A : Type 0} (test : A → Bool) (xs kept : List A) (x : A) → kept ≡ filter test xs → test x ≡ false → kept ≡ filter test (xs ++ x ∷ [])
+filter_not {A = A} test xs kept x so_far is =
+    so_far ∙ (sym (append-nil (filter test xs)) ∙ (ap (λ b. filter test xs ++ cond b (x ∷ []) []) (sym is) ∙ sym (filter-append test xs (x ∷ []))))
+
+-- one more of which something is given, or nothing
+pub map_more : {A B : Type 0} (h : A → Option B) (xs : List A) (given after : List B) (x : A) (y : B) → after ≡ given ++ y ∷ [] → given ≡ filter_map h xs → h x ≡ Some y → after ≡ filter_map h (xs ++ x ∷ [])
+map_more {B = B} h xs given after x y added so_far is =
+    added
+    ∙ (ap (λ (ys : List B). ys ++ y ∷ []) so_far
+    ∙ (ap (λ o. filter_map h xs ++ cons_option o []) (sym is) ∙ sym (filter_map-append h xs (x ∷ []))))
+
+pub map_none : {A B : Type 0} (h : A → Option B) (xs : List A) (given : List B) (x : A) → given ≡ filter_map h xs → h x ≡ None → given ≡ filter_map h (xs ++ x ∷ [])
+map_none h xs given x so_far is =
+    so_far ∙ (sym (append-nil (filter_map h xs)) ∙ (ap (λ o. filter_map h xs ++ cons_option o []) (sym is) ∙ sym (filter_map-append h xs (x ∷ []))))
+
+-- the faults among the items of a listing, after those before it
+pub faults_stay : (before broken : List Error) (items : List (Result Reference Error)) (item : Result Reference Error) → broken ≡ before ++ faults_among items → fault_in item ≡ None → broken ≡ before ++ faults_among (items ++ item ∷ [])
+faults_stay before broken items item so_far none = so_far ∙ ap (λ (fs : List Error). before ++ fs) (map_none fault_in items (faults_among items) item refl none)
+
+pub fault_more : (before broken after : List Error) (items : List (Result Reference Error)) (item : Result Reference Error) (error : Error) → after ≡ broken ++ error ∷ [] → broken ≡ before ++ faults_among items → fault_in item ≡ Some error → after ≡ before ++ faults_among (items ++ item ∷ [])
+fault_more before broken after items item error added so_far one =
+    added
+    ∙ (ap (λ (fs : List Error). fs ++ error ∷ []) so_far
+    ∙ (append_assoc before (faults_among items) (error ∷ []) ∙ ap (λ (fs : List Error). before ++ fs) (map_more fault_in items (faults_among items) (faults_among items ++ error ∷ []) item error refl refl one)))
+
+-- one more edit
+pub kept_more : (loose : List Loose) (edits : List RefEdit) (l : Loose) (edit : RefEdit) → AreKeptFor loose edits → KeepsObject l edit → AreKeptFor (loose ++ l ∷ []) (edits ++ edit ∷ [])
+kept_more [] [] l edit are keeps = (keeps, tt)
+kept_more [] (e ∷ edits) l edit are keeps = absurd are
+kept_more (m ∷ loose) [] l edit are keeps = absurd are
+kept_more (m ∷ loose) (e ∷ edits) l edit (first, are) keeps = (first, kept_more loose edits l edit are keeps)
+
+pub kept_filter_more : (test : Loose → Bool) (all : List Loose) (edits : List RefEdit) (l : Loose) (edit : RefEdit) → AreKeptFor (filter test all) edits → test l ≡ true → KeepsObject l edit → AreKeptFor (filter test (all ++ l ∷ [])) (edits ++ edit ∷ [])
+kept_filter_more test all edits l edit are is keeps =
+    subst (λ (ls : List Loose). AreKeptFor ls (edits ++ edit ∷ [])) (filter_more test all (filter test all) l refl is) (kept_more (filter test all) edits l edit are keeps)
+
+pub kept_filter_not : (test : Loose → Bool) (all : List Loose) (edits : List RefEdit) (l : Loose) → AreKeptFor (filter test all) edits → test l ≡ false → AreKeptFor (filter test (all ++ l ∷ [])) edits
+kept_filter_not test all edits l are is = subst (λ (ls : List Loose). AreKeptFor ls edits) (filter_not test all (filter test all) l refl is) are
+
+-- ids that compare equal are the same
+pub same_id : (a b : ObjectId) → is_eq (id_order a b) ≡ true → a ≡ b
+same_id (Sha1 a) (Sha1 b) is = ap Sha1 (exact_bytes a b (equal _ is))
+  where
+    equal : (o : Ordering) → is_eq o ≡ true → o ≡ Equal
+    equal Less other = cc
+    equal Equal same = refl
+    equal Greater other = cc
+same_id (Sha1 a) (Sha256 b) is = cc
+same_id (Sha256 a) (Sha1 b) is = cc
+same_id (Sha256 a) (Sha256 b) is = ap Sha256 (exact_bytes a b (equal _ is))
+  where
+    equal : (o : Ordering) → is_eq o ≡ true → o ≡ Equal
+    equal Less other = cc
+    equal Equal same = refl
+    equal Greater other = cc
+
+-- an object that is known already is the same with one that is added
+pub known_already : (objects : Objects) (id other : ObjectId) → is_known objects id ≡ true → is_known objects other ≡ (is_eq (id_order id other) || is_known objects other)
+known_already objects id other known = by (is_eq (id_order id other)) refl
+  where
+    by : (b : Bool) → is_eq (id_order id other) ≡ b → is_known objects other ≡ (b || is_known objects other)
+    by true same = subst (λ (o : ObjectId). is_known objects o ≡ true) (same_id id other same) known
+    by false differ = refl
+
+-- the objects of one branch more
+pub branch_more : (chosen : List Loose) (l : Loose) (first before after : Objects) → (more : List Loose) → more ≡ chosen ++ l ∷ [] →
+    ((id : ObjectId) → is_known before id ≡ (has_branch chosen id || is_known first id)) → is_branch l.name ≡ true → ((id : ObjectId) → is_known after id ≡ (is_eq (id_order l.id id) || is_known before id)) →
+    (id : ObjectId) → is_known after id ≡ (has_branch more id || is_known first id)
+branch_more chosen l first before after more more_is so_far is added id =
+    added id ∙ (ap (λ b. is_eq (id_order l.id id) || b) (so_far id) ∙ (turned (is_eq (id_order l.id id)) (has_branch chosen id) (is_known first id) ∙ ap (λ b. b || is_known first id) (sym whole)))
+  where
+    turned : (a b c : Bool) → (a || (b || c)) ≡ ((b || a) || c)
+    turned true true c = refl
+    turned true false c = refl
+    turned false true c = refl
+    turned false false c = refl
+
+    alone : (b c : Bool) → b ≡ true → ((b && c) || false) ≡ c
+    alone true true here = refl
+    alone true false here = refl
+    alone false c here = cc
+
+    whole : has_branch more id ≡ (has_branch chosen id || is_eq (id_order l.id id))
+    whole = ap (λ (ls : List Loose). has_branch ls id) more_is
+        ∙ (list_any-append (λ (m : Loose). is_branch m.name && is_eq (id_order m.id id)) chosen (l ∷ [])
+        ∙ ap (λ b. has_branch chosen id || b) (alone (is_branch l.name) (is_eq (id_order l.id id)) is))
+
+pub branch_not : (chosen : List Loose) (l : Loose) (first before : Objects) → (more : List Loose) → more ≡ chosen ++ l ∷ [] →
+    ((id : ObjectId) → is_known before id ≡ (has_branch chosen id || is_known first id)) → is_branch l.name ≡ false →
+    (id : ObjectId) → is_known before id ≡ (has_branch more id || is_known first id)
+branch_not chosen l first before more more_is so_far is id = so_far id ∙ ap (λ b. b || is_known first id) (sym whole)
+  where
+    none : (b c : Bool) → b ≡ false → ((b && c) || false) ≡ false
+    none true c other = cc
+    none false c other = refl
+
+    or_false : (b : Bool) → (b || false) ≡ b
+    or_false true = refl
+    or_false false = refl
+
+    whole : has_branch more id ≡ has_branch chosen id
+    whole = ap (λ (ls : List Loose). has_branch ls id) more_is
+        ∙ (list_any-append (λ (m : Loose). is_branch m.name && is_eq (id_order m.id id)) chosen (l ∷ [])
+        ∙ (ap (λ b. has_branch chosen id || b) (none (is_branch l.name) (is_eq (id_order l.id id)) is) ∙ or_false (has_branch chosen id)))
+
+-- one more object in a table
+pub known_more : (b : Bool) (found : Option (Option ObjectId)) → is_some (cond b (Some None) found) ≡ (b || is_some found)
+known_more true found = refl
+known_more false found = refl
+
+-- a key that is no full name has no record
+valid_named : (kind : Kind) (text : List ℕ) (rs : List Record) (key : List ℕ) → AreRecords kind text rs → (IsFullName key → ⊥) → record_named key rs ≡ None
+valid_named kind text [] key are bad = refl
+valid_named kind text (r ∷ rs) key are bad = by (bytes_eq r.name key) refl (valid_named kind are.0 rs key are.2 bad)
+  where
+    by : (b : Bool) → bytes_eq r.name key ≡ b → record_named key rs ≡ None → cond b (Some r) (record_named key rs) ≡ None
+    by true same later = absurd (bad (subst IsFullName ((bytes_decides r.name key).0 same) are.1.valid))
+    by false other later = later
+
+pub no_record : (kind : Kind) (rs : List Record) (text key : List ℕ) → HoldsRecords kind rs text → (IsFullName key → ⊥) → record_named key rs ≡ None
+no_record kind rs text key holds bad = sym (holds.named key) ∙ valid_named kind text holds.held key holds.records bad
+
+-- this is the buffer of an opened file, or there is no file
+abbrev pub IsOpened : Kind → Option Content → Option Buffer → Type 0
+IsOpened kind content None = is_file content ≡ false
+IsOpened kind content (Some b) = (is_file content ≡ true) × Opened kind (bytes_of content) b
+
+-- and these are its records
+pub held_now : (kind : Kind) (content : Option Content) (records : List Record) (opened : Option Buffer) (lent : Option (Bor Buffer)) → ArePackedRecords kind (file_of content) records →
+    IsOpened kind content opened → option_copied lent ≡ opened → AreHeld lent records
+held_now kind content records None None are opens value = none content are opens
+  where
+    none : (content : Option Content) → ArePackedRecords kind (file_of content) records → is_file content ≡ false → records ≡ []
+    none (Some (File bytes)) are no_file = cc
+    none (Some Folder) are no_file = are
+    none None are no_file = are
+held_now kind content records (Some b) (Some lent) are opens value = subst (λ (x : Buffer). HoldsRecords (buffer_kind x) records (buffer_text x)) (inner b lent.now (sym value)) (holds content are opens.0 opens.1)
+  where
+    inner : (x y : Buffer) → ◌≡◌ {A = Option Buffer} (Some x) (Some y) → x ≡ y
+    inner x y same = cc
+
+    holds : (content : Option Content) → ArePackedRecords kind (file_of content) records → is_file content ≡ true → Opened kind (bytes_of content) b → HoldsRecords (buffer_kind b) records (buffer_text b)
+    holds (Some (File bytes)) are a_file opened = subst (λ (k : Kind). HoldsRecords k records (buffer_text b)) (sym opened.kind_is) (opened_holds kind bytes are.0 records b are.1 opened)
+    holds (Some Folder) are a_file opened = absurd (cc)
+    holds None are a_file opened = absurd (cc)
+held_now kind content records None (Some lent) are opens value = absurd (cc)
+held_now kind content records (Some b) None are opens value = absurd (cc)

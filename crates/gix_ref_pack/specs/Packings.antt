@@ -1,0 +1,169 @@
+-- What becomes of a packing: one transaction of what is chosen, and each reference reads as it did (`git pack-refs`).
+use Rattle.std.specs.Prelude.{◌≡◌, ◌⊎◌, ◌++◌, ◌||◌, ℕ, List, [], Bool, true, false, Option, None, Result, Ok, Err, Vec, length}
+use Rattle.std.specs.List.{filter}
+use Rattle.std.specs.declared.alloc.Global.{Global}
+use Rattle.gix_ref_files.specs.declared.files.FileError.{FileError}
+use Rattle.gix_ref_files.specs.Files.{Meaning, FaultCounts}
+use Rattle.gix_ref_files.specs.Tree.{Path, Tree}
+use Rattle.gix_ref_hash.specs.declared.hash.ObjectId.{ObjectId}
+use Rattle.gix_ref_name.specs.declared.namespace.Namespace.{Namespace}
+use Rattle.gix_ref_target.specs.PackedRecords.{Record}
+use Rattle.gix_ref_packed_text.specs.declared.raw.Reference.{Reference}
+use Rattle.gix_ref_listing.specs.declared.error.Error.{Error as ItemError}
+use Rattle.gix_ref_store.specs.Listings.{prefix_of_all}
+use Rattle.gix_ref_store.specs.Lookup.{AreRecordsIn, LooksUp, RefusesBuffer}
+use Rattle.gix_ref_store.specs.Prepared.{HasGoodRecords}
+use Rattle.gix_ref_store.specs.Store.{files_of, meaning_of}
+use Rattle.gix_ref_store.specs.declared.file.store.Store.{Store}
+use Rattle.gix_ref_store.specs.declared.file.transaction.outcome.Done.{Done}
+use Rattle.gix_ref_store.specs.declared.file.transaction.outcome.Failed.{Failed}
+use Rattle.gix_ref_store.specs.declared.file.transaction.outcome.Refused.{Refused}
+use Rattle.gix_ref_transaction.specs.OwnLocks.{paths_of}
+use Rattle.gix_ref_transaction.specs.declared.packing.PackedRefs.{PackedRefs}
+use Rattle.gix_ref_transaction.specs.declared.packing.PackedRefs.TheVariants as modes
+use Rattle.gix_ref_read_back.specs.ListedItems.{AreItemsIn}
+use Rattle.gix_ref_read_back.specs.PlainPromises.{ReadsAsItDid}
+use Rattle.gix_ref_read_back.specs.WholeRuns.{IsNotMade, MakesEdited}
+use Rattle.gix_ref_read_back.specs.declared.error.Error.TheVariants as unmade
+use Rattle.gix_ref_pack.specs.KeptObjects.{AreKeptFor}
+use Rattle.gix_ref_pack.specs.KnownObjects.{is_known}
+use Rattle.gix_ref_pack.specs.LooseObjects.{faults_among, has_branch, is_chosen, loose_among}
+use Rattle.gix_ref_pack.specs.contracts.objects.ObjectsFind.TheImpl.{claims-value, meaning-value}
+use Rattle.gix_ref_pack.specs.declared.objects.Objects.{Objects}
+use Rattle.gix_ref_pack.specs.declared.pack.Loose.{Loose}
+use Rattle.gix_ref_pack.specs.declared.pack.PackError.{PackError}
+use Rattle.gix_ref_pack.specs.declared.pack.PackError.TheVariants.{Memory, Open, Find, Prepare, Commit}
+use Rattle.gix_ref_pack.specs.declared.pack.Packed.{Packed}
+use Rattle.gix_ref_pack.specs.declared.pack.Plan.{Plan}
+
+-- what a packing does with `packed-refs`: loose files of packed references are removed, or kept
+abbrev pub uses_of : (prune : Bool) → Objects → PackedRefs Objects
+uses_of true objects = modes.DeletionsAndNonSymbolicUpdatesRemoveLooseSourceReference objects
+uses_of false objects = modes.DeletionsAndNonSymbolicUpdates objects
+
+-- whether a reference is packed without `--all`, unless there was no memory
+abbrev pub TellsChosen : Result Bool PackError → Bool → Type 0
+TellsChosen (Ok is) chosen = is ≡ chosen
+TellsChosen (Err Memory) chosen = Unit {0}
+TellsChosen (Err error) chosen = ⊥
+
+-- records are asked for in vain for one of these reasons: no memory, or one cannot be read
+abbrev pub IsAskError : PackError → Type 0
+IsAskError Memory = Unit {0}
+IsAskError (Find error) = Unit {0}
+IsAskError error = ⊥
+
+-- and which of these are
+abbrev pub ChoosesAmong : Option Namespace → List Record → (found : List Loose) →
+    Result (Vec Loose Global) PackError → Type 0
+ChoosesAmong namespace records found (Ok chosen) =
+    chosen.items ≡ filter (is_chosen namespace records) found
+ChoosesAmong namespace records found (Err Memory) = Unit {0}
+ChoosesAmong namespace records found (Err error) = ⊥
+
+module _ {F : Type 0} (honest : Type 0) (means : F → Meaning) where
+  -- Why it is not known what is packed: no memory; or, without `--all`, `packed-refs` is not opened, or has a record that cannot be
+  -- read, as none is where it is well formed.
+  abbrev pub IsUnchosen : (is_all : Bool) → Store F → PackError → Type 0
+  IsUnchosen is_all store Memory = Unit {0}
+  IsUnchosen is_all store (Open error) = (is_all ≡ false)
+      × (honest → RefusesBuffer means store error)
+  IsUnchosen is_all store (Find error) = (is_all ≡ false)
+      × (honest → HasGoodRecords means store → ⊥)
+  IsUnchosen is_all store (Prepare error) = ⊥
+  IsUnchosen is_all store (Commit error) = ⊥
+
+  -- Of the loose references that may be packed these are: with `--all` each, else those that are tags or have a record.
+  pub record IsChosen (is_all : Bool) (store : Store F) (found chosen : List Loose) : Type 0 where
+    pub all : is_all ≡ true → chosen ≡ found
+    pub by_record : is_all ≡ false → honest → (records : List Record) →
+        AreRecordsIn means store records → chosen ≡ filter (is_chosen store.namespace records) found
+
+  abbrev pub Chooses : (is_all : Bool) → Store F → (found : List Loose) →
+      Result (Vec Loose Global) PackError → Type 0
+  Chooses is_all store found (Ok chosen) = IsChosen is_all store found chosen.items
+  Chooses is_all store found (Err error) = IsUnchosen is_all store error
+
+module _ {F : Type 0} (honest : Type 0) (means : F → Meaning) (faults : F → FaultCounts) where
+  -- What is packed of a store: these are the items of its loose files, and these of them are chosen. The table knows what it was given,
+  -- and the objects of chosen branches; each chosen reference whose object is known is given that, which it has. Faults are handed
+  -- back.
+  pub record IsPlanned (is_all : Bool) (objects : Objects) (store : Store F) (plan : Plan)
+      (broken : List ItemError) : Type 0 where
+    pub items : List (Result Reference ItemError)
+    pub counts : FaultCounts
+    pub listed : honest → AreItemsIn honest means faults store (faults (files_of store)) counts []
+        (prefix_of_all store.namespace) items
+    pub chosen : List Loose
+    pub are_chosen : IsChosen honest means is_all store (loose_among items) chosen
+    pub known : (id : ObjectId) →
+        is_known plan.objects id ≡ (has_branch chosen id || is_known objects id)
+    pub edits : AreKeptFor (filter (λ (l : Loose). is_known plan.objects l.id) chosen)
+        plan.edits.items
+    pub faults_are : broken ≡ faults_among items
+
+  -- it is known what is packed, or why it is not
+  abbrev pub PlanComes : (is_all : Bool) → Objects → Store F →
+      (broken now : List ItemError) → Result Plan PackError → Type 0
+  PlanComes is_all objects store broken now (Ok plan) = (added : List ItemError)
+      × (now ≡ broken ++ added) × IsPlanned is_all objects store plan added
+  PlanComes is_all objects store broken now (Err error) = IsUnchosen honest means is_all store error
+
+  module _ (read : FileError → Type 0) where
+    -- what becomes of the transaction of a plan
+    abbrev pub PutEnds : (prune : Bool) → Plan → (old new : Store F) → Result ℕ PackError →
+        (left : List Path) → Type 0
+    PutEnds prune plan old new (Ok count) left =
+        (count ≡ length plan.edits.items) × ((done : Done Objects)
+        × (paths_of done.locks_left.items ≡ left) × MakesEdited honest means faults
+        claims-value.it meaning-value.it (uses_of prune plan.objects) old new None
+        plan.edits.items done)
+    PutEnds prune plan old new (Err (Prepare error)) left =
+        (refused : Refused Objects) × (refused.error ≡ error)
+        × (paths_of refused.locks_left.items ≡ left) × IsNotMade honest means faults
+        claims-value.it meaning-value.it (uses_of prune plan.objects) read old new None
+        plan.edits.items (unmade.Prepare refused)
+    PutEnds prune plan old new (Err (Commit error)) left =
+        (failed : Failed Objects) × (failed.error ≡ error)
+        × (paths_of failed.locks_left.items ≡ left) × IsNotMade honest means faults
+        claims-value.it meaning-value.it (uses_of prune plan.objects) read old new None
+        plan.edits.items (unmade.Commit failed)
+    PutEnds prune plan old new (Err error) left = ⊥
+
+    -- nothing was to be packed, and there was none
+    abbrev pub NothingPut : Plan → (old new : Store F) → Result ℕ PackError → (left : List Path) →
+        Type 0
+    NothingPut plan old new result left = (plan.edits.items ≡ []) × (result ≡ Ok 0)
+        × (new ≡ old) × (left ≡ [])
+
+    abbrev pub PutComes : (prune : Bool) → Plan → (old new : Store F) → Result ℕ PackError →
+        (left : List Path) → Type 0
+    PutComes prune plan old new result left = PutEnds prune plan old new result left
+        ⊎ NothingPut plan old new result left
+
+    -- What is planned was put into `packed-refs` by one transaction, or not.
+    pub record IsPut (is_all prune : Bool) (objects : Objects) (old new : Store F)
+        (packed : Packed) : Type 0 where
+      pub mid : Store F
+      pub plan : Plan
+      pub planned : IsPlanned is_all objects old plan packed.broken.items
+      pub looked : LooksUp honest means old mid
+      pub ends : PutComes prune plan mid new packed.result (paths_of packed.locks_left.items)
+
+    -- it was not known what is packed, and nothing changed
+    pub record IsUnplanned (is_all : Bool) (old new : Store F) (packed : Packed) : Type 0 where
+      pub error : PackError
+      pub is : packed.result ≡ Err error
+      pub why : IsUnchosen honest means is_all old error
+      pub looked : LooksUp honest means old new
+      pub left : paths_of packed.locks_left.items ≡ []
+
+    -- what becomes of a packing
+    abbrev pub Packs : (is_all prune : Bool) → Objects → (old new : Store F) → Packed → Type 0
+    Packs is_all prune objects old new packed =
+        IsPut is_all prune objects old new packed ⊎ IsUnplanned is_all old new packed
+
+  -- in this tree each reference reads as it did
+  abbrev pub EachReadsAsItDid : Store F → Tree → Type 0
+  EachReadsAsItDid old T = (name : List ℕ) → (meaning_of old).is_reference name ≡ true →
+      ReadsAsItDid honest means faults old T name
