@@ -1,9 +1,9 @@
 -- Edits that were prepared: how their commit, or giving them up, ends.
-use Rattle.std.proofs.Common.{inl, inr, List, Option, Some, None, Result, Ok, Err, IfOk, IfErr, refl, sym, subst}
+use Rattle.std.proofs.Common.{◌∙◌, inl, inr, List, Option, Some, None, Result, Ok, Err, IfOk, IfErr, refl, sym, subst}
 use Rattle.gix_ref_files.specs.declared.files.FileError.{FileError}
 use Rattle.gix_ref_files.specs.Tree.{Path}
-use Rattle.gix_ref_files.specs.Files.{Meaning, Leaves, FaultCounts}
-use Rattle.gix_ref_files.proofs.Moments.{joins, weaken}
+use Rattle.gix_ref_files.specs.Files.{Meaning, Leaves, Loses, FaultCounts}
+use Rattle.gix_ref_files.proofs.Moments.{joins, loses_joins, loses_weaken, weaken}
 use Rattle.gix_ref_log.specs.declared.actor.SignatureRef.{SignatureRef}
 use Rattle.gix_ref_edits.specs.declared.transaction.RefEdit.{RefEdit}
 use Rattle.gix_ref_object.specs.contracts.object.NeverFind.TheImpl.{claims-value, meaning-value}
@@ -15,16 +15,18 @@ use Rattle.gix_ref_transaction.specs.PrepareSteps.{held_locks}
 use Rattle.gix_ref_transaction.specs.declared.edit.Edit.{Edit}
 use Rattle.gix_ref_store.specs.CommitOutcomes.{HasSucceeded, HasEndedEarly, EveryMomentIsSafe, KeepsTheRest}
 use Rattle.gix_ref_store.specs.CommitResult.{left_of}
-use Rattle.gix_ref_store.specs.Prepared.{RefusesGiven, RollsBackFrom}
+use Rattle.gix_ref_store.specs.Prepared.{HasGoodRecords, IsAtRest, RefusesGiven, RollsBackFrom}
 use Rattle.gix_ref_store.specs.Store.{files_of, IsSameStore}
 use Rattle.gix_ref_store.specs.declared.file.store.Store.{Store}
 use Rattle.gix_ref_store.specs.declared.file.transaction.outcome.Done.{Done}
 use Rattle.gix_ref_store.specs.declared.file.transaction.outcome.Failed.{Failed}
 use Rattle.gix_ref_store.proofs.SameStores.{same_on}
+use Rattle.gix_ref_program.specs.Updates.{AreTried, IsLossOf}
 use Rattle.gix_ref_program.specs.declared.update.UpdateError.TheVariants.{Commit}
-use Rattle.gix_ref_program.proofs.Updating.{refused_stops, done, told, stops, settles, goods}
+use Rattle.gix_ref_program.proofs.Updating.{refused_stops, done, told, stops, loses, settles, goods}
 use Rattle.gix_ref_session.specs.Transactions.{CommitEnds, IsCommitResult, IsEditStop, IsRolledBack, Prepares, uses}
 use Rattle.gix_ref_session.specs.declared.fatal.Fatal.{Fatal}
+use Rattle.gix_ref_session.proofs.Resting.{held_own, own_places, spoken_on}
 
 module _ {F : Type 0} (honest : Type 0) (means : F → Meaning) (faults : F → FaultCounts) (old mid new : Store F) (edits : List RefEdit) (packed : Option Path) (held : List Edit) (from : Prepares honest means faults old mid edits packed held) where
   -- a commit
@@ -51,6 +53,10 @@ module _ {F : Type 0} (honest : Type 0) (means : F → Meaning) (faults : F → 
       Leaves (means (files_of old)) (means (files_of new)) (IsEditStop honest means faults committer old edits)
   commit_leaves committer left safe h = weaken (stops honest means faults old mid new committer edits packed held uses from left safe.stops h) (λ T stop. inl stop)
 
+  pub commit_loses : (committer : Option SignatureRef) (left : List Path) → EveryMomentIsSafe honest means faults mid new committer packed held left → honest → HasGoodRecords means old → IsAtRest means old →
+      Loses (means (files_of old)) (means (files_of new)) (IsLossOf honest means faults uses old committer edits)
+  commit_loses committer left safe h good at_rest = loses honest means faults old mid new committer edits packed held uses from h good at_rest safe.losses
+
   -- giving up
   pub given_up : (left : List Path) → RollsBackFrom honest means faults mid new (held_locks packed held) left → IsRolledBack honest means faults old new edits
   given_up left rolled = record { begun = record { mid = mid; packed = packed; held = held; prepared = from }; left = left; rolled = rolled }
@@ -59,6 +65,18 @@ module _ {F : Type 0} (honest : Type 0) (means : F → Meaning) (faults : F → 
   given_up_leaves committer left rolled h =
       joins (weaken (from.prepared.held.leaves h) (λ T adds. inl (inl (from.split, (from.splits.asked, inl from.splits.composed, inl (from.splits.from.is h)), adds))))
       (weaken (rolled.leaves h) (λ T removes. inr (record { mid = mid; packed = packed; held = held; prepared = from }, removes)))
+
+  -- the edits whose locks were held
+  split_tried : honest → AreTried means old edits from.split
+  split_tried h = (from.splits.asked, inl from.splits.composed, inl (from.splits.from.is h))
+
+  -- each file that was settled before they were prepared is as it was then
+  pub given_up_loses : (committer : Option SignatureRef) (left : List Path) → RollsBackFrom honest means faults mid new (held_locks packed held) left → honest → Loses (means (files_of old)) (means (files_of new)) (IsLossOf honest means faults uses old committer edits)
+  given_up_loses committer left rolled h =
+      let places = own_places honest means faults old mid edits packed held from in
+      loses_joins (loses_weaken (from.prepared.lost h).loses (λ T kept. inl (from.split, split_tried h, kept)))
+      (loses_weaken (rolled.lost h places (held_own honest means faults old mid edits packed held from h)).loses
+      (λ T kept. inl (from.split, split_tried h, λ q spoken. let on = spoken_on honest means faults old mid edits packed held from h q spoken in kept q on.0 ∙ on.1)))
 
 -- edits that were refused
 module _ {F : Type 0} (honest : Type 0) (means : F → Meaning) (faults : F → FaultCounts) (old new : Store F) (edits : List RefEdit) (error : Cause) (left : List Path) (read : FileError → Type 0) (from : RefusesGiven honest read means faults (OfFinder claims-value.it uses) (ends_of meaning-value.it uses) (mode_in uses) old new edits error left) where

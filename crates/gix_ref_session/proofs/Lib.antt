@@ -11,6 +11,7 @@ pub mod LeadLemmas
 pub mod Looking
 pub mod NameLists
 pub mod QuoteLemmas
+pub mod Resting
 pub mod Serving
 pub mod Settling
 pub mod Trying

@@ -2,18 +2,20 @@
 use Rattle.std.proofs.Common.{◌≡◌, inl, inr, ℕ, ◌+◌, List, [], ◌∷◌, ◌++◌, Bool, Option, Result, Ok, Err, refl, sym, subst, arith}
 use Rattle.gix_ref_files.specs.declared.files.ReadAt.{Ghosts}
 use Rattle.gix_ref_packed.specs.OpenFiles.{HasReadFault}
-use Rattle.gix_ref_files.specs.Files.{Meaning, Leaves, FaultCounts}
-use Rattle.gix_ref_files.proofs.Moments.{joins, starts, weaken}
+use Rattle.gix_ref_files.specs.Files.{Meaning, Leaves, Loses, FaultCounts}
+use Rattle.gix_ref_files.proofs.Moments.{joins, loses_joins, loses_weaken, starts, weaken}
 use Rattle.gix_ref_edits.specs.declared.transaction.RefEdit.{RefEdit}
 use Rattle.gix_ref_theory.specs.Sequences.{AreDone}
 use Rattle.gix_ref_theory.proofs.Sequences.{done_more}
 use Rattle.gix_ref_transaction.specs.declared.prepare.error.Error.{Error as Cause}
+use Rattle.gix_ref_store.specs.Prepared.{HasGoodRecords, IsAtRest}
 use Rattle.gix_ref_store.specs.Store.{files_of}
 use Rattle.gix_ref_store.specs.declared.file.store.Store.{Store}
 use Rattle.gix_ref_program.specs.declared.update.UpdateError.TheVariants as errors
+use Rattle.gix_ref_program.proofs.Writing.{keeps_all}
 use Rattle.gix_ref_session.specs.Clashes.{IsLookFailure}
 use Rattle.gix_ref_session.specs.Sessions.{IsUnclosed, MakeEnds, PreparedEnds, Settles, TryEnds, Way, way}
-use Rattle.gix_ref_session.specs.Transactions.{IsLocked, IsRefused, IsTransactionStop, IsTried, IsTryStop}
+use Rattle.gix_ref_session.specs.Transactions.{IsLocked, IsRefused, IsTransactionLoss, IsTransactionStop, IsTried, IsTryLoss, IsTryStop}
 use Rattle.gix_ref_session.specs.Waiting.{HasWaited, IsLessAfter, NoneIsLeft, meets_lock, meets_packed, times_met}
 use Rattle.gix_ref_session.specs.declared.fatal.Fatal.{Fatal}
 use Rattle.gix_ref_session.specs.declared.fatal.Fatal.TheVariants as fatals
@@ -21,6 +23,7 @@ use Rattle.gix_ref_session.specs.declared.gather.Closing.{Closing}
 use Rattle.gix_ref_session.specs.declared.gather.Closing.TheVariants as closings
 use Rattle.gix_ref_session.specs.declared.session.Patience.{Patience}
 use Rattle.gix_ref_session.specs.declared.session.Session.{Session}
+use Rattle.gix_ref_session.proofs.Resting.{tries_ready}
 
 met_more : (meets : Cause → ℕ) (tries : List Cause) (cause : Cause) → times_met meets (tries ++ cause ∷ []) ≡ times_met meets tries + meets cause
 met_more meets [] cause = omega arith
@@ -76,6 +79,7 @@ module _ {F R : Type 0} (G : Ghosts R) (honest : Type 0) (means : F → Meaning)
       pub lock : left.lock + times_met meets_lock tries ≡ session.lock_timeout
       pub packed : left.packed + times_met meets_packed tries ≡ session.packed_lock_timeout
       pub leaves : honest → Leaves (means (files_of first)) (means (files_of now)) (IsTransactionStop honest means faults session.committer (HasReadFault G.faults) edits first)
+      pub loses : honest → HasGoodRecords means first → IsAtRest means first → Loses (means (files_of first)) (means (files_of now)) (IsTransactionLoss honest means faults session.committer (HasReadFault G.faults) edits first)
 
     pub none_yet : (first : Store F) (left : Patience) → left.lock ≡ session.lock_timeout → left.packed ≡ session.packed_lock_timeout → SoFar first first left
     none_yet first left lock packed = record {
@@ -84,6 +88,7 @@ module _ {F R : Type 0} (G : Ghosts R) (honest : Type 0) (means : F → Meaning)
       lock = omega (arith, lock);
       packed = omega (arith, packed);
       leaves = λ h. starts (means (files_of first)) (IsTransactionStop honest means faults session.committer (HasReadFault G.faults) edits first) ([], first, refl, inl refl);
+      loses = λ h good rests. keeps_all means (files_of first) (IsTransactionLoss honest means faults session.committer (HasReadFault G.faults) edits first) (λ T is. ([], first, refl, inl is));
     }
 
     module _ (first mid new : Store F) (before : Patience) (b : SoFar first mid before) where
@@ -91,10 +96,17 @@ module _ {F R : Type 0} (G : Ghosts R) (honest : Type 0) (means : F → Meaning)
           Leaves (means (files_of first)) (means (files_of new)) (IsTransactionStop honest means faults session.committer (HasReadFault G.faults) edits first)
       leaves_on step h = joins (b.leaves h) (weaken (step h) (λ T stop. (b.tries, mid, b.were, stop)))
 
+      pub loses_on : (honest → HasGoodRecords means mid → IsAtRest means mid → Loses (means (files_of mid)) (means (files_of new)) (IsTryLoss honest means faults session.committer (HasReadFault G.faults) edits mid)) →
+          honest → HasGoodRecords means first → IsAtRest means first → Loses (means (files_of first)) (means (files_of new)) (IsTransactionLoss honest means faults session.committer (HasReadFault G.faults) edits first)
+      loses_on step h good rests =
+          let ready = tries_ready honest means faults session.committer (HasReadFault G.faults) edits b.tries first mid b.were h (good, rests) in
+          loses_joins (b.loses h good rests) (loses_weaken (step h ready.0 ready.1) (λ T loss. (b.tries, mid, b.were, loss)))
+
       -- one more that a lock of another's refused
       pub one_more : (closing : Closing) (input output rest now : Option (List ℕ)) (fatal : Fatal) (left : Patience) → IsLessAfter fatal before left → TryEnds G honest means faults session closing edits (way input output mid) (way rest now new) (Err fatal) →
-          (honest → Leaves (means (files_of mid)) (means (files_of new)) (IsTryStop honest means faults session.committer (HasReadFault G.faults) edits mid)) → SoFar first new left × (rest ≡ input) × (now ≡ output)
-      one_more closing input output rest now fatal left less ends step =
+          (honest → Leaves (means (files_of mid)) (means (files_of new)) (IsTryStop honest means faults session.committer (HasReadFault G.faults) edits mid)) →
+          (honest → HasGoodRecords means mid → IsAtRest means mid → Loses (means (files_of mid)) (means (files_of new)) (IsTryLoss honest means faults session.committer (HasReadFault G.faults) edits mid)) → SoFar first new left × (rest ≡ input) × (now ≡ output)
+      one_more closing input output rest now fatal left less ends step lost =
           let was = tried closing (way input output mid) (way rest now new) less.cause less.met (subst (λ (f : Fatal). TryEnds G honest means faults session closing edits (way input output mid) (way rest now new) (Err f)) less.is ends) in (
             record {
               tries = b.tries ++ less.cause ∷ [];
@@ -102,6 +114,7 @@ module _ {F R : Type 0} (G : Ghosts R) (honest : Type 0) (means : F → Meaning)
               lock = omega (arith, met_more meets_lock b.tries less.cause, b.lock, less.lock);
               packed = omega (arith, met_more meets_packed b.tries less.cause, b.packed, less.packed);
               leaves = leaves_on step;
+              loses = loses_on lost;
             },
             was.1,
             was.2,

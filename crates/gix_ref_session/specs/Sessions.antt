@@ -2,22 +2,23 @@
 use Rattle.std.specs.Prelude.{◌≡◌, ◌⊎◌, ℕ, List, [], ◌∷◌, ◌++◌, Bool, true, false, ◌||◌, codes, Option, is_some, Result, Ok, Err}
 use Rattle.std.specs.Io.KnownBytes.{Appends, IsAtEnd, Keeps}
 use Rattle.gix_ref_files.specs.declared.files.ReadAt.{Ghosts}
-use Rattle.gix_ref_files.specs.Files.{Meaning, FaultCounts, Leaves}
+use Rattle.gix_ref_files.specs.Files.{Meaning, FaultCounts, Leaves, Loses}
 use Rattle.gix_ref_files.specs.Tree.{Tree}
 use Rattle.gix_ref_edits.specs.declared.transaction.RefEdit.{RefEdit}
 use Rattle.gix_ref_packed.specs.OpenFiles.{HasReadFault}
 use Rattle.gix_ref_theory.specs.Sequences.{AreDone, IsWithinSteps}
 use Rattle.gix_ref_transaction.specs.declared.prepare.error.Error.{Error as Cause}
 use Rattle.gix_ref_store.specs.Lookup.{LooksUp}
-use Rattle.gix_ref_store.specs.Prepared.{tree_of}
+use Rattle.gix_ref_store.specs.Prepared.{HasGoodRecords, IsAtRest, tree_of}
 use Rattle.gix_ref_store.specs.Store.{files_of}
 use Rattle.gix_ref_store.specs.declared.file.store.Store.{Store}
 use Rattle.gix_ref_program.specs.declared.update.UpdateError.TheVariants as errors
+use Rattle.gix_ref_program.specs.Writes.{IsKept}
 use Rattle.gix_ref_session.specs.Clashes.{IsLookFailure}
 use Rattle.gix_ref_session.specs.Commands.{Heard, Commit, Abort}
 use Rattle.gix_ref_session.specs.Gathering.{AreGathered, Gathering, IsUnheard, IsUnsaid, StopsShort}
 use Rattle.gix_ref_session.specs.Input.{Hears}
-use Rattle.gix_ref_session.specs.Transactions.{CommitFailed, IsCommitted, IsRefused, IsRolledBack, IsTransactionStop, IsTried, Led}
+use Rattle.gix_ref_session.specs.Transactions.{CommitFailed, IsCommitted, IsRefused, IsRolledBack, IsTransactionLoss, IsTransactionStop, IsTried, Led}
 use Rattle.gix_ref_session.specs.Waiting.{HasWaited}
 use Rattle.gix_ref_session.specs.declared.fatal.Fatal.{Fatal}
 use Rattle.gix_ref_session.specs.declared.fatal.Fatal.TheVariants as fatals
@@ -223,12 +224,21 @@ module _ {F R : Type 0} (G : Ghosts R) (honest : Type 0) (means : F → Meaning)
   IsTurnStop T turn s = (T ≡ tree_of means s.store)
       ⊎ IsTransactionStop honest means faults session.committer (HasReadFault G.faults) turn.gathered.edits s.store T
 
-  -- how the next transaction went, and what a stop in it leaves
+  -- A loss of power in it leaves this tree: each file that was settled is as before, or it is what one in the transaction of its
+  -- edits leaves.
+  abbrev pub IsTurnLoss : Tree → Turn → Way F → Type 0
+  IsTurnLoss T turn s = IsKept means (files_of s.store) T
+      ⊎ IsTransactionLoss honest means faults session.committer (HasReadFault G.faults)
+      turn.gathered.edits s.store T
+
+  -- How the next transaction went, and what a stop and a loss of power in it leave.
   pub record Turns (s t : Way F) (result : Result Bool Fatal) : Type 0 where
     pub turn : Turn
     pub ends : TurnEnds turn s t result
     pub leaves : honest → Leaves (means (files_of s.store)) (means (files_of t.store))
         (λ T. IsTurnStop T turn s)
+    pub lost : honest → HasGoodRecords means s.store → IsAtRest means s.store →
+        Loses (means (files_of s.store)) (means (files_of t.store)) (λ T. IsTurnLoss T turn s)
 
   -- it was closed, and only `start` begins the next one
   pub record TurnDone (turn : Turn) (s t : Way F) : Type 0 where
@@ -259,7 +269,14 @@ module _ {F R : Type 0} (G : Ghosts R) (honest : Type 0) (means : F → Meaning)
   IsSessionStop turns first T =
       IsWithinSteps TurnDone (λ s. T ≡ tree_of means s.store) (IsTurnStop T) turns first
 
-  -- A session: transactions that were closed, and how it ended; and what a stop in it leaves.
+  -- And a loss of power: each file that was settled before the transaction in which it comes is as it was then, or as that transaction
+  -- has it.
+  abbrev pub IsSessionLoss : List Turn → Way F → Tree → Type 0
+  IsSessionLoss turns first T =
+      IsWithinSteps TurnDone (λ s. IsKept means (files_of s.store) T) (IsTurnLoss T) turns first
+
+  -- A session: transactions that were closed, and how it ended; and what a stop and a loss of power in it leave. The disk has to be at
+  -- rest as it begins, and `packed-refs` well formed or missing, as they are after each transaction then.
   pub record Serves {E : Type 0} (first last : Way F) (result : Result E Fatal) : Type 0 where
     pub turns : List Turn
     pub rest : List Turn
@@ -268,3 +285,6 @@ module _ {F R : Type 0} (G : Ghosts R) (honest : Type 0) (means : F → Meaning)
     pub ends : SessionEnds rest state last result
     pub leaves : honest → Leaves (means (files_of first.store)) (means (files_of last.store))
         (IsSessionStop (turns ++ rest) first)
+    pub lost : honest → HasGoodRecords means first.store → IsAtRest means first.store →
+        Loses (means (files_of first.store)) (means (files_of last.store))
+        (IsSessionLoss (turns ++ rest) first)

@@ -18,11 +18,12 @@ use Rattle.gix_ref_transaction.specs.declared.prepare.error.Error.{Error as Caus
 use Rattle.gix_ref_transaction.specs.declared.prepare.error.Error.TheVariants as causes
 use Rattle.gix_ref_store.specs.Lookup.{LooksUp}
 use Rattle.gix_ref_store.specs.Prepared.{HasGoodRecords, IsAtRest, PreparesGiven, RollsBackFrom, tree_of}
-use Rattle.gix_ref_store.specs.Store.{IsSameStore}
+use Rattle.gix_ref_store.specs.Store.{files_of, IsSameStore}
 use Rattle.gix_ref_store.specs.declared.file.store.Store.{Store}
 use Rattle.gix_ref_store.specs.declared.file.transaction.outcome.Done.{Done}
 use Rattle.gix_ref_store.specs.declared.file.transaction.outcome.Failed.{Failed}
-use Rattle.gix_ref_program.specs.Updates.{IsBegun, IsStopOf, IsUpdateError, UpdateMade}
+use Rattle.gix_ref_program.specs.Updates.{IsBegun, IsLossOf, IsStopOf, IsUpdateError, UpdateMade}
+use Rattle.gix_ref_program.specs.Writes.{IsKept}
 use Rattle.gix_ref_program.specs.declared.update.UpdateError.{UpdateError}
 use Rattle.gix_ref_program.specs.declared.update.UpdateError.TheVariants.{Prepare, Commit}
 use Rattle.gix_ref_session.specs.Clashes.{AreClear}
@@ -117,8 +118,18 @@ module _ {F : Type 0} (honest : Type 0) (means : F → Meaning) (faults : F → 
     abbrev pub IsTryStop : Store F → Tree → Type 0
     IsTryStop old T = (T ≡ tree_of means old)
         ⊎ ((at : Store F) × (led : List RefEdit) × LooksUp honest means old at
-        × AreClear honest means old edits × AreLed (LeadsIn honest means old (is_some committer)) edits led
+        × AreClear honest means old edits
+        × AreLed (LeadsIn honest means old (is_some committer)) edits led
         × IsEditStop committer at led T)
+
+    -- A loss of power in a try leaves this tree: each file that was settled is as before, or it is what one leaves once its edits
+    -- were begun.
+    abbrev pub IsTryLoss : Store F → Tree → Type 0
+    IsTryLoss old T = IsKept means (files_of old) T
+        ⊎ ((at : Store F) × (led : List RefEdit) × LooksUp honest means old at
+        × AreClear honest means old edits
+        × AreLed (LeadsIn honest means old (is_some committer)) edits led
+        × IsLossOf honest means faults uses at committer led T)
 
     -- a try that was refused since another holds a lock
     abbrev pub IsTried : Cause → (old new : Store F) → Type 0
@@ -128,3 +139,8 @@ module _ {F : Type 0} (honest : Type 0) (means : F → Meaning) (faults : F → 
     abbrev pub IsTransactionStop : Store F → Tree → Type 0
     IsTransactionStop old T = (tries : List Cause) × (mid : Store F)
         × AreDone IsTried tries old mid × IsTryStop mid T
+
+    -- and a loss of power in it leaves what one in a try leaves, after some that were refused
+    abbrev pub IsTransactionLoss : Store F → Tree → Type 0
+    IsTransactionLoss old T = (tries : List Cause) × (mid : Store F)
+        × AreDone IsTried tries old mid × IsTryLoss mid T

@@ -1,12 +1,13 @@
 //! A session: transactions one after the other, each begun, prepared and committed by commands, with an answer to each
 //! (`git update-ref --stdin`).
 ghost use Rattle.std.specs.Prelude.{◌≡◌, ◌≢◌, ◌⊎◌, MatchOption, true, false};
-ghost use Rattle.gix_ref_files.specs.Files.{Leaves};
+ghost use Rattle.gix_ref_files.specs.Files.{Leaves, Loses};
 ghost use Rattle.gix_ref_packed.specs.OpenFiles.{HasReadFault};
-ghost use Rattle.gix_ref_store.specs.Prepared.{tree_of};
+ghost use Rattle.gix_ref_store.specs.Prepared.{HasGoodRecords, IsAtRest, tree_of};
 ghost use Rattle.gix_ref_store.specs.Store.{files_of};
+ghost use Rattle.gix_ref_program.specs.Writes.{IsKept};
 ghost use Rattle.gix_ref_session.specs.Sessions.{Closes, Serves, Settles, TurnComes, way, way_on};
-ghost use Rattle.gix_ref_session.specs.Transactions.{IsTransactionStop};
+ghost use Rattle.gix_ref_session.specs.Transactions.{IsTransactionLoss, IsTransactionStop};
 ghost use Rattle.gix_ref_session.specs.Waiting.{IsLessAfter, NoneIsLeft};
 
 use crate::fatal::Fatal;
@@ -93,6 +94,10 @@ fn settle<F: Files, C: Clock, R: BufRead, W: Write>(
     ensures leaves { F.honest → Leaves (F.means (files_of store.old)) (F.means (files_of store.new))
         (IsTransactionStop F.honest F.means F.faults session.now.committer
         (HasReadFault F.Reader.faults) edits.now store.old) }
+    ensures lost { F.honest → HasGoodRecords F.means store.old → IsAtRest F.means store.old →
+        Loses (F.means (files_of store.old)) (F.means (files_of store.new))
+        (IsTransactionLoss F.honest F.means F.faults session.now.committer
+        (HasReadFault F.Reader.faults) edits.now store.old) }
 {
     let mut patience = Patience {
         lock: session.lock_timeout,
@@ -128,6 +133,10 @@ fn close<F: Files, C: Clock, R: BufRead, W: Write>(
         (way (R.remaining input.new) (W.contents out.new) store.new) result }
     ensures leaves { F.honest → Leaves (F.means (files_of store.old)) (F.means (files_of store.new))
         (λ T. (T ≡ tree_of F.means store.old) ⊎ IsTransactionStop F.honest F.means F.faults
+        session.now.committer (HasReadFault F.Reader.faults) edits.now store.old T) }
+    ensures lost { F.honest → HasGoodRecords F.means store.old → IsAtRest F.means store.old →
+        Loses (F.means (files_of store.old)) (F.means (files_of store.new))
+        (λ T. IsKept F.means (files_of store.old) T ⊎ IsTransactionLoss F.honest F.means F.faults
         session.now.committer (HasReadFault F.Reader.faults) edits.now store.old T) }
 {
     match closing {

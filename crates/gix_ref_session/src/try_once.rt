@@ -1,14 +1,16 @@
 //! One try of a transaction: prepared, with an answer or without, and closed.
 ghost use Rattle.std.specs.Prelude.{◌≡◌, ◌≢◌, ℕ, List, Option};
 ghost use Rattle.gix_ref_edits.specs.declared.transaction.RefEdit.{RefEdit as AnEdit};
-ghost use Rattle.gix_ref_files.specs.Files.{Leaves};
+ghost use Rattle.gix_ref_files.specs.Files.{Leaves, Loses};
 ghost use Rattle.gix_ref_log.specs.declared.actor.SignatureRef.{SignatureRef};
 ghost use Rattle.gix_ref_packed.specs.OpenFiles.{HasReadFault};
+ghost use Rattle.gix_ref_program.specs.Updates.{IsLossOf};
+ghost use Rattle.gix_ref_store.specs.Prepared.{HasGoodRecords, IsAtRest};
 ghost use Rattle.gix_ref_store.specs.PreparedFields.{held_edits, held_packed};
 ghost use Rattle.gix_ref_store.specs.Store.{files_of};
 ghost use Rattle.gix_ref_store.specs.declared.file.store.Store.{Store as AStore};
 ghost use Rattle.gix_ref_session.specs.Sessions.{AnswersAbort, AnswersCommit, ClosedBy, HeardClosing, MakeEnds, PreparedEnds, TryEnds, way};
-ghost use Rattle.gix_ref_session.specs.Transactions.{CommitEnds, IsCommitResult, IsEditStop, IsRolledBack, IsTryStop, Prepares};
+ghost use Rattle.gix_ref_session.specs.Transactions.{CommitEnds, IsCommitResult, IsEditStop, IsRolledBack, IsTryLoss, IsTryStop, Prepares, uses};
 
 use crate::command::Command;
 use crate::fatal::Fatal;
@@ -48,6 +50,12 @@ fn commit<F: Files>(
         (held_edits prepared.entry.plan) → F.honest → Leaves (F.means (files_of old))
         (F.means (files_of prepared.exit.0.now))
         (IsEditStop F.honest F.means F.faults session.now.committer old edits) }
+    ensures lost { (old : AStore F) (edits : List AnEdit) → Prepares F.honest F.means F.faults old
+        prepared.entry.store.now edits (held_packed prepared.entry.plan)
+        (held_edits prepared.entry.plan) → F.honest → HasGoodRecords F.means old →
+        IsAtRest F.means old → Loses (F.means (files_of old))
+        (F.means (files_of prepared.exit.0.now))
+        (IsLossOf F.honest F.means F.faults uses old session.now.committer edits) }
 {
     result_of(prepared.commit(alloc, session.committer))
 }
@@ -64,6 +72,12 @@ fn give_up<F: Files>(prepared: Prepared<'_, F>)
         (held_edits prepared.entry.plan) → F.honest → Leaves (F.means (files_of old))
         (F.means (files_of prepared.exit.0.now))
         (IsEditStop F.honest F.means F.faults committer old edits) }
+    ensures lost { (committer : Option SignatureRef) (old : AStore F) (edits : List AnEdit) →
+        Prepares F.honest F.means F.faults old prepared.entry.store.now edits
+        (held_packed prepared.entry.plan) (held_edits prepared.entry.plan) → F.honest →
+        HasGoodRecords F.means old → IsAtRest F.means old → Loses (F.means (files_of old))
+        (F.means (files_of prepared.exit.0.now))
+        (IsLossOf F.honest F.means F.faults uses old committer edits) }
 {
     let _given_up = prepared.rollback();
 }
@@ -110,6 +124,12 @@ fn close_by<F: Files, W: Write>(
         (held_edits prepared.entry.plan) → F.honest → Leaves (F.means (files_of old))
         (F.means (files_of prepared.exit.0.now))
         (IsEditStop F.honest F.means F.faults session.now.committer old edits) }
+    ensures lost { (old : AStore F) (edits : List AnEdit) → Prepares F.honest F.means F.faults old
+        prepared.entry.store.now edits (held_packed prepared.entry.plan)
+        (held_edits prepared.entry.plan) → F.honest → HasGoodRecords F.means old →
+        IsAtRest F.means old → Loses (F.means (files_of old))
+        (F.means (files_of prepared.exit.0.now))
+        (IsLossOf F.honest F.means F.faults uses old session.now.committer edits) }
 {
     match heard {
         Closing::Commit => {
@@ -172,6 +192,12 @@ fn close<F: Files, R: BufRead, W: Write>(
         (held_edits prepared.entry.plan) → F.honest → Leaves (F.means (files_of old))
         (F.means (files_of prepared.exit.0.now))
         (IsEditStop F.honest F.means F.faults session.now.committer old edits) }
+    ensures lost { (old : AStore F) (edits : List AnEdit) → Prepares F.honest F.means F.faults old
+        prepared.entry.store.now edits (held_packed prepared.entry.plan)
+        (held_edits prepared.entry.plan) → F.honest → HasGoodRecords F.means old →
+        IsAtRest F.means old → Loses (F.means (files_of old))
+        (F.means (files_of prepared.exit.0.now))
+        (IsLossOf F.honest F.means F.faults uses old session.now.committer edits) }
 {
     match hear_closing(alloc, session, input, out, texts) {
         Ok(heard) => close_by(alloc, session, prepared, heard, out),
@@ -197,6 +223,12 @@ fn commit_at_end<F: Files>(
         (held_edits prepared.entry.plan) → F.honest → Leaves (F.means (files_of old))
         (F.means (files_of prepared.exit.0.now))
         (IsEditStop F.honest F.means F.faults session.now.committer old edits) }
+    ensures lost { (old : AStore F) (edits : List AnEdit) → Prepares F.honest F.means F.faults old
+        prepared.entry.store.now edits (held_packed prepared.entry.plan)
+        (held_edits prepared.entry.plan) → F.honest → HasGoodRecords F.means old →
+        IsAtRest F.means old → Loses (F.means (files_of old))
+        (F.means (files_of prepared.exit.0.now))
+        (IsLossOf F.honest F.means F.faults uses old session.now.committer edits) }
 {
     match commit(alloc, session, prepared) {
         Ok(()) => Ok(false),
@@ -221,6 +253,12 @@ fn commit_and_answer<F: Files, W: Write>(
         (held_edits prepared.entry.plan) → F.honest → Leaves (F.means (files_of old))
         (F.means (files_of prepared.exit.0.now))
         (IsEditStop F.honest F.means F.faults session.now.committer old edits) }
+    ensures lost { (old : AStore F) (edits : List AnEdit) → Prepares F.honest F.means F.faults old
+        prepared.entry.store.now edits (held_packed prepared.entry.plan)
+        (held_edits prepared.entry.plan) → F.honest → HasGoodRecords F.means old →
+        IsAtRest F.means old → Loses (F.means (files_of old))
+        (F.means (files_of prepared.exit.0.now))
+        (IsLossOf F.honest F.means F.faults uses old session.now.committer edits) }
 {
     let committed = commit(alloc, session, prepared);
     answer_commit(committed, out)
@@ -247,6 +285,12 @@ fn finish<F: Files, R: BufRead, W: Write>(
         (held_edits prepared.entry.plan) → F.honest → Leaves (F.means (files_of old))
         (F.means (files_of prepared.exit.0.now))
         (IsEditStop F.honest F.means F.faults session.now.committer old edits) }
+    ensures lost { (old : AStore F) (edits : List AnEdit) → Prepares F.honest F.means F.faults old
+        prepared.entry.store.now edits (held_packed prepared.entry.plan)
+        (held_edits prepared.entry.plan) → F.honest → HasGoodRecords F.means old →
+        IsAtRest F.means old → Loses (F.means (files_of old))
+        (F.means (files_of prepared.exit.0.now))
+        (IsLossOf F.honest F.means F.faults uses old session.now.committer edits) }
 {
     match closing {
         Closing::Prepare => close(alloc, session, prepared, input, out, texts),
@@ -280,6 +324,9 @@ fn make<F: Files, R: BufRead, W: Write>(
         (way (R.remaining input.new) (W.contents out.new) store.new) result }
     ensures leaves { F.honest → Leaves (F.means (files_of store.old)) (F.means (files_of store.new))
         (IsEditStop F.honest F.means F.faults session.now.committer store.old led.items) }
+    ensures lost { F.honest → HasGoodRecords F.means store.old → IsAtRest F.means store.old →
+        Loses (F.means (files_of store.old)) (F.means (files_of store.new))
+        (IsLossOf F.honest F.means F.faults uses store.old session.now.committer led.items) }
 {
     match store
         .transaction_with(PackedRefs::DeletionsOnly)
@@ -307,6 +354,10 @@ pub(crate) fn try_once<F: Files, R: BufRead, W: Write>(
         (way (R.remaining input.new) (W.contents out.new) store.new) result }
     ensures leaves { F.honest → Leaves (F.means (files_of store.old)) (F.means (files_of store.new))
         (IsTryStop F.honest F.means F.faults session.now.committer
+        (HasReadFault F.Reader.faults) edits.now store.old) }
+    ensures lost { F.honest → HasGoodRecords F.means store.old → IsAtRest F.means store.old →
+        Loses (F.means (files_of store.old)) (F.means (files_of store.new))
+        (IsTryLoss F.honest F.means F.faults session.now.committer
         (HasReadFault F.Reader.faults) edits.now store.old) }
 {
     match led_edits(alloc, store, session.committer.is_some(), edits) {

@@ -1,5 +1,5 @@
 use Rattle.std.proofs.Common.{◌∙◌, refl}
-use Rattle.gix_ref_session.proofs.Settling.{ends_well, gives_up, leaves_on, none_yet, one_more, settles_from}
+use Rattle.gix_ref_session.proofs.Settling.{ends_well, gives_up, leaves_on, loses_on, none_yet, one_more, settles_from}
 use Rattle.gix_ref_session.proofs.session.settle.Goals as goal
 
 pub tries-init : goal.tries-init
@@ -12,7 +12,7 @@ tries-preserved g c =
     let F = g.F.Files in
     let b = c.tries.invariant in
     let more = one_more g.F.Reader.ReadAt F.honest F.means F.faults c.args.session.now c.args.edits.now c.args.store.now c.tries.store c.try_once.new.store c.tries.patience b.0
-    c.args.closing (g.R.Read.remaining c.tries.input) (g.W.Write.contents c.tries.out) (g.R.Read.remaining c.try_once.new.input) (g.W.Write.contents c.try_once.new.out) c.in-Err.fatal c.in-Some.less c.in-Some.ensures c.in-Err.ensures.ends c.try_once.ensures.leaves in
+    c.args.closing (g.R.Read.remaining c.tries.input) (g.W.Write.contents c.tries.out) (g.R.Read.remaining c.try_once.new.input) (g.W.Write.contents c.try_once.new.out) c.in-Err.fatal c.in-Some.less c.in-Some.ensures c.in-Err.ensures.ends c.try_once.ensures.leaves c.try_once.ensures.lost in
     (more.0, more.1 ∙ b.1, more.2 ∙ b.2)
 
 pub returns-in-Ok-clause-ends : goal.returns-in-Ok-clause-ends
@@ -42,3 +42,13 @@ pub returns-in-None-clause-leaves : goal.returns-in-None-clause-leaves
 returns-in-None-clause-leaves g c =
     let F = g.F.Files in
     leaves_on g.F.Reader.ReadAt F.honest F.means F.faults c.args.session.now c.args.edits.now c.args.store.now c.tries.store c.try_once.new.store c.tries.patience c.tries.invariant.0 c.try_once.ensures.leaves
+
+pub returns-in-Ok-clause-lost : goal.returns-in-Ok-clause-lost
+returns-in-Ok-clause-lost g c =
+    let F = g.F.Files in
+    loses_on g.F.Reader.ReadAt F.honest F.means F.faults c.args.session.now c.args.edits.now c.args.store.now c.tries.store c.try_once.new.store c.tries.patience c.tries.invariant.0 c.try_once.ensures.lost
+
+pub returns-in-None-clause-lost : goal.returns-in-None-clause-lost
+returns-in-None-clause-lost g c =
+    let F = g.F.Files in
+    loses_on g.F.Reader.ReadAt F.honest F.means F.faults c.args.session.now c.args.edits.now c.args.store.now c.tries.store c.try_once.new.store c.tries.patience c.tries.invariant.0 c.try_once.ensures.lost

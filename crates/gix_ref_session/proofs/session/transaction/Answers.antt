@@ -13,4 +13,4 @@ returns-after-gathered g c =
       | else-gathered w ↦ w.gives_up-is ∙ sym (ap (λ (b : Bool). b || c.args.needs_start) w.if-gathered.false)
     ] in
     turns g.F.Reader.ReadAt F.honest F.means F.faults c.args.session.now c.args.needs_start (input c.args.input.now) (out c.args.out.now) c.args.store.now c.close.new.store c.in-Ok.closing (input c.gather.new.input) (out c.gather.new.out) c.in-Ok.gathered c.in-Ok.ensures.gathered
-    c.if-gathered.gives_up (input c.close.new.input) (out c.close.new.out) c.close.result gives (rw c.deref.ensures.value at c.close.ensures.ends) (rw c.deref.ensures.value at c.close.ensures.leaves)
+    c.if-gathered.gives_up (input c.close.new.input) (out c.close.new.out) c.close.result gives (rw c.deref.ensures.value at c.close.ensures.ends) (rw c.deref.ensures.value at c.close.ensures.leaves) (rw c.deref.ensures.value at c.close.ensures.lost)

@@ -13,3 +13,6 @@ returns-in-Err-clause-ends g c old edits from = inr (inl (refl, c.give_up.ensure
 
 pub returns-in-Err-clause-leaves : goal.returns-in-Err-clause-leaves
 returns-in-Err-clause-leaves g c old edits from = c.give_up.ensures.leaves c.args.session.now.committer old edits from
+
+pub returns-in-Err-clause-lost : goal.returns-in-Err-clause-lost
+returns-in-Err-clause-lost g c old edits from = c.give_up.ensures.lost c.args.session.now.committer old edits from

@@ -22,3 +22,9 @@ returns-in-Abort-clause-leaves g c old edits from = c.give_up.ensures.leaves c.a
 
 pub returns-in-End-clause-leaves : goal.returns-in-End-clause-leaves
 returns-in-End-clause-leaves g c old edits from = c.give_up-in-End.ensures.leaves c.args.session.now.committer old edits from
+
+pub returns-in-Abort-clause-lost : goal.returns-in-Abort-clause-lost
+returns-in-Abort-clause-lost g c old edits from = c.give_up.ensures.lost c.args.session.now.committer old edits from
+
+pub returns-in-End-clause-lost : goal.returns-in-End-clause-lost
+returns-in-End-clause-lost g c old edits from = c.give_up-in-End.ensures.lost c.args.session.now.committer old edits from

@@ -1,6 +1,6 @@
 use Rattle.gix_ref_packed.specs.OpenFiles.{HasReadFault}
 use Rattle.gix_ref_store.specs.CommitResult.{left_of}
-use Rattle.gix_ref_session.proofs.Committing.{commit_ends, commit_leaves}
+use Rattle.gix_ref_session.proofs.Committing.{commit_ends, commit_leaves, commit_loses}
 use Rattle.gix_ref_session.proofs.try_once.commit.Goals as goal
 
 pub returns-clause-ends : goal.returns-clause-ends
@@ -14,3 +14,9 @@ returns-clause-leaves g c old edits from h =
     let F = g.F.Files in
     commit_leaves F.honest F.means F.faults old c.args.prepared.store.now c.commit.new.self.0 edits c.args.prepared.plan.packed c.args.prepared.plan.edits.items from
     c.args.session.now.committer (left_of c.commit.result) c.commit.ensures.safe h
+
+pub returns-clause-lost : goal.returns-clause-lost
+returns-clause-lost g c old edits from h good at_rest =
+    let F = g.F.Files in
+    commit_loses F.honest F.means F.faults old c.args.prepared.store.now c.commit.new.self.0 edits c.args.prepared.plan.packed c.args.prepared.plan.edits.items from
+    c.args.session.now.committer (left_of c.commit.result) c.commit.ensures.safe h good at_rest

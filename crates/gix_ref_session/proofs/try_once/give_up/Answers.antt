@@ -1,5 +1,5 @@
 use Rattle.gix_ref_transaction.specs.OwnLocks.{paths_of}
-use Rattle.gix_ref_session.proofs.Committing.{given_up, given_up_leaves}
+use Rattle.gix_ref_session.proofs.Committing.{given_up, given_up_leaves, given_up_loses}
 use Rattle.gix_ref_session.proofs.try_once.give_up.Goals as goal
 
 pub returns-clause-ends : goal.returns-clause-ends
@@ -12,4 +12,10 @@ pub returns-clause-leaves : goal.returns-clause-leaves
 returns-clause-leaves g c committer old edits from h =
     let F = g.F.Files in
     given_up_leaves F.honest F.means F.faults old c.args.prepared.store.now c.rollback-given_up.new.self.0 edits c.args.prepared.plan.packed c.args.prepared.plan.edits.items from
+    committer (paths_of c.rollback-given_up.result.locks_left.items) c.rollback-given_up.ensures.rolled h
+
+pub returns-clause-lost : goal.returns-clause-lost
+returns-clause-lost g c committer old edits from h good at_rest =
+    let F = g.F.Files in
+    given_up_loses F.honest F.means F.faults old c.args.prepared.store.now c.rollback-given_up.new.self.0 edits c.args.prepared.plan.packed c.args.prepared.plan.edits.items from
     committer (paths_of c.rollback-given_up.result.locks_left.items) c.rollback-given_up.ensures.rolled h
