@@ -1,21 +1,14 @@
 -- What is chosen, one loose reference after the other.
 use Rattle.std.proofs.Common.{◌≡◌, ℕ, Bool, true, false, List, [], ◌∷◌, ◌++◌, refl, sym, ◌∙◌, ap, subst, Option, Some, None, Result, cond, append-nil, append_assoc}
-use Rattle.std.specs.Prelude.{◌&&◌, ◌||◌, bytes_eq, is_some}
+use Rattle.std.specs.Prelude.{bytes_eq}
 use Rattle.std.specs.Cmp.Lexicographic.{bytes_decides}
 use Rattle.std.specs.Option.{option_copied}
 use denote.Ref.{Bor}
 use Rattle.std.specs.List.{cons_option, filter, filter_map}
-use Rattle.std.specs.Ordering.{is_eq}
-use Rattle.std.specs.declared.cmp.Ordering.{Ordering}
-use Rattle.std.specs.declared.cmp.Ordering.TheVariants.{Less, Equal, Greater}
 use Rattle.std.proofs.lemmas.List.Elements.{filter-append, filter_map-append}
-use Rattle.std.proofs.lemmas.List.Folds.{list_any-append}
-use Rattle.std.proofs.lemmas.Map.Lookups.{exact_bytes}
 use Rattle.gix_ref_files.specs.Tree.{Content, bytes_of, is_file}
 use Rattle.gix_ref_files.specs.Tree.Content.{File, Folder}
 use Rattle.gix_ref_hash.specs.declared.hash.Kind.{Kind}
-use Rattle.gix_ref_hash.specs.declared.hash.ObjectId.{ObjectId}
-use Rattle.gix_ref_hash.specs.declared.hash.ObjectId.TheVariants.{Sha1, Sha256}
 use Rattle.gix_ref_name.specs.NameGrammar.{IsFullName}
 use Rattle.gix_ref_target.specs.PackedRecords.{Record, record_named}
 use Rattle.gix_ref_packed_text.specs.RecordGrammar.{Records as AreRecords}
@@ -29,20 +22,14 @@ use Rattle.gix_ref_packed_text.specs.declared.raw.Reference.{Reference}
 use Rattle.gix_ref_listing.specs.declared.error.Error.{Error}
 use Rattle.gix_ref_store.specs.Lookup.{AreHeld}
 use Rattle.gix_ref_pack.specs.KeptObjects.{AreKeptFor, KeepsObject}
-use Rattle.gix_ref_pack.specs.KnownObjects.{id_order, is_known}
-use Rattle.gix_ref_pack.specs.LooseObjects.{fault_in, faults_among, has_branch, is_branch}
-use Rattle.gix_ref_pack.specs.declared.objects.Objects.{Objects}
+use Rattle.gix_ref_pack.specs.LooseObjects.{fault_in, faults_among}
 use Rattle.gix_ref_pack.specs.declared.pack.Loose.{Loose}
 
--- one more that a filter keeps, or not
+-- one more that a filter keeps
 pub filter_more : {A : Type 0} (test : A → Bool) (xs kept : List A) (x : A) → kept ≡ filter test xs → test x ≡ true → kept ++ x ∷ [] ≡ filter test (xs ++ x ∷ [])
 filter_more {A = A} test xs kept x so_far is =
     ap (λ (ks : List A). ks ++ x ∷ []) so_far
     ∙ (ap (λ b. filter test xs ++ cond b (x ∷ []) []) (sym is) ∙ sym (filter-append test xs (x ∷ [])))
-
-pub filter_not : {A : Type 0} (test : A → Bool) (xs kept : List A) (x : A) → kept ≡ filter test xs → test x ≡ false → kept ≡ filter test (xs ++ x ∷ [])
-filter_not {A = A} test xs kept x so_far is =
-    so_far ∙ (sym (append-nil (filter test xs)) ∙ (ap (λ b. filter test xs ++ cond b (x ∷ []) []) (sym is) ∙ sym (filter-append test xs (x ∷ []))))
 
 -- one more of which something is given, or nothing
 pub map_more : {A B : Type 0} (h : A → Option B) (xs : List A) (given after : List B) (x : A) (y : B) → after ≡ given ++ y ∷ [] → given ≡ filter_map h xs → h x ≡ Some y → after ≡ filter_map h (xs ++ x ∷ [])
@@ -75,80 +62,6 @@ kept_more (m ∷ loose) (e ∷ edits) l edit (first, are) keeps = (first, kept_m
 pub kept_filter_more : (test : Loose → Bool) (all : List Loose) (edits : List RefEdit) (l : Loose) (edit : RefEdit) → AreKeptFor (filter test all) edits → test l ≡ true → KeepsObject l edit → AreKeptFor (filter test (all ++ l ∷ [])) (edits ++ edit ∷ [])
 kept_filter_more test all edits l edit are is keeps =
     subst (λ (ls : List Loose). AreKeptFor ls (edits ++ edit ∷ [])) (filter_more test all (filter test all) l refl is) (kept_more (filter test all) edits l edit are keeps)
-
-pub kept_filter_not : (test : Loose → Bool) (all : List Loose) (edits : List RefEdit) (l : Loose) → AreKeptFor (filter test all) edits → test l ≡ false → AreKeptFor (filter test (all ++ l ∷ [])) edits
-kept_filter_not test all edits l are is = subst (λ (ls : List Loose). AreKeptFor ls edits) (filter_not test all (filter test all) l refl is) are
-
--- ids that compare equal are the same
-pub same_id : (a b : ObjectId) → is_eq (id_order a b) ≡ true → a ≡ b
-same_id (Sha1 a) (Sha1 b) is = ap Sha1 (exact_bytes a b (equal _ is))
-  where
-    equal : (o : Ordering) → is_eq o ≡ true → o ≡ Equal
-    equal Less other = cc
-    equal Equal same = refl
-    equal Greater other = cc
-same_id (Sha1 a) (Sha256 b) is = cc
-same_id (Sha256 a) (Sha1 b) is = cc
-same_id (Sha256 a) (Sha256 b) is = ap Sha256 (exact_bytes a b (equal _ is))
-  where
-    equal : (o : Ordering) → is_eq o ≡ true → o ≡ Equal
-    equal Less other = cc
-    equal Equal same = refl
-    equal Greater other = cc
-
--- an object that is known already is the same with one that is added
-pub known_already : (objects : Objects) (id other : ObjectId) → is_known objects id ≡ true → is_known objects other ≡ (is_eq (id_order id other) || is_known objects other)
-known_already objects id other known = by (is_eq (id_order id other)) refl
-  where
-    by : (b : Bool) → is_eq (id_order id other) ≡ b → is_known objects other ≡ (b || is_known objects other)
-    by true same = subst (λ (o : ObjectId). is_known objects o ≡ true) (same_id id other same) known
-    by false differ = refl
-
--- the objects of one branch more
-pub branch_more : (chosen : List Loose) (l : Loose) (first before after : Objects) → (more : List Loose) → more ≡ chosen ++ l ∷ [] →
-    ((id : ObjectId) → is_known before id ≡ (has_branch chosen id || is_known first id)) → is_branch l.name ≡ true → ((id : ObjectId) → is_known after id ≡ (is_eq (id_order l.id id) || is_known before id)) →
-    (id : ObjectId) → is_known after id ≡ (has_branch more id || is_known first id)
-branch_more chosen l first before after more more_is so_far is added id =
-    added id ∙ (ap (λ b. is_eq (id_order l.id id) || b) (so_far id) ∙ (turned (is_eq (id_order l.id id)) (has_branch chosen id) (is_known first id) ∙ ap (λ b. b || is_known first id) (sym whole)))
-  where
-    turned : (a b c : Bool) → (a || (b || c)) ≡ ((b || a) || c)
-    turned true true c = refl
-    turned true false c = refl
-    turned false true c = refl
-    turned false false c = refl
-
-    alone : (b c : Bool) → b ≡ true → ((b && c) || false) ≡ c
-    alone true true here = refl
-    alone true false here = refl
-    alone false c here = cc
-
-    whole : has_branch more id ≡ (has_branch chosen id || is_eq (id_order l.id id))
-    whole = ap (λ (ls : List Loose). has_branch ls id) more_is
-        ∙ (list_any-append (λ (m : Loose). is_branch m.name && is_eq (id_order m.id id)) chosen (l ∷ [])
-        ∙ ap (λ b. has_branch chosen id || b) (alone (is_branch l.name) (is_eq (id_order l.id id)) is))
-
-pub branch_not : (chosen : List Loose) (l : Loose) (first before : Objects) → (more : List Loose) → more ≡ chosen ++ l ∷ [] →
-    ((id : ObjectId) → is_known before id ≡ (has_branch chosen id || is_known first id)) → is_branch l.name ≡ false →
-    (id : ObjectId) → is_known before id ≡ (has_branch more id || is_known first id)
-branch_not chosen l first before more more_is so_far is id = so_far id ∙ ap (λ b. b || is_known first id) (sym whole)
-  where
-    none : (b c : Bool) → b ≡ false → ((b && c) || false) ≡ false
-    none true c other = cc
-    none false c other = refl
-
-    or_false : (b : Bool) → (b || false) ≡ b
-    or_false true = refl
-    or_false false = refl
-
-    whole : has_branch more id ≡ has_branch chosen id
-    whole = ap (λ (ls : List Loose). has_branch ls id) more_is
-        ∙ (list_any-append (λ (m : Loose). is_branch m.name && is_eq (id_order m.id id)) chosen (l ∷ [])
-        ∙ (ap (λ b. has_branch chosen id || b) (none (is_branch l.name) (is_eq (id_order l.id id)) is) ∙ or_false (has_branch chosen id)))
-
--- one more object in a table
-pub known_more : (b : Bool) (found : Option (Option ObjectId)) → is_some (cond b (Some None) found) ≡ (b || is_some found)
-known_more true found = refl
-known_more false found = refl
 
 -- a key that is no full name has no record
 valid_named : (kind : Kind) (text : List ℕ) (rs : List Record) (key : List ℕ) → AreRecords kind text rs → (IsFullName key → ⊥) → record_named key rs ≡ None

@@ -1,3 +1,4 @@
 pub mod Choosing
 pub mod KeptReadings
 pub mod PackedStores
+pub mod TableLines

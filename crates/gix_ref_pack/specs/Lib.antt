@@ -2,3 +2,4 @@ pub mod KeptObjects
 pub mod KnownObjects
 pub mod LooseObjects
 pub mod Packings
+pub mod TableRows

@@ -1,8 +1,9 @@
 //! The objects of a repository, as far as packing has to know them.
-ghost use Rattle.std.specs.Prelude.{◌≡◌, ◌||◌, ◌++◌, OnOk};
-ghost use Rattle.std.specs.Ordering.{is_eq};
+ghost use Rattle.std.specs.Prelude.{◌≡◌, ◌≢◌, ◌++◌, List, [], None, IfErr, IfOk, MatchOption, OnOk};
 ghost use Rattle.gix_ref_hash.specs.declared.hash.ObjectId.{ObjectId as Id};
-ghost use Rattle.gix_ref_pack.specs.KnownObjects.{id_order, is_known, stored_in, tag_text};
+ghost use Rattle.gix_ref_pack.specs.KnownObjects.{end_after, end_by, end_in, is_known, known_after, stored_in, tag_text};
+ghost use Rattle.gix_ref_pack.specs.TableRows.{IsFirstLine, IsNoTable, IsRow, IsTable};
+ghost use Rattle.gix_ref_pack.specs.declared.objects.Row.{Row as ARow};
 
 use gix_ref_hash::bytes::cut;
 use gix_ref_hash::hash::ObjectId;
@@ -38,60 +39,96 @@ impl From<AllocError> for TableError {
     }
 }
 
+/// A line of a table: an object, and the one at the end of its tags if it is a tag.
+#[derive(Clone, Copy)]
+struct Row {
+    id: ObjectId,
+    end: Option<ObjectId>,
+}
+
+/// The object of a line `ID` or `ID `, and of a line `ID PEELED` with the one at the end of its tags; `None` for a line that is none.
+fn row_of(line: &[u8]) -> Option<Row>
+    ensures { MatchOption result ((row : ARow) → IsRow line.now row → ⊥) (IsRow line.now) }
+{
+    let Some((id, peeled)) = cut(line, b' ') else {
+        return match ObjectId::from_hex(line) {
+            Some(id) => Some(Row { id, end: None }),
+            None => None,
+        };
+    };
+    let Some(id) = ObjectId::from_hex(id) else {
+        return None;
+    };
+    if peeled.is_empty() {
+        return Some(Row { id, end: None });
+    }
+    match ObjectId::from_hex(peeled) {
+        Some(end) => Some(Row { id, end: Some(end) }),
+        None => None,
+    }
+}
+
+/// The first line of a text, and what comes after it. The last line may have no line break.
+fn first_line(text: &[u8]) -> (&[u8], &[u8])
+    ensures { text.now ≢ [] → IsFirstLine text.now result.0.now result.1.now }
+{
+    match cut(text, b'\n') {
+        Some((line, after)) => (line, after),
+        None => (text, b"".as_slice()),
+    }
+}
+
 impl Objects {
     /// No objects.
-    pub fn new(alloc: Global) -> Objects {
+    pub fn new(alloc: Global) -> Objects
+        ensures { (id : Id) → end_in result id ≡ None }
+    {
         Objects {
             ends: BTreeMap::new(alloc),
         }
     }
 
     /// The objects of a table, as `git for-each-ref --format='%(objectname) %(*objectname)'` prints it: a line `ID PEELED` for each tag,
-    /// where PEELED is the object at the end of its tags, and a line `ID` or `ID ` for any other object. Where PEELED has a line of its
-    /// own, that counts; of two lines of one object the later does.
-    pub fn read(alloc: Global, table: &[u8]) -> Result<Objects, TableError> {
+    /// where PEELED is the object at the end of its tags, and a line `ID` or `ID ` for any other object. Ids have 40 or 64 hex digits. Where
+    /// PEELED has a line of its own, that counts; of two lines of one object the later does.
+    ///
+    /// `Line` with the number of the first line that is none; `Memory`.
+    pub fn read(alloc: Global, table: &[u8]) -> Result<Objects, TableError>
+        ensures read { IfOk result (λ objects. (rows : List ARow) × IsTable table.now rows
+            × ((id : Id) → end_in objects id ≡ end_by rows id)) }
+        ensures refused { IfErr result (IsNoTable table.now) }
+    {
         let mut objects = Objects::new(alloc);
         let mut rest = table;
         let mut number = 0usize;
         while !rest.is_empty() {
-            let (line, after) = match cut(rest, b'\n') {
-                Some((line, after)) => (line, after),
-                None => (rest, b"".as_slice()),
-            };
-            rest = after;
-            number = number.saturating_add(1);
-            if !objects.add_line(line)? {
+            let (line, after) = first_line(rest);
+            number += 1;
+            let Some(row) = row_of(line) else {
                 return Err(TableError::Line(number));
-            }
+            };
+            objects.add(row)?;
+            rest = after;
         }
         Ok(objects)
     }
 
-    /// Adds the objects of a line; false for a line that is none.
-    fn add_line(&mut self, line: &[u8]) -> Result<bool, AllocError> {
-        let (id, peeled) = match cut(line, b' ') {
-            Some((id, peeled)) => (id, peeled),
-            None => (line, b"".as_slice()),
-        };
-        let Some(id) = ObjectId::from_hex(id) else {
-            return Ok(false);
-        };
-        if peeled.is_empty() {
-            self.ends.insert(id, None)?;
-            return Ok(true);
+    /// Adds the objects of a line.
+    fn add(&mut self, row: Row) -> Result<(), AllocError>
+        ensures { OnOk result ((id : Id) → end_in self.new id
+            ≡ end_after row (end_in self.old id) id) }
+    {
+        if let Some(end) = row.end {
+            self.add_commit(end)?;
         }
-        let Some(end) = ObjectId::from_hex(peeled) else {
-            return Ok(false);
-        };
-        self.ends.entry(end)?.or_insert(None);
-        self.ends.insert(id, Some(end))?;
-        Ok(true)
+        self.ends.insert(row.id, row.end)?;
+        Ok(())
     }
 
     /// Adds an object that is no tag, unless it is known already.
     pub fn add_commit(&mut self, id: ObjectId) -> Result<(), AllocError>
-        ensures { OnOk result ((other : Id) → is_known self.new other
-            ≡ (is_eq (id_order id other) || is_known self.old other)) }
+        ensures { OnOk result ((other : Id) → end_in self.new other
+            ≡ known_after id (end_in self.old other) other) }
     {
         if !self.has(&id) {
             self.ends.insert(id, None)?;
