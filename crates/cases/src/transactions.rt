@@ -57,6 +57,7 @@ fn refusal(world: &mut World, refused: Refused<Objects>) -> Result<Said> {
     let alloc = world.alloc;
     let Refused {
         error,
+        edits: _edits,
         packed_refs,
         locks_left,
     } = refused;

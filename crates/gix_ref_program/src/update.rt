@@ -78,6 +78,7 @@ pub fn update<F: Files>(
         Err(refused) => {
             let Refused {
                 error,
+                edits: _edits,
                 packed_refs,
                 locks_left,
             } = refused;

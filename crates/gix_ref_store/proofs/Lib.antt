@@ -2,6 +2,7 @@ pub mod CommitFailures
 pub mod Commits
 pub mod CompleteListings
 pub mod ComposedLists
+pub mod CopiedEdits
 pub mod FirstItems
 pub mod FolderRuns
 pub mod LentRecords

@@ -22,10 +22,10 @@ use Rattle.gix_ref_transaction.specs.Parents.{parents_in}
 use Rattle.gix_ref_transaction.specs.OwnLocks.{paths_of}
 use Rattle.gix_ref_transaction.specs.declared.prepare.hold.HeldLocks.{HeldLocks}
 use Rattle.gix_ref_transaction.specs.declared.prepare.hold.LockFailure.{LockFailure}
-use Rattle.gix_ref_transaction.specs.PrepareSteps.{puts_in, AreWholeLocks, effects_of, effects_on, files_at, ids_in, packed_ids, place_paths, places_of, seen_files, targets_of, updates}
+use Rattle.gix_ref_transaction.specs.PrepareSteps.{puts_in, effects_of, ids_in, place_paths, seen_files, targets_of, updates}
 use Rattle.gix_ref_transaction.specs.declared.edit.Edit.{Edit}
 use Rattle.gix_ref_store.specs.ComposedEdits.{AreAskedAs}
-use Rattle.gix_ref_store.specs.Prepared.{HasGoodRecords, HaveParents, HoldsGiven, HoldsSplit, PreparesFrom, PreparesGiven, RefusesFrom, RefusesGiven, SplitsFrom, disk_in, locks_in, tree_of}
+use Rattle.gix_ref_store.specs.Prepared.{HaveParents, HoldsGiven, HoldsSplit, PreparesFrom, PreparesGiven, RefusesFrom, RefusesGiven, SplitsFrom, tree_of}
 use Rattle.gix_ref_store.specs.Store.{folders, kind_of, meaning_of}
 use Rattle.gix_ref_store.specs.declared.file.store.Store.{Store}
 

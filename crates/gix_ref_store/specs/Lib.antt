@@ -12,4 +12,5 @@ pub mod Prepared
 pub mod PreparedFields
 pub mod Pristine
 pub mod Reflogs
+pub mod SameEdits
 pub mod Store

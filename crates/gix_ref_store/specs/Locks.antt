@@ -1,5 +1,5 @@
 -- The lock files of a store, and their removal.
-use Rattle.std.specs.Prelude.{◌≡◌, ℕ, List, Vec}
+use Rattle.std.specs.Prelude.{ℕ, List, Vec}
 use Rattle.std.specs.declared.alloc.Global.{Global}
 use Rattle.gix_ref_files.specs.Files.{Meaning, Leaves}
 use Rattle.gix_ref_locks.specs.LockFiles.{AreLockFiles}

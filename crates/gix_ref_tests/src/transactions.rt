@@ -9,7 +9,7 @@ use gix_ref::object::Never;
 use gix_ref::target::Target;
 use gix_ref::theorems::read_back::error::Error;
 use gix_ref::theorems::read_back::make::make;
-use gix_ref::transaction::{PreviousValue, RefEdit};
+use gix_ref::transaction::{Change, PreviousValue, RefEdit};
 use std::alloc::Global;
 use std::test::Fail;
 
@@ -46,6 +46,49 @@ fn a_symbolic_target_is_a_full_name(rt: HostRuntime) -> Result<(), Fail> {
         }
     }
     assert_eq!(rt; store.into_files().calls(), 0, "no file is touched");
+    Ok(())
+}
+
+/// The edits of a transaction that is refused.
+fn refused_edits(
+    alloc: Global,
+    store: &mut Store<Memory>,
+    edits: Vec<RefEdit>,
+) -> Option<Vec<RefEdit>> {
+    match store.transaction().prepare(alloc, edits) {
+        Err(refused) => Some(refused.edits),
+        Ok(prepared) => {
+            let _ = prepared.rollback();
+            None
+        }
+    }
+}
+
+#[test]
+fn a_refused_edit_is_tried_again(rt: HostRuntime) -> Result<(), Fail> {
+    let alloc = rt.alloc();
+    let mut store = store(alloc)?;
+    let name = FullNameRef::try_from("refs/heads/a")?.to_owned(alloc)?;
+    let edits = vec![in alloc; RefEdit::delete(name, PreviousValue::MustExist)]?;
+    let again = match refused_edits(alloc, &mut store, edits) {
+        Some(edits) => refused_edits(alloc, &mut store, edits),
+        None => panic!(rt; "there is no such reference"),
+    };
+    match again {
+        Some(edits) => {
+            assert_eq!(rt; edits.len(), 1, "the edit is handed back");
+            let edit = &edits[0];
+            assert!(rt;
+                edit.name.to_path() == b"refs/heads/a".as_slice(),
+                "with its name"
+            );
+            assert!(rt;
+                matches!(edit.change, Change::Delete { .. }),
+                "and its change"
+            );
+        }
+        None => panic!(rt; "nor is there one now"),
+    }
     Ok(())
 }
 

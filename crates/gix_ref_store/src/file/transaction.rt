@@ -7,6 +7,7 @@ ghost use Rattle.gix_ref_transaction.specs.OwnLocks.{paths_of};
 ghost use Rattle.gix_ref_transaction.specs.Packing.{OfFinder, ends_of, mode_in};
 ghost use Rattle.gix_ref_transaction.specs.PrepareSteps.{updates};
 ghost use Rattle.gix_ref_store.specs.Prepared.{RefusesGiven, PreparesGiven, RollsBackFrom};
+ghost use Rattle.gix_ref_store.specs.SameEdits.{AreSameEdits};
 
 pub mod commit;
 pub mod outcome;
@@ -141,7 +142,7 @@ impl<'s, F: Files, T: Find> Transaction<'s, F, PackedRefs<T>> {
     /// reference that may have a record is peeled: its tags are followed, over at most 1,000, by calls of the finder, which is asked
     /// for nothing else. That is done before any lock of an edit is taken, and no file is read for it.
     ///
-    /// `Refused` has the first cause that applies, in the order of `prepare::Error`, and hands the finder back; then all is as before
+    /// `Refused` has the first cause that applies, in the order of `prepare::Error`, and hands the edits and the finder back; then all is as before
     /// except for the locks that it names, and folders on the way to locks. A finder that answers otherwise each time may be refused, or
     /// have another peeled id put into `packed-refs`, and nothing else comes of it. Reads one file for each edit, and makes one, and reads one
     /// more for each that follows; `packed-refs` is opened once, and searched once for each edit whose reference can be in it; the
@@ -157,6 +158,7 @@ impl<'s, F: Files, T: Find> Transaction<'s, F, PackedRefs<T>> {
             (OfFinder T.claims self.entry.packed_refs) (ends_of T.meaning self.entry.packed_refs)
             (mode_in self.entry.packed_refs) self.entry.store.now n edits.items
             r.error (paths_of r.locks_left.items) × (r.packed_refs ≡ self.entry.packed_refs)))) }
+        ensures edits { IfErr result (λ r. AreSameEdits edits.items r.edits.items) }
         ensures same_reference { IfOk result (λ p. p.store.ghost_name
             ≡ self.entry.store.ghost_name) }
         ensures prepared { IfOk result
@@ -166,11 +168,12 @@ impl<'s, F: Files, T: Find> Transaction<'s, F, PackedRefs<T>> {
         ensures packed_refs { IfOk result (λ p. prepared_mode p.plan ≡ self.entry.packed_refs) }
     {
         let Transaction { store, packed_refs } = self;
-        match store.compose_and_lock(alloc, &packed_refs, edits) {
-            Err(failure) => {
+        match store.lock_or_hand_back(alloc, &packed_refs, edits) {
+            Err((failure, edits)) => {
                 let LockFailure { error, locks_left } = failure;
                 Err(Refused {
                     error,
+                    edits,
                     packed_refs,
                     locks_left,
                 })

@@ -12,6 +12,8 @@ use thiserror::Error;
 pub struct Refused<T: Find = Never> {
     /// The first cause that applies.
     pub error: prepare::Error,
+    /// As they were given, for another try.
+    pub edits: Vec<RefEdit>,
     /// As it was given.
     pub packed_refs: PackedRefs<T>,
     /// The paths of locks that could not be removed again.

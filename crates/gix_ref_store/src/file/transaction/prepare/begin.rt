@@ -5,6 +5,7 @@ ghost use Rattle.gix_ref_theory.specs.OnRealTrees.{view_of};
 ghost use Rattle.gix_ref_transaction.specs.LeftLocks.{HasRoom};
 ghost use Rattle.gix_ref_transaction.specs.OwnLocks.{paths_of};
 ghost use Rattle.gix_ref_store.specs.Prepared.{RefusesFrom, RefusesGiven, RefusesSplit, HaveParents, HoldsSplit, HoldsGiven, SplitsFrom, LosesNothing, tree_of};
+ghost use Rattle.gix_ref_store.specs.SameEdits.{AreSameEdits};
 ghost use Rattle.gix_ref_store.specs.Store.{files_of, kind_of, meaning_of, with_files};
 ghost use Rattle.gix_ref_transaction.specs.Packing.{OfFinder, ends_of, mode_in};
 ghost use Rattle.gix_ref_transaction.specs.Parents.{parents_in, split_parents};
@@ -177,6 +178,34 @@ impl<F: Files> Store<F> {
         match compose_names(alloc, self.precompose_unicode, edits) {
             Ok(asked) => self.check_and_lock(alloc, packed_refs, asked),
             Err(_) => Err(refused_before_locks(alloc, Error::Memory)),
+        }
+    }
+
+    /// The same, where a refusal hands the edits back: a copy of them, which is made before.
+    pub(crate) fn lock_or_hand_back<T: Find>(
+        &mut self,
+        alloc: Global,
+        packed_refs: &PackedRefs<T>,
+        edits: Vec<RefEdit>,
+    ) -> Result<HeldLocks, (LockFailure, Vec<RefEdit>)>
+        ensures refused { IfErr result
+            (λ r. RefusesGiven F.honest (HasReadFault F.Reader.faults) F.means F.faults
+            (OfFinder T.claims packed_refs.now)
+            (ends_of T.meaning packed_refs.now) (mode_in packed_refs.now)
+            self.old self.new edits.items r.0.error (paths_of r.0.locks_left.items)) }
+        ensures edits { IfErr result (λ r. AreSameEdits edits.items r.1.items) }
+        ensures held { IfOk result (λ held. HoldsGiven F.honest F.means F.faults
+            (OfFinder T.claims packed_refs.now)
+            (ends_of T.meaning packed_refs.now) (mode_in packed_refs.now) self.old self.new
+            edits.items held.packed held.edits.items) }
+        ensures room { IfOk result (λ held. HasRoom held.edits held.remains) }
+    {
+        match edits.clone() {
+            Ok(copy) => match self.compose_and_lock(alloc, packed_refs, edits) {
+                Ok(held) => Ok(held),
+                Err(failure) => Err((failure, copy)),
+            },
+            Err(_) => Err((refused_before_locks(alloc, Error::Memory), edits)),
         }
     }
 }

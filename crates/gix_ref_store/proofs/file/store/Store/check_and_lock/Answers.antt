@@ -1,18 +1,15 @@
-use Rattle.std.proofs.Common.{◌≡◌, List, [], sym, ap, subst, ◌∙◌, IfOk}
+use Rattle.std.proofs.Common.{◌≡◌, List, [], sym, ap, subst, ◌∙◌}
 use Rattle.gix_ref_packed.specs.OpenFiles.{HasReadFault}
-use Rattle.gix_ref_theory.specs.OnRealTrees.{view_of}
 use Rattle.gix_ref_edits.specs.declared.transaction.RefEdit.{RefEdit}
-use Rattle.gix_ref_transaction.specs.Causes.{AllValid, AreRecordIds, IsCounted}
+use Rattle.gix_ref_transaction.specs.Causes.{AllValid, IsCounted}
 use Rattle.gix_ref_transaction.specs.OwnLocks.{paths_of}
 use Rattle.gix_ref_transaction.specs.Packing.{OfFinder, ends_of, mode_in}
-use Rattle.gix_ref_transaction.specs.Peels.{ArePut}
-use Rattle.gix_ref_transaction.specs.PrepareSteps.{AreWholeLocks, effects_of, effects_on, files_at, ids_in, packed_ids, place_paths, places_of, seen_files, targets_of}
 use Rattle.gix_ref_transaction.specs.Splits.{IsSplitCause}
 use Rattle.gix_ref_transaction.specs.declared.prepare.hold.HeldLocks.{HeldLocks}
 use Rattle.gix_ref_transaction.specs.declared.prepare.hold.LockFailure.{LockFailure}
 use Rattle.gix_ref_transaction.proofs.PackedLemmas.{if_err, if_ok}
 use Rattle.gix_ref_store.specs.Prepared.{HoldsSplit, LosesNothing, RefusesFrom, RefusesSplit, SplitsFrom, tree_of}
-use Rattle.gix_ref_store.specs.Store.{files_of, kind_of, meaning_of, with_files}
+use Rattle.gix_ref_store.specs.Store.{files_of, kind_of, meaning_of}
 use Rattle.gix_ref_store.specs.declared.file.store.Store.{Store}
 use Rattle.gix_ref_store.proofs.Refusals.{if_asked, if_asked_of}
 use Rattle.gix_ref_store.proofs.SplitRuns.{refused_before, refused_on, split_on}

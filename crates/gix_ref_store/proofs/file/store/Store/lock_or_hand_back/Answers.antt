@@ -1,0 +1,25 @@
+use Rattle.std.proofs.Common.{◌≡◌, inr, ap, refl}
+use Rattle.gix_ref_packed.specs.OpenFiles.{HasReadFault}
+use Rattle.gix_ref_transaction.specs.Packing.{OfFinder, ends_of, mode_in}
+use Rattle.gix_ref_transaction.specs.OwnLocks.{paths_of}
+use Rattle.gix_ref_transaction.specs.declared.prepare.error.Error.TheVariants.{Memory}
+use Rattle.gix_ref_store.proofs.CopiedEdits.{copies_same}
+use Rattle.gix_ref_store.proofs.SplitRuns.{refused_unread}
+use Rattle.gix_ref_store.proofs.file.store.Store.lock_or_hand_back.Goals as goal
+
+pub returns-in-Err-clause-refused : goal.returns-in-Err-clause-refused
+returns-in-Err-clause-refused g c =
+    let F = g.F.Files in
+    let old = c.args.self.now in
+    let given = c.args.edits.items in
+    let error = c.refused_before_locks.result.error in
+    let is : error ≡ Memory = c.refused_before_locks.ensures.error in
+    let left = paths_of c.refused_before_locks.result.locks_left.items in
+    record {
+      asked = given;
+      composed = inr (is, refl);
+      refuses = refused_unread F.honest (HasReadFault g.F.Reader.ReadAt.faults) F.means F.faults (OfFinder g.T.Find.claims c.args.packed_refs.now) (ends_of g.T.Find.meaning c.args.packed_refs.now) (mode_in c.args.packed_refs.now) old given error left is (ap paths_of c.refused_before_locks.ensures.none);
+    }
+
+pub returns-in-Err-compose_and_lock-clause-edits : goal.returns-in-Err-compose_and_lock-clause-edits
+returns-in-Err-compose_and_lock-clause-edits g c = copies_same c.args.edits.items c.in-Ok.copy.items c.in-Ok.ensures.cases.0
