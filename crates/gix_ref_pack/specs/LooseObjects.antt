@@ -1,7 +1,6 @@
 -- Which loose references are packed (`git pack-refs`).
 use Rattle.std.specs.Prelude.{◌≡◌, ◌++◌, ◌&&◌, ◌||◌, ℕ, List, Bool, Option, Some, None, Result, Ok, Err, codes, is_some, nat_eq, if◌then◌else◌}
 use Rattle.std.specs.List.{filter_map, list_any, starts_with}
-use Rattle.std.specs.Ordering.{is_eq}
 use Rattle.gix_ref_hash.specs.declared.hash.ObjectId.{ObjectId}
 use Rattle.gix_ref_name.specs.NameGrammar.{IsFullName}
 use Rattle.gix_ref_name.specs.Names.{full_bytes}
@@ -14,7 +13,7 @@ use Rattle.gix_ref_target.specs.declared.target.Target.TheVariants.{Object, Symb
 use Rattle.gix_ref_packed_text.specs.declared.raw.Reference.{Reference}
 use Rattle.gix_ref_listing.specs.declared.error.Error.{Error}
 use Rattle.gix_ref_lookup.specs.StoreLayout.{namespace_text}
-use Rattle.gix_ref_pack.specs.KnownObjects.{id_order}
+use Rattle.gix_ref_pack.specs.KnownObjects.{End, is_id, known}
 use Rattle.gix_ref_pack.specs.declared.pack.Loose.{Loose}
 
 abbrev begins : FullName → List ℕ → Bool
@@ -76,4 +75,8 @@ is_chosen namespace records l =
 
 -- a branch among these points to the object
 abbrev pub has_branch : List Loose → ObjectId → Bool
-has_branch chosen id = list_any (λ (l : Loose). is_branch l.name && is_eq (id_order l.id id)) chosen
+has_branch chosen id = list_any (λ (l : Loose). is_branch l.name && is_id l.id id) chosen
+
+-- what there is of an object once those of the branches among these were added: one that was not known is no tag
+abbrev pub end_with_branches : List Loose → (before : End) → ObjectId → End
+end_with_branches chosen before id = if has_branch chosen id then known before else before

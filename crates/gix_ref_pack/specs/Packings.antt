@@ -26,8 +26,8 @@ use Rattle.gix_ref_read_back.specs.PlainPromises.{ReadsAsItDid}
 use Rattle.gix_ref_read_back.specs.WholeRuns.{IsNotMade, MakesEdited}
 use Rattle.gix_ref_read_back.specs.declared.error.Error.TheVariants as unmade
 use Rattle.gix_ref_pack.specs.KeptObjects.{AreKeptFor}
-use Rattle.gix_ref_pack.specs.KnownObjects.{is_known}
-use Rattle.gix_ref_pack.specs.LooseObjects.{faults_among, has_branch, is_chosen, loose_among}
+use Rattle.gix_ref_pack.specs.KnownObjects.{end_in, is_known}
+use Rattle.gix_ref_pack.specs.LooseObjects.{end_with_branches, faults_among, is_chosen, loose_among}
 use Rattle.gix_ref_pack.specs.contracts.objects.ObjectsFind.TheImpl.{claims-value, meaning-value}
 use Rattle.gix_ref_pack.specs.declared.objects.Objects.{Objects}
 use Rattle.gix_ref_pack.specs.declared.pack.Loose.{Loose}
@@ -85,9 +85,8 @@ module _ {F : Type 0} (honest : Type 0) (means : F → Meaning) where
   Chooses is_all store found (Err error) = IsUnchosen is_all store error
 
 module _ {F : Type 0} (honest : Type 0) (means : F → Meaning) (faults : F → FaultCounts) where
-  -- What is packed of a store: these are the items of its loose files, and these of them are chosen. The table knows what it was given,
-  -- and the objects of chosen branches; each chosen reference whose object is known is given that, which it has. Faults are handed
-  -- back.
+  -- What is packed of a store: these are the items of its loose files, and these of them are chosen. The table has what was given, and
+  -- the objects of chosen branches; each chosen reference whose object is known is given that, which it has. Faults are handed back.
   pub record IsPlanned (is_all : Bool) (objects : Objects) (store : Store F) (plan : Plan)
       (broken : List ItemError) : Type 0 where
     pub items : List (Result Reference ItemError)
@@ -96,8 +95,8 @@ module _ {F : Type 0} (honest : Type 0) (means : F → Meaning) (faults : F → 
         (prefix_of_all store.namespace) items
     pub chosen : List Loose
     pub are_chosen : IsChosen honest means is_all store (loose_among items) chosen
-    pub known : (id : ObjectId) →
-        is_known plan.objects id ≡ (has_branch chosen id || is_known objects id)
+    pub ends : (id : ObjectId) →
+        end_in plan.objects id ≡ end_with_branches chosen (end_in objects id) id
     pub edits : AreKeptFor (filter (λ (l : Loose). is_known plan.objects l.id) chosen)
         plan.edits.items
     pub faults_are : broken ≡ faults_among items

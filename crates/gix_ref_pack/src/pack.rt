@@ -12,8 +12,8 @@ ghost use Rattle.gix_ref_store.specs.Store.{files_of, IsSameStore};
 ghost use Rattle.gix_ref_target.specs.PackedRecords.{Record, record_named};
 ghost use Rattle.gix_ref_transaction.specs.OwnLocks.{paths_of};
 ghost use Rattle.gix_ref_pack.specs.KeptObjects.{AreKeptFor, KeepsObject};
-ghost use Rattle.gix_ref_pack.specs.KnownObjects.{is_known};
-ghost use Rattle.gix_ref_pack.specs.LooseObjects.{faults_among, has_branch, is_branch, is_shared, is_tag, IsKeyName, key_for, loose_among, loose_to, packable};
+ghost use Rattle.gix_ref_pack.specs.KnownObjects.{end_in, is_known};
+ghost use Rattle.gix_ref_pack.specs.LooseObjects.{end_with_branches, faults_among, is_branch, is_shared, is_tag, IsKeyName, key_for, loose_among, loose_to, packable};
 ghost use Rattle.gix_ref_pack.specs.Packings.{Chooses, ChoosesAmong, EachReadsAsItDid, IsAskError, Packs, PlanComes, PutEnds, TellsChosen, uses_of};
 
 use crate::objects::Objects;
@@ -248,8 +248,8 @@ fn choose<F: Files>(
 
 /// Adds the objects of branches, and of those of remotes: commits, by Git's own rule.
 fn add_branches(objects: &mut Objects, chosen: &[Loose]) -> Result<(), AllocError>
-    ensures { OnOk result ((id : Id) → is_known objects.new id
-        ≡ (has_branch chosen.now id || is_known objects.old id)) }
+    ensures { OnOk result ((id : Id) → end_in objects.new id
+        ≡ end_with_branches chosen.now (end_in objects.old id) id) }
 {
     for loose in chosen {
         if is_commit(&loose.name) {
