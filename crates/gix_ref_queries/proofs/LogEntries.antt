@@ -15,7 +15,7 @@ use Rattle.gix_ref_files.specs.declared.files.ReadAt.{Ghosts}
 use Rattle.gix_ref_name.specs.NameGrammar.{full_error}
 use Rattle.gix_ref_target.specs.PackedRecords.{Record}
 use Rattle.gix_ref_queries.specs.Answers.{Says}
-use Rattle.gix_ref_queries.specs.Resolving.{NameEnd, EndsBy, targets_in, resolved}
+use Rattle.gix_ref_queries.specs.Resolving.{TargetsByName, NameEnd, EndsBy, targets_in, resolved}
 use Rattle.gix_ref_queries.specs.declared.resolve.End.{End}
 use Rattle.gix_ref_files.specs.Tree.{Content, Tree, is_file, bytes_of}
 use Rattle.gix_ref_log.specs.LogCuts.{log_lines}
@@ -156,5 +156,5 @@ module _ {F : Type 0} (honest : Type 0) (means : F → Meaning) (old : Store F) 
       ShowsByEnd honest means old end name count answer → ShowAnswer honest means G faults old name count answer
   answered G faults name count answer end valid leads shows = inr (ap is_none valid, inr (end, leads, shows))
 
-pub ended_at : (ends_at : List ℕ → NameEnd) (owned full name last : List ℕ) (done of : End) (end : NameEnd) → owned ≡ full → full ≡ name → EndsBy (ends_at owned) last done → done ≡ of → ((e : NameEnd) → EndsBy e last of → e ≡ end) → end ≡ ends_at name
-ended_at ends_at owned full name last done of end p q by is so = sym (so (ends_at owned) (subst (λ (d : End). EndsBy (ends_at owned) last d) is by)) ∙ ap ends_at (p ∙ q)
+pub ended_at : (find : TargetsByName) (owned full name last : List ℕ) (done of : End) (end : NameEnd) → owned ≡ full → full ≡ name → EndsBy find owned last done → done ≡ of → (EndsBy find owned last of → resolved find 5 owned ≡ end) → end ≡ resolved find 5 name
+ended_at find owned full name last done of end p q by is so = sym (so (subst (λ (d : End). EndsBy find owned last d) is by)) ∙ ap (resolved find 5) (p ∙ q)

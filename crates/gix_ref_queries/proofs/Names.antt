@@ -1,6 +1,7 @@
 -- Names that are followed.
-use Rattle.std.proofs.Common.{◌≡◌, ℕ, suc, List, Option, refl, sym, ◌∙◌, ap, subst}
+use Rattle.std.proofs.Common.{◌≡◌, ℕ, suc, List, Option, Some, inr, refl, sym, ◌∙◌, ap, subst}
 use Rattle.gix_ref_target.specs.Targets.{TargetValue}
+use Rattle.gix_ref_target.specs.Targets.TargetValue.{symbolic_name}
 use Rattle.gix_ref_theory.specs.Readings.{reading_among}
 use Rattle.gix_ref_files.specs.Tree.{Tree}
 use Rattle.gix_ref_files.specs.Files.{Meaning, FaultCounts}
@@ -16,7 +17,9 @@ use Rattle.gix_ref_store.specs.Lookup.{LooksUp, settings_of, view_in, AreRecords
 use Rattle.gix_ref_store.specs.Store as stores
 use Rattle.gix_ref_store.specs.declared.file.store.Store.{Store}
 use Rattle.gix_ref_store.proofs.SameStores.{same_on}
-use Rattle.gix_ref_queries.specs.Resolving.{TargetsByName, IsUnreadBy, targets_in}
+use Rattle.gix_ref_queries.specs.Resolving.{TargetsByName, EndsBy, EndFails, IsOnWay, IsUnfollowedBy, IsUnreadBy, targets_in}
+use Rattle.gix_ref_queries.specs.declared.resolve.End.{End}
+use Rattle.gix_ref_queries.specs.declared.resolve.End.TheVariants as ends
 use Rattle.gix_ref_queries.specs.Resolving.{NameEnd, target_read, next_end, resolved}
 
 -- one step of a following
@@ -65,13 +68,37 @@ pub step_end : (find find' : TargetsByName) (most : ℕ) (last asked : List ℕ)
 step_end find find' most last asked end read so_far same is reading =
     so_far ∙ steps_on find most last read (sym (ap (λ (f : TargetsByName). f asked) same ∙ ap (find) is) ∙ reading)
 
--- a lookup that failed, once a store was looked at
-pub unread_before : {F R : Type 0} (G : Ghosts R) (honest : Type 0) (means : F → Meaning) (faults : F → FaultCounts) (old mid : Store F) (error : Error) → LooksUp honest means old mid → IsUnreadBy G honest means faults mid error → IsUnreadBy G honest means faults old error
-unread_before G honest means faults old mid error looked u = record {
-  mid = u.mid;
-  new = u.new;
-  name = u.name;
-  looked = looks_up honest means old mid u.mid looked u.looked;
-  fails = u.fails;
-  told = u.told;
-}
+-- what is on the way from the next name is on the way from this one
+pub way_on : (find find' : TargetsByName) (most : ℕ) (last asked next name : List ℕ) → find' ≡ find → asked ≡ last → find' asked ≡ Some (symbolic_name next) → IsOnWay find most next name → IsOnWay find (suc most) last name
+way_on find find' most last asked next name same is reading way = inr (next, sym (ap (λ (f : TargetsByName). f asked) same ∙ ap find is) ∙ reading, way)
+
+module _ {F R : Type 0} (G : Ghosts R) (honest : Type 0) (means : F → Meaning) (faults : F → FaultCounts) where
+  -- a lookup that failed, once a store was looked at
+  pub unread_before : (old mid : Store F) (name : List ℕ) (error : Error) → LooksUp honest means old mid → IsUnreadBy G honest means faults mid name error → IsUnreadBy G honest means faults old name error
+  unread_before old mid name error looked u = record {
+    mid = u.mid;
+    new = u.new;
+    looked = looks_up honest means old mid u.mid looked u.looked;
+    fails = u.fails;
+    told = u.told;
+  }
+
+  -- and a following
+  pub unfollowed_before : (old mid : Store F) (first : List ℕ) (error : Error) → LooksUp honest means old mid → IsUnfollowedBy G honest means faults mid first error → IsUnfollowedBy G honest means faults old first error
+  unfollowed_before old mid first error looked u = record {
+    name = u.name;
+    unread = unread_before old mid u.name error looked u.unread;
+    on_way = λ h records are.
+        subst (λ (find : TargetsByName). IsOnWay find 5 first u.name) (same_finds honest means old mid records looked h) (u.on_way h records (same_records honest means old mid records looked h are));
+  }
+
+  -- a following that ended at a name that was not read
+  pub unfollowed_by : (old : Store F) (first last name : List ℕ) (of : End) (error : Error) → of ≡ ends.Unread error → first ≡ name → (honest → (records : List Record) → AreRecordsIn means old records → EndsBy (targets_in means old records) first last of) →
+      EndFails G honest means faults old last of → IsUnfollowedBy G honest means faults old name error
+  unfollowed_by old first last name of error is same by fails =
+      subst (λ (n : List ℕ). IsUnfollowedBy G honest means faults old n error) same
+      (record {
+        name = last;
+        unread = subst (λ (e : End). EndFails G honest means faults old last e) is fails;
+        on_way = λ h records are. subst (λ (e : End). EndsBy (targets_in means old records) first last e) is (by h records are);
+      })

@@ -1,5 +1,5 @@
 -- Rows of references.
-use Rattle.std.proofs.Common.{◌≡◌, ◌⊎◌, inl, inr, ◌<◌, ◌+◌, ℕ, List, [], ◌∷◌, ◌++◌, length, get_or, take, map, reverse, codes, Option, Some, None, Result, Ok, Err, Vec, refl, sym, ◌∙◌, ap, subst}
+use Rattle.std.proofs.Common.{◌≡◌, ◌⊎◌, inl, inr, true, ◌<◌, ◌+◌, ℕ, List, [], ◌∷◌, ◌++◌, length, get_or, take, map, reverse, codes, Option, Some, None, Result, Ok, Err, Vec, refl, sym, ◌∙◌, ap, subst}
 use Rattle.std.specs.Prelude.{IfOk, IfErr}
 use Rattle.std.specs.List.{cons_option, filter_map}
 use Rattle.std.specs.Option.{option_to_list}
@@ -19,15 +19,16 @@ use Rattle.gix_ref_store.specs.Lookup.{AreRecordsIn, LooksUp}
 use Rattle.gix_ref_store.specs.declared.file.store.Store.{Store}
 use Rattle.gix_ref_queries.specs.Answers.{path_lines}
 use Rattle.gix_ref_queries.specs.Formats.{row_text}
-use Rattle.gix_ref_queries.specs.Resolving.{TargetsByName, NameEnd, EndsBy, targets_in, resolved}
+use Rattle.gix_ref_queries.specs.Resolving.{TargetsByName, EndsBy, IsUnfollowedBy, IsUnread, targets_in, resolved}
 use Rattle.gix_ref_queries.specs.Resolving.NameEnd.{Reached, Missing, TooDeep}
-use Rattle.gix_ref_queries.specs.Rows.{IsRowError, IsUnfollowed, followed_row, row_lines, row_of, row_texts, rows_of, shown_short, target_row}
+use Rattle.gix_ref_queries.specs.Rows.{IsRowError, IsUnfollowed, IsUnreadRow, IsUnreadShort, followed_row, row_lines, row_of, row_texts, rows_of, shown_short, target_row}
 use Rattle.gix_ref_queries.specs.declared.format.Part.{Part}
 use Rattle.gix_ref_queries.specs.declared.resolve.End.{End}
 use Rattle.gix_ref_queries.specs.declared.resolve.End.TheVariants as ends
 use Rattle.gix_ref_queries.specs.declared.rows.RowError.{RowError}
 use Rattle.gix_ref_queries.specs.declared.rows.RowError.TheVariants as row_error
-use Rattle.gix_ref_queries.proofs.Names.{unread_before, same_finds, same_records}
+use Rattle.gix_ref_queries.proofs.Names.{unfollowed_before, same_finds, same_records}
+use Rattle.gix_ref_queries.proofs.ShortLemmas.{unshort_before}
 
 pub map_reverse : {X Y : Type 0} (f : X → Y) (xs : List X) → map f (reverse xs) ≡ reverse (map f xs)
 map_reverse f [] = refl
@@ -49,23 +50,23 @@ pub if_ok : {T E : Type 0} (r : Result T E) (P Q : T → Type 0) → ((x : T) �
 if_ok (Ok x) P Q so p = so x p
 if_ok (Err e) P Q so p = _
 
-module _ (ends_at : List ℕ → NameEnd) (parts : List Part) (name short owned last : List ℕ) (same : owned ≡ name) where
+module _ (find : TargetsByName) (parts : List Part) (name short owned last : List ℕ) (same : owned ≡ name) where
   -- a following that ends at an object
-  pub row_reached : (shown_name shown_last : List ℕ) (id : ObjectId) (end : End) (text : List ℕ) → EndsBy (ends_at owned) last end → end ≡ ends.Object id → shown_name ≡ name → shown_last ≡ last →
-      text ≡ row_text parts (record { name = shown_name; short = short; id = id; symref = shown_last }) → Some text ≡ followed_row parts name short (ends_at name)
+  pub row_reached : (shown_name shown_last : List ℕ) (id : ObjectId) (end : End) (text : List ℕ) → EndsBy find owned last end → end ≡ ends.Object id → shown_name ≡ name → shown_last ≡ last →
+      text ≡ row_text parts (record { name = shown_name; short = short; id = id; symref = shown_last }) → Some text ≡ followed_row parts name short (resolved find 5 name)
   row_reached shown_name shown_last id end text by is named ended shows =
-      let reached : ends_at owned ≡ Reached last id = subst (λ (e : End). EndsBy (ends_at owned) last e) is by in
+      let reached : resolved find 5 owned ≡ Reached last id = subst (λ (e : End). EndsBy find owned last e) is by in
       ap (λ (t : List ℕ). let o : Option (List ℕ) = Some t in o) (shows ∙ (ap (λ (n : List ℕ). row_text parts (record { name = n; short = short; id = id; symref = shown_last })) named ∙ ap (λ (l : List ℕ). row_text parts (record { name = name; short = short; id = id; symref = l })) ended))
-      ∙ sym (ap (followed_row parts name short) (sym (ap ends_at same) ∙ reached))
+      ∙ sym (ap (followed_row parts name short) (sym (ap (resolved find 5) same) ∙ reached))
 
   -- one that ends at no reference, or does not end
-  pub row_missing : (end : End) → EndsBy (ends_at owned) last end → (end ≡ ends.Absent) ⊎ (end ≡ ends.TooDeep) → let none : Option (List ℕ) = None in none ≡ followed_row parts name short (ends_at name)
+  pub row_missing : (end : End) → EndsBy find owned last end → (end ≡ ends.Absent) ⊎ (end ≡ ends.TooDeep) → let none : Option (List ℕ) = None in none ≡ followed_row parts name short (resolved find 5 name)
   row_missing end by (inl is) =
-      let missing : ends_at owned ≡ Missing last = subst (λ (e : End). EndsBy (ends_at owned) last e) is by in
-      sym (ap (followed_row parts name short) (sym (ap ends_at same) ∙ missing))
+      let missing : resolved find 5 owned ≡ Missing last = subst (λ (e : End). EndsBy find owned last e) is by in
+      sym (ap (followed_row parts name short) (sym (ap (resolved find 5) same) ∙ missing))
   row_missing end by (inr is) =
-      let missing : ends_at owned ≡ TooDeep = subst (λ (e : End). EndsBy (ends_at owned) last e) is by in
-      sym (ap (followed_row parts name short) (sym (ap ends_at same) ∙ missing))
+      let missing : resolved find 5 owned ≡ TooDeep = subst (λ (e : End). EndsBy find owned last e) is by in
+      sym (ap (followed_row parts name short) (sym (ap (resolved find 5) same) ∙ missing))
 
 -- the row of a symbolic reference
 pub row_symbolic : (find : TargetsByName) (parts : List Part) (reference : Reference) (target : FullName) → reference.target ≡ Symbolic target → row_of find parts reference ≡ followed_row parts (full_bytes reference.name) (shown_short find parts (full_bytes reference.name)) (resolved find 5 (full_bytes reference.name))
@@ -115,21 +116,33 @@ rows_more find find' parts references i reference rows row lt is so_far same mad
     alone (Some row) = refl
 
 module _ {F R : Type 0} (G : Ghosts R) (honest : Type 0) (means : F → Meaning) (faults : F → FaultCounts) where
-  -- why a row is not made, once the store was looked at
-  pub row_error_before : (old mid : Store F) (name : List ℕ) (error : RowError) → LooksUp honest means old mid → IsRowError honest means faults G mid name error → IsRowError honest means faults G old name error
-  row_error_before old mid name (row_error.Unread unread) looked ((x, u), same) = ((x, unread_before G honest means faults old mid x looked u), same)
-  row_error_before old mid name row_error.Memory looked unread = _
+  -- a lookup that failed for a row, once the store was looked at
+  unread_row_before : (old mid : Store F) (parts : List Part) (reference : Reference) → LooksUp honest means old mid → IsUnreadRow honest means faults G mid parts reference → IsUnreadRow honest means faults G old parts reference
+  unread_row_before old mid parts reference looked (inl (points, (error, u))) = inl (points, (error, unfollowed_before G honest means faults old mid (full_bytes reference.name) error looked u))
+  unread_row_before old mid parts reference looked (inr (shows, u)) = inr (shows, unshort_before G honest means faults true old mid (full_bytes reference.name) looked u)
+
+  -- and one for a symbolic reference, or for a short name
+  pub unread_symbolic : (old mid : Store F) (parts : List Part) (reference : Reference) (target : FullName) (name : List ℕ) (error : RowError) → LooksUp honest means old mid → reference.target ≡ Symbolic target → name ≡ full_bytes reference.name →
+      IsRowError (IsUnread G honest means faults mid name) name error → IsRowError (IsUnreadRow honest means faults G old parts reference) (full_bytes reference.name) error
+  unread_symbolic old mid parts reference target name (row_error.Unread unread) looked is same ((error, u), of) =
+      (inl ((full_bytes target, ap target_value is), (error, unfollowed_before G honest means faults old mid (full_bytes reference.name) error looked (subst (λ (n : List ℕ). IsUnfollowedBy G honest means faults mid n error) same u))), of ∙ same)
+  unread_symbolic old mid parts reference target name row_error.Memory looked is same unread = _
+
+  pub unread_short : (old : Store F) (parts : List Part) (reference : Reference) (name : List ℕ) (error : RowError) → name ≡ full_bytes reference.name →
+      IsRowError (IsUnreadShort honest means faults G old parts name) name error → IsRowError (IsUnreadRow honest means faults G old parts reference) (full_bytes reference.name) error
+  unread_short old parts reference name (row_error.Unread unread) same (u, of) = (inr (subst (λ (n : List ℕ). IsUnreadShort honest means faults G old parts n) same u), of ∙ same)
+  unread_short old parts reference name row_error.Memory same unread = _
 
   -- the reference that cannot be followed is one of these
-  pub unfollowed_at : (old mid : Store F) (references : List Reference) (i : ℕ) (reference : Reference) (error : RowError) → LooksUp honest means old mid → i < length references → reference ≡ get_or references i reference →
-      IsRowError honest means faults G mid (full_bytes reference.name) error → IsUnfollowed honest means faults G old references error
-  unfollowed_at old mid references i reference (row_error.Unread name) looked lt is ((x, u), same) = ((x, unread_before G honest means faults old mid x looked u), (i, reference, lt, sym is, sym same))
-  unfollowed_at old mid references i reference row_error.Memory looked lt is unread = _
+  pub unfollowed_at : (old mid : Store F) (parts : List Part) (references : List Reference) (i : ℕ) (reference : Reference) (error : RowError) → LooksUp honest means old mid → i < length references → reference ≡ get_or references i reference →
+      IsRowError (IsUnreadRow honest means faults G mid parts reference) (full_bytes reference.name) error → IsUnfollowed honest means faults G old parts references error
+  unfollowed_at old mid parts references i reference (row_error.Unread name) looked lt is (u, same) = (i, reference, lt, sym is, (sym same, unread_row_before old mid parts reference looked u))
+  unfollowed_at old mid parts references i reference row_error.Memory looked lt is unread = _
 
   -- and so as the store was before the listing
-  pub unfollowed_before : (old mid : Store F) (references : List Reference) (error : RowError) → LooksUp honest means old mid → IsUnfollowed honest means faults G mid references error → IsUnfollowed honest means faults G old references error
-  unfollowed_before old mid references (row_error.Unread name) looked ((x, u), any) = ((x, unread_before G honest means faults old mid x looked u), any)
-  unfollowed_before old mid references row_error.Memory looked unread = _
+  pub rows_failed_before : (old mid : Store F) (parts : List Part) (references : List Reference) (error : RowError) → LooksUp honest means old mid → IsUnfollowed honest means faults G mid parts references error → IsUnfollowed honest means faults G old parts references error
+  rows_failed_before old mid parts references (row_error.Unread name) looked (i, reference, lt, is, (same, u)) = (i, reference, lt, is, (same, unread_row_before old mid parts reference looked u))
+  rows_failed_before old mid parts references row_error.Memory looked unread = _
 
   pub rows_before : (old mid : Store F) (parts : List Part) (references : List Reference) (rows : List (List ℕ)) → LooksUp honest means old mid →
       (honest → (records : List Record) → AreRecordsIn means mid records → rows ≡ rows_of (targets_in means mid records) parts references) →

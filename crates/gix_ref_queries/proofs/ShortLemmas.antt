@@ -1,20 +1,23 @@
 -- Short names.
-use Rattle.std.proofs.Common.{◌≡◌, ◌<◌, ◌+◌, ℕ, Bool, true, false, List, ◌∷◌, Bor, Vec, length, take, drop, get_or, Option, Some, None, if◌then◌else◌, sym, ◌∙◌, ap, subst}
+use Rattle.std.proofs.Common.{◌≡◌, ◌<◌, ◌+◌, ℕ, Bool, true, false, List, ◌∷◌, ◌++◌, [], Bor, Vec, inl, inr, ◌≢◌, length, take, drop, get_or, Option, Some, None, if◌then◌else◌, sym, ◌∙◌, ap, subst}
 use Rattle.std.specs.Prelude.{◌&&◌, bytes_eq, is_none}
 use Rattle.std.specs.declared.alloc.Global.{Global}
-use Rattle.std.proofs.lemmas.List.{at_drop_more}
+use Rattle.std.proofs.lemmas.List.{at_drop_more, take-append-drop}
+use Rattle.gix_ref_theory.proofs.Writes.{same_true, same as same_text}
 use Rattle.gix_ref_name.specs.NameGrammar.{full_error}
-use Rattle.gix_ref_queries.specs.Resolving.{NameEnd, TargetsByName, EndsBy, resolved}
+use Rattle.gix_ref_queries.specs.Resolving.{TargetsByName, EndsBy, resolved, targets_in}
 use Rattle.gix_ref_files.specs.Files.{Meaning, FaultCounts}
+use Rattle.gix_ref_lookup.specs.declared.find.error.Error.{Error}
 use Rattle.gix_ref_files.specs.declared.files.ReadAt.{Ghosts}
-use Rattle.gix_ref_store.specs.Lookup.{LooksUp}
+use Rattle.gix_ref_target.specs.PackedRecords.{Record}
+use Rattle.gix_ref_store.specs.Lookup.{AreRecordsIn, LooksUp}
 use Rattle.gix_ref_store.specs.declared.file.store.Store.{Store}
 use Rattle.gix_ref_queries.specs.Patterns.{texts}
 use Rattle.gix_ref_queries.specs.Rows.{row_texts}
-use Rattle.gix_ref_queries.specs.Shortening.{IsNoShort, decided, decided_or, full_names, is_clear_among, is_reached, leads_to_object, short_after, short_by, short_or}
+use Rattle.gix_ref_queries.specs.Shortening.{IsAskedAmong, IsAskedBy, IsAskedFor, IsAskedInVain, IsNoShort, IsUnshort, decided, decided_or, full_names, is_clear_among, is_reached, leads_to_object, short_after, short_by, short_or}
 use Rattle.gix_ref_queries.specs.declared.short.ShortError.{ShortError}
 use Rattle.gix_ref_queries.specs.declared.short.ShortError.TheVariants as shorts
-use Rattle.gix_ref_queries.proofs.Names.{unread_before}
+use Rattle.gix_ref_queries.proofs.Names.{same_finds, same_records, unfollowed_before}
 use Rattle.gix_ref_queries.specs.declared.resolve.End.{End}
 use Rattle.gix_ref_queries.specs.declared.resolve.End.TheVariants as ends
 
@@ -26,17 +29,17 @@ IsAtObject ends.TooDeep at = at ≡ false
 IsAtObject (ends.Unread error) at = ⊥
 IsAtObject ends.Memory at = ⊥
 
-reached_by : (end : NameEnd) (last : List ℕ) (of : End) (at : Bool) → EndsBy end last of → IsAtObject of at → at ≡ is_reached end
-reached_by end last (ends.Object id) at is says = says ∙ sym (ap is_reached is)
-reached_by end last ends.Absent at is says = says ∙ sym (ap is_reached is)
-reached_by end last ends.TooDeep at is says = says ∙ sym (ap is_reached is)
-reached_by end last (ends.Unread error) at is says = absurd says
-reached_by end last ends.Memory at is says = absurd says
+reached_by : (find : TargetsByName) (first last : List ℕ) (of : End) (at : Bool) → EndsBy find first last of → IsAtObject of at → at ≡ is_reached (resolved find 5 first)
+reached_by find first last (ends.Object id) at is says = says ∙ sym (ap is_reached is)
+reached_by find first last ends.Absent at is says = says ∙ sym (ap is_reached is)
+reached_by find first last ends.TooDeep at is says = says ∙ sym (ap is_reached is)
+reached_by find first last (ends.Unread error) at is says = absurd says
+reached_by find first last ends.Memory at is says = absurd says
 
 -- whether a full name leads to an object
-pub leads_by : (find : TargetsByName) (name owned last : List ℕ) (of : End) (at : Bool) → is_none (full_error name) ≡ true → owned ≡ name → EndsBy (resolved find 5 owned) last of → IsAtObject of at → at ≡ leads_to_object find name
+pub leads_by : (find : TargetsByName) (name owned last : List ℕ) (of : End) (at : Bool) → is_none (full_error name) ≡ true → owned ≡ name → EndsBy find owned last of → IsAtObject of at → at ≡ leads_to_object find name
 leads_by find name owned last of at full same is says =
-    subst (λ (n : List ℕ). at ≡ is_reached (resolved find 5 n)) same (reached_by (resolved find 5 owned) last of at is says)
+    subst (λ (n : List ℕ). at ≡ is_reached (resolved find 5 n)) same (reached_by find owned last of at is says)
     ∙ sym (ap (λ (b : Bool). b && is_reached (resolved find 5 name)) full)
 
 -- a name that decides it, and one that does not
@@ -57,10 +60,57 @@ pub shortens_not : (find mid : TargetsByName) (strict : Bool) (name prefix : Lis
 shortens_not find mid strict name prefix more same is =
     sym (ap (λ (s : Option (List ℕ)). short_or s (short_by find strict name more)) (is ∙ ap (λ (f : TargetsByName). short_after f strict name prefix) same))
 
--- why there is no short name, once the store was looked at
-pub no_short_before : {F R : Type 0} (G : Ghosts R) (honest : Type 0) (means : F → Meaning) (faults : F → FaultCounts) (old mid : Store F) (error : ShortError) → LooksUp honest means old mid → IsNoShort G honest means faults mid error → IsNoShort G honest means faults old error
-no_short_before G honest means faults old mid (shorts.Unread error) looked unread = unread_before G honest means faults old mid error looked unread
-no_short_before G honest means faults old mid shorts.Memory looked unread = _
+module _ {F R : Type 0} (G : Ghosts R) (honest : Type 0) (means : F → Meaning) (faults : F → FaultCounts) where
+  -- a name that is asked for in vain, once the store was looked at, is asked for by others too
+  pub vain_from : (A B : TargetsByName → (asked : List ℕ) → Type 0) (old mid : Store F) (error : Error) → LooksUp honest means old mid →
+      (honest → (records : List Record) → AreRecordsIn means old records → (asked : List ℕ) → A (targets_in means old records) asked → B (targets_in means old records) asked) →
+      IsAskedInVain G honest means faults A mid error → IsAskedInVain G honest means faults B old error
+  vain_from A B old mid error looked so v = record {
+    full = v.full;
+    unfollowed = unfollowed_before G honest means faults old mid v.full error looked v.unfollowed;
+    asked = λ h records are.
+        so h records are v.full (subst (λ (find : TargetsByName). A find v.full) (same_finds honest means old mid records looked h) (v.asked h records (same_records honest means old mid records looked h are)));
+  }
+
+  -- and so why there is no short name
+  pub no_short_from : (A B : TargetsByName → (asked : List ℕ) → Type 0) (old mid : Store F) (error : ShortError) → LooksUp honest means old mid →
+      (honest → (records : List Record) → AreRecordsIn means old records → (asked : List ℕ) → A (targets_in means old records) asked → B (targets_in means old records) asked) →
+      IsNoShort G honest means faults A mid error → IsNoShort G honest means faults B old error
+  no_short_from A B old mid (shorts.Unread error) looked so v = vain_from A B old mid error looked so v
+  no_short_from A B old mid shorts.Memory looked so v = _
+
+  pub unshort_before : (strict : Bool) (old mid : Store F) (name : List ℕ) → LooksUp honest means old mid → IsUnshort G honest means faults strict mid name → IsUnshort G honest means faults strict old name
+  unshort_before strict old mid name looked (error, v) = (error, vain_from (IsAskedFor strict name) (IsAskedFor strict name) old mid error looked (λ h records are asked is. is) v)
+
+-- texts that are not the same
+pub apart : (a b : List ℕ) (test : Bool) → test ≡ bytes_eq a b → test ≡ false → a ≢ b
+apart a b test is not same = let t : true ≡ false = sym (same_true a b same) ∙ (sym is ∙ not) in cc
+
+-- what comes after a prefix
+pub rest_is : (name prefix short : List ℕ) → bytes_eq (take (length prefix) name) prefix ≡ true → short ≡ drop (length prefix) name → name ≡ prefix ++ short
+rest_is name prefix short begins rest =
+    sym (take-append-drop (length prefix) name)
+    ∙ (ap (λ (t : List ℕ). t ++ drop (length prefix) name) (same_text (take (length prefix) name) prefix begins) ∙ ap (λ (r : List ℕ). prefix ++ r) (sym rest))
+
+-- a name that is asked for first
+pub asked_first : (strict : Bool) (name full : List ℕ) (more : List (List ℕ)) (find : TargetsByName) (asked : List ℕ) → IsAskedAmong strict name (full ∷ []) find asked → IsAskedAmong strict name (full ∷ more) find asked
+asked_first strict name full more find asked (inl is) = inl is
+asked_first strict name full more find asked (inr is) = absurd is.1
+
+-- one after a name that does not decide it
+pub asked_later : (find mid : TargetsByName) (strict : Bool) (name full : List ℕ) (more : List (List ℕ)) (asked : List ℕ) → mid ≡ find → None ≡ decided mid strict name full → IsAskedAmong strict name more find asked → IsAskedAmong strict name (full ∷ more) find asked
+asked_later find mid strict name full more asked same is later = inr (sym (is ∙ ap (λ (f : TargetsByName). decided f strict name full) same), later)
+
+-- and one by a later prefix
+pub asked_by_later : (find mid : TargetsByName) (strict : Bool) (name prefix : List ℕ) (more : List (List ℕ)) (asked : List ℕ) → mid ≡ find → None ≡ short_after mid strict name prefix → IsAskedBy strict name more find asked → IsAskedBy strict name (prefix ∷ more) find asked
+asked_by_later find mid strict name prefix more asked same is later = inr (sym (is ∙ ap (λ (f : TargetsByName). short_after f strict name prefix) same), later)
+
+pub names_step : (names : List (Vec ℕ Global)) (i : ℕ) (full : Vec ℕ Global) → i < length names → full ≡ get_or names i full → row_texts (drop i names) ≡ full.items ∷ row_texts (drop (i + 1) names)
+names_step names i full lt is =
+    at_drop_more (λ (ns : List (Vec ℕ Global)). row_texts ns) names i full lt ∙ ap (λ (v : Vec ℕ Global). row_texts (v ∷ drop (i + 1) names)) (sym is)
+
+pub prefixes_step : (prefixes : List (Bor (List ℕ))) (i : ℕ) (none : Bor (List ℕ)) → i < length prefixes → texts (drop i prefixes) ≡ (get_or prefixes i none).now ∷ texts (drop (i + 1) prefixes)
+prefixes_step prefixes i none lt = at_drop_more (λ (fs : List (Bor (List ℕ))). texts fs) prefixes i none lt
 
 -- one name more
 pub clear_step : (find : TargetsByName) (strict : Bool) (name : List ℕ) (names : List (Vec ℕ Global)) (i : ℕ) (full : Vec ℕ Global) → i < length names → full ≡ get_or names i full →

@@ -4,6 +4,7 @@ use Rattle.gix_ref_name.specs.NameGrammar.{full_error, partial_error}
 use Rattle.std.specs.List.{flat_map, starts_with}
 use Rattle.std.specs.declared.alloc.Global.{Global}
 use Rattle.gix_ref_files.specs.Files.{FaultCounts, Meaning}
+use Rattle.gix_ref_files.specs.declared.files.ReadAt.{Ghosts}
 use Rattle.gix_ref_locks.specs.LockFiles.{IsLockFailure}
 use Rattle.gix_ref_locks.specs.Removals.{StopsAt}
 use Rattle.gix_ref_locks.specs.declared.locks.Error.{Error as LockError}
@@ -17,9 +18,9 @@ use Rattle.gix_ref_store.specs.Store.{files_of, meaning_of}
 use Rattle.gix_ref_store.specs.declared.file.store.Store.{Store}
 use Rattle.hex.specs.Hex.{encode_lower}
 use Rattle.gix_ref_hash.specs.Ids.{id_bytes}
-use Rattle.gix_ref_queries.specs.Resolving.{TargetsByName, NameEnd, resolved}
+use Rattle.gix_ref_queries.specs.Resolving.{TargetsByName, NameEnd, IsUnread, resolved}
 use Rattle.gix_ref_queries.specs.Resolving.NameEnd.{Reached, Missing, TooDeep}
-use Rattle.gix_ref_queries.specs.Shortening.{short_name}
+use Rattle.gix_ref_queries.specs.Shortening.{IsUnshort, short_name}
 use Rattle.gix_ref_queries.specs.declared.resolve.End.{End}
 use Rattle.gix_ref_queries.specs.declared.resolve.End.TheVariants as ends
 use Rattle.gix_ref_queries.specs.declared.answer.Answer.{Answer}
@@ -72,12 +73,6 @@ EndVerified (ends.Object id) name answer =
 EndVerified ends.Memory name answer = ⊥
 EndVerified end name answer = NotValid name answer
 
-abbrev pub EndNamed : End → (last shown name : List ℕ) → Answer → Type 0
-EndNamed (ends.Object id) last shown name answer = LastName last shown name answer
-EndNamed ends.Absent last shown name answer = LastName last shown name answer
-EndNamed ends.Memory last shown name answer = ⊥
-EndNamed end last shown name answer = NoSuchRef name answer
-
 -- a name may be verified: a full name that begins with `refs/` or is `HEAD`
 abbrev pub is_verifiable : (name : List ℕ) → Bool
 is_verifiable name = (starts_with nat_eq name (codes "refs/") || bytes_eq name (codes "HEAD"))
@@ -95,6 +90,19 @@ shown_as find short name = if short then short_name find false name else name
 abbrev pub SymbolicAs : TargetsByName → (short : Bool) → (name : List ℕ) → Answer → Type 0
 SymbolicAs find short name answer = SymbolicAnswer (shown_as find short)
     (if is_none (partial_error name) then resolved find 5 name else TooDeep) name answer
+
+-- a following ends at this name, at an object or without a reference
+abbrev pub EndsAt : NameEnd → (last : List ℕ) → Type 0
+EndsAt (Reached name id) last = name ≡ last
+EndsAt (Missing name) last = name ≡ last
+EndsAt TooDeep last = ⊥
+
+-- why the last name to which another one leads is not shown: the following failed; or it is to be shown short, and a lookup for that failed
+abbrev pub IsUnshown : {F R : Type 0} (G : Ghosts R) (honest : Type 0) (means : F → Meaning)
+    (faults : F → FaultCounts) → Store F → TargetsByName → (short : Bool) → (name : List ℕ) → Type 0
+IsUnshown G honest means faults old find short name = IsUnread G honest means faults old name
+    ⊎ ((last : List ℕ) × EndsAt (resolved find 5 name) last × (short ≡ true)
+    × IsUnshort G honest means faults false old last)
 
 -- a line for each path
 abbrev pub path_lines : List (Vec ℕ Global) → List ℕ

@@ -105,7 +105,7 @@ module _ {F : Type 0} (honest : Type 0) (means : F → Meaning) where
   ShowAnswer G faults old name count answer = ((is_none (full_error name) ≡ false)
       × Fails (codes "invalid ref format: " ++ name) answer)
       ⊎ ((is_none (full_error name) ≡ true)
-      × ((IsUnread G honest means faults old
+      × ((IsUnread G honest means faults old name
       × Fails (codes "cannot follow '" ++ (name ++ codes "'")) answer)
       ⊎ ((end : NameEnd) × (honest → (records : List Record) → AreRecordsIn means old records →
       end ≡ resolved (targets_in means old records) 5 name)

@@ -1,5 +1,5 @@
 -- Following a reference from name to name, as Git resolves it: each name is looked up as it is, five at most.
-use Rattle.std.specs.Prelude.{◌≡◌, ◌≢◌, ℕ, zero, suc, List, Option, Some, None}
+use Rattle.std.specs.Prelude.{◌≡◌, ◌≢◌, ◌⊎◌, ℕ, zero, suc, List, Option, Some, None}
 use Rattle.gix_ref_hash.specs.declared.hash.ObjectId.{ObjectId}
 use Rattle.gix_ref_name.specs.Names.{full_bytes}
 use Rattle.gix_ref_files.specs.Files.{Meaning, FaultCounts}
@@ -12,7 +12,7 @@ use Rattle.gix_ref_lookup.specs.declared.find.records.Records.TheVariants.{Unope
 use Rattle.gix_ref_lookup.specs.declared.find.error.Error.{Error}
 use Rattle.gix_ref_lookup.specs.declared.find.error.Error.TheVariants.{Memory}
 use Rattle.gix_ref_target.specs.PackedRecords.{Record}
-use Rattle.gix_ref_store.specs.Lookup.{LooksUp, FailsFull, view_in}
+use Rattle.gix_ref_store.specs.Lookup.{AreRecordsIn, LooksUp, FailsFull, view_in}
 use Rattle.gix_ref_store.specs.Store.{meaning_of}
 use Rattle.gix_ref_store.specs.declared.file.store.Store.{Store}
 use Rattle.gix_ref_queries.specs.declared.resolve.NameRead.{NameRead}
@@ -51,6 +51,12 @@ abbrev pub resolved : TargetsByName → (most : ℕ) → (name : List ℕ) → N
 resolved find zero name = TooDeep
 resolved find (suc most) name = next_end (resolved find most) name (find name)
 
+-- a name is on the way from the first one, over so many names at most: it is the first; or on the way from the one that the first points to
+abbrev pub IsOnWay : TargetsByName → (most : ℕ) → (first name : List ℕ) → Type 0
+IsOnWay find zero first name = ⊥
+IsOnWay find (suc most) first name = (name ≡ first)
+    ⊎ ((next : List ℕ) × (find first ≡ Some (symbolic_name next)) × IsOnWay find most next name)
+
 -- the result of reading a name that reads this
 abbrev pub ReadsAs : Option TargetValue → NameRead → Type 0
 ReadsAs read (names.Is target) = read ≡ Some (target_value target)
@@ -58,37 +64,44 @@ ReadsAs read names.Absent = read ≡ None
 ReadsAs read (names.Unread error) = Unit {0}
 ReadsAs read names.Memory = Unit {0}
 
--- the result of a following that ends so
-abbrev pub EndsBy : NameEnd → (last : List ℕ) → End → Type 0
-EndsBy end last (ends.Object id) = end ≡ Reached last id
-EndsBy end last ends.Absent = end ≡ Missing last
-EndsBy end last ends.TooDeep = end ≡ TooDeep
-EndsBy end last (ends.Unread error) = Unit {0}
-EndsBy end last ends.Memory = Unit {0}
+-- the result of following the first name, by the last one; a name that was not read is on the way
+abbrev pub EndsBy : TargetsByName → (first last : List ℕ) → End → Type 0
+EndsBy find first last (ends.Object id) = resolved find 5 first ≡ Reached last id
+EndsBy find first last ends.Absent = resolved find 5 first ≡ Missing last
+EndsBy find first last ends.TooDeep = resolved find 5 first ≡ TooDeep
+EndsBy find first last (ends.Unread error) = IsOnWay find 5 first last
+EndsBy find first last ends.Memory = Unit {0}
 
-abbrev pub EndsAs : NameEnd → Followed → Type 0
-EndsAs end followed = EndsBy end (full_bytes followed.name) followed.end
+abbrev pub EndsAs : TargetsByName → (first : List ℕ) → Followed → Type 0
+EndsAs find first followed = EndsBy find first (full_bytes followed.name) followed.end
 
 module _ {F R : Type 0} (G : Ghosts R) (honest : Type 0) (means : F → Meaning)
     (faults : F → FaultCounts) where
-  -- a lookup of a name failed with this error, which is not want of memory
-  pub record IsUnreadBy (old : Store F) (error : Error) : Type 0 where
+  -- the lookup of this name failed with this error, which is not want of memory
+  pub record IsUnreadBy (old : Store F) (name : List ℕ) (error : Error) : Type 0 where
     pub mid : Store F
     pub new : Store F
-    pub name : List ℕ
     pub looked : LooksUp honest means old mid
     pub fails : FailsFull {G = G} honest means faults mid new Unopened name error
     pub told : error ≢ Memory
 
+  -- so where a name was not read, and where a following ended at this one
+  abbrev pub ReadFails : (old : Store F) → (name : List ℕ) → NameRead → Type 0
+  ReadFails old name (names.Unread error) = IsUnreadBy old name error
+  ReadFails old name other = Unit {0}
+
+  abbrev pub EndFails : (old : Store F) → (last : List ℕ) → End → Type 0
+  EndFails old last (ends.Unread error) = IsUnreadBy old last error
+  EndFails old last other = Unit {0}
+
+  -- The following of a name failed with this error, that of the lookup of a name on the way. That it is on the way is said where the
+  -- files are honest and `packed-refs` is well formed or missing.
+  pub record IsUnfollowedBy (old : Store F) (first : List ℕ) (error : Error) : Type 0 where
+    pub name : List ℕ
+    pub unread : IsUnreadBy old name error
+    pub on_way : honest → (records : List Record) → AreRecordsIn means old records →
+        IsOnWay (targets_in means old records) 5 first name
+
   -- and with some error
-  abbrev pub IsUnread : (old : Store F) → Type 0
-  IsUnread old = (error : Error) × IsUnreadBy old error
-
-  -- so where a name was not read, and where a following ended there
-  abbrev pub ReadFails : (old : Store F) → NameRead → Type 0
-  ReadFails old (names.Unread error) = IsUnreadBy old error
-  ReadFails old other = Unit {0}
-
-  abbrev pub EndFails : (old : Store F) → End → Type 0
-  EndFails old (ends.Unread error) = IsUnreadBy old error
-  EndFails old other = Unit {0}
+  abbrev pub IsUnread : (old : Store F) → (first : List ℕ) → Type 0
+  IsUnread old first = (error : Error) × IsUnfollowedBy old first error

@@ -30,7 +30,7 @@ use Rattle.gix_ref_queries.specs.Formats.{format_parts, row_text, shows_short}
 use Rattle.gix_ref_queries.specs.Patterns.{has_other_sign, is_asked_by}
 use Rattle.gix_ref_queries.specs.Resolving.{TargetsByName, NameEnd, IsUnread, targets_in, resolved}
 use Rattle.gix_ref_queries.specs.Resolving.NameEnd.{Reached}
-use Rattle.gix_ref_queries.specs.Shortening.{short_name}
+use Rattle.gix_ref_queries.specs.Shortening.{IsUnshort, short_name}
 use Rattle.gix_ref_queries.specs.declared.answer.Answer.{Answer}
 use Rattle.gix_ref_queries.specs.declared.format.Part.{Part}
 use Rattle.gix_ref_queries.specs.declared.listing.Unlisted.{Unlisted}
@@ -115,6 +115,15 @@ IsUnlistedAs (unlisted.Prefix (list.PackedOpen error)) answer =
 IsUnlistedAs (unlisted.Prefix list.Memory) answer = ⊥
 IsUnlistedAs (unlisted.Prefix error) answer = Fails (codes "cannot list 'refs/'") answer
 IsUnlistedAs (unlisted.Item error) answer = IsItemFault error answer
+
+-- a reference points to another one
+abbrev pub IsSymbolic : Reference → Type 0
+IsSymbolic reference = (next : List ℕ) × (target_value reference.target ≡ symbolic_name next)
+
+-- why the row of a reference of this name is not made: a lookup failed, for this reason; or there was no memory
+abbrev pub IsRowError : (Unread : Type 0) → (name : List ℕ) → RowError → Type 0
+IsRowError Unread name (row_error.Unread unread) = Unread × (full_ref_bytes unread ≡ name)
+IsRowError Unread name row_error.Memory = Unit {0}
 
 -- the error for a reference that cannot be followed
 abbrev pub IsUnfollowedAs : RowError → Answer → Type 0
@@ -203,18 +212,23 @@ module _ {F : Type 0} (honest : Type 0) (means : F → Meaning) (faults : F → 
     IsUnlisted old new prefix (unlisted.Item error) = honest → (records : List Record) →
         AreRecordsIn means old records → EndsAtItem old new records prefix error
 
-    -- why the row of a reference of this name is not made: a lookup failed; or there was no memory
-    abbrev pub IsRowError : (old : Store F) → (name : List ℕ) → RowError → Type 0
-    IsRowError old name (row_error.Unread unread) = IsUnread G honest means faults old
-        × (full_ref_bytes unread ≡ name)
-    IsRowError old name row_error.Memory = Unit {0}
+    -- a format shows short names, and a lookup for that of a reference failed
+    abbrev pub IsUnreadShort : (old : Store F) → List Part → (name : List ℕ) → Type 0
+    IsUnreadShort old parts name = (shows_short parts ≡ true)
+        × IsUnshort G honest means faults true old name
 
-    -- why rows of these references are not made: the following of one of them did not end, since a lookup failed; or there was no memory
-    abbrev pub IsUnfollowed : (old : Store F) → List Reference → RowError → Type 0
-    IsUnfollowed old references (row_error.Unread name) = IsUnread G honest means faults old
-        × Any (λ (reference : Reference). full_bytes reference.name ≡ full_ref_bytes name)
+    -- a lookup for the row of a reference failed: it is symbolic, and its following failed; or one for its short name did
+    abbrev pub IsUnreadRow : (old : Store F) → List Part → Reference → Type 0
+    IsUnreadRow old parts reference =
+        (IsSymbolic reference × IsUnread G honest means faults old (full_bytes reference.name))
+        ⊎ IsUnreadShort old parts (full_bytes reference.name)
+
+    -- why rows of these references are not made: a lookup failed for the row of the one that is named; or there was no memory
+    abbrev pub IsUnfollowed : (old : Store F) → List Part → List Reference → RowError → Type 0
+    IsUnfollowed old parts references (row_error.Unread name) = Any (λ (reference : Reference).
+        (full_bytes reference.name ≡ full_ref_bytes name) × IsUnreadRow old parts reference)
         references
-    IsUnfollowed old references row_error.Memory = Unit {0}
+    IsUnfollowed old parts references row_error.Memory = Unit {0}
 
     -- `for-each-ref` where the format and the patterns are supported: the references are not listed; or one of them cannot be followed; or
     -- a row for each that leads to an object, in the order that was asked for, and so many
@@ -224,7 +238,7 @@ module _ {F : Type 0} (honest : Type 0) (means : F → Meaning) (faults : F → 
         ((why : Unlisted) × IsUnlisted old new (codes "refs/") why × IsUnlistedAs why answer)
         ⊎ ((mid : Store F) × (references : List Reference) × LooksUp honest means old mid
         × ListsAsked old mid (codes "refs/") patterns references
-        × (((why : RowError) × IsUnfollowed old references why × IsUnfollowedAs why answer)
+        × (((why : RowError) × IsUnfollowed old parts references why × IsUnfollowedAs why answer)
         ⊎ ((rows : List (List ℕ))
         × Says (row_lines (counted count (ordered descending rows))) 0 answer
         × (honest → (records : List Record) → AreRecordsIn means old records →

@@ -1,11 +1,14 @@
 -- Short names of references (`git symbolic-ref --short`, `%(refname:short)` of `git for-each-ref`).
-use Rattle.std.specs.Prelude.{ℕ, List, [], ◌∷◌, ◌++◌, Bool, true, false, ◌&&◌, codes, drop, length, map, take, Option, Some, None, bytes_eq, if◌then◌else◌, is_none}
+use Rattle.std.specs.Prelude.{◌≡◌, ◌≢◌, ◌⊎◌, ℕ, List, [], ◌∷◌, ◌++◌, Bool, true, false, ◌&&◌, codes, drop, length, map, take, Option, Some, None, bytes_eq, if◌then◌else◌, is_none}
 use denote.Ref.{Bor}
 use Rattle.gix_ref_name.specs.NameGrammar.{full_error}
 use Rattle.gix_ref_files.specs.Files.{FaultCounts, Meaning}
 use Rattle.gix_ref_files.specs.declared.files.ReadAt.{Ghosts}
+use Rattle.gix_ref_lookup.specs.declared.find.error.Error.{Error}
+use Rattle.gix_ref_target.specs.PackedRecords.{Record}
+use Rattle.gix_ref_store.specs.Lookup.{AreRecordsIn}
 use Rattle.gix_ref_store.specs.declared.file.store.Store.{Store}
-use Rattle.gix_ref_queries.specs.Resolving.{IsUnreadBy, NameEnd, TargetsByName, resolved}
+use Rattle.gix_ref_queries.specs.Resolving.{IsUnfollowedBy, NameEnd, TargetsByName, resolved, targets_in}
 use Rattle.gix_ref_queries.specs.Resolving.NameEnd.{Reached, Missing, TooDeep}
 use Rattle.gix_ref_queries.specs.declared.short.ShortError.{ShortError}
 use Rattle.gix_ref_queries.specs.declared.short.ShortError.TheVariants as shorts
@@ -70,19 +73,63 @@ short_by find strict name [] = name
 short_by find strict name (prefix ∷ prefixes) =
     short_or (short_after find strict name prefix) (short_by find strict name prefixes)
 
+-- the prefixes that are left out
+abbrev pub short_prefixes : List (List ℕ)
+short_prefixes =
+    codes "refs/remotes/" ∷ codes "refs/heads/" ∷ codes "refs/tags/" ∷ codes "refs/" ∷ []
+
 -- the short name of a reference
 abbrev pub short_name : TargetsByName → (strict : Bool) → (name : List ℕ) → List ℕ
-short_name find strict name = short_by find strict name
-    (codes "refs/remotes/" ∷ codes "refs/heads/" ∷ codes "refs/tags/" ∷ codes "refs/" ∷ [])
+short_name find strict name = short_by find strict name short_prefixes
+
+-- One of these names is asked for, whether it leads to an object: it is not the one that is shown, and none before it decides whether
+-- that one is clear.
+abbrev pub IsAskedAmong : (strict : Bool) → (name : List ℕ) → List (List ℕ) → TargetsByName →
+    (asked : List ℕ) → Type 0
+IsAskedAmong strict name [] find asked = ⊥
+IsAskedAmong strict name (full ∷ more) find asked = ((asked ≡ full) × (full ≢ name))
+    ⊎ ((decided find strict name full ≡ None) × IsAskedAmong strict name more find asked)
+
+-- it is asked for by the rest of the name after this prefix
+abbrev pub IsAskedAfter : (strict : Bool) → (name prefix : List ℕ) → TargetsByName →
+    (asked : List ℕ) → Type 0
+IsAskedAfter strict name prefix find asked = (short : List ℕ) × (name ≡ prefix ++ short)
+    × IsAskedAmong strict name (full_names short) find asked
+
+-- and so by the first of these prefixes that gives a short name, or by one before it
+abbrev pub IsAskedBy : (strict : Bool) → (name : List ℕ) → (prefixes : List (List ℕ)) →
+    TargetsByName → (asked : List ℕ) → Type 0
+IsAskedBy strict name [] find asked = ⊥
+IsAskedBy strict name (prefix ∷ prefixes) find asked = IsAskedAfter strict name prefix find asked
+    ⊎ ((short_after find strict name prefix ≡ None) × IsAskedBy strict name prefixes find asked)
+
+-- it is asked for the short name of a reference
+abbrev pub IsAskedFor : (strict : Bool) → (name : List ℕ) → TargetsByName → (asked : List ℕ) →
+    Type 0
+IsAskedFor strict name find asked = IsAskedBy strict name short_prefixes find asked
 
 -- the bytes that are lent
 abbrev pub lent_bytes : Option (Bor (List ℕ)) → Option (List ℕ)
 lent_bytes None = None
 lent_bytes (Some bytes) = Some bytes.now
 
--- why there is no short name: a lookup failed; or there was no memory
-abbrev pub IsNoShort : {F R : Type 0} (G : Ghosts R) (honest : Type 0) (means : F → Meaning)
-    (faults : F → FaultCounts) → Store F → ShortError → Type 0
-IsNoShort G honest means faults old (shorts.Unread error) =
-    IsUnreadBy G honest means faults old error
-IsNoShort G honest means faults old shorts.Memory = Unit {0}
+module _ {F R : Type 0} (G : Ghosts R) (honest : Type 0) (means : F → Meaning)
+    (faults : F → FaultCounts) where
+  -- The following of a full name that is asked for failed with this error. That it is asked for is said where the files are honest and
+  -- `packed-refs` is well formed or missing.
+  pub record IsAskedInVain (Asked : TargetsByName → (full : List ℕ) → Type 0) (old : Store F)
+      (error : Error) : Type 0 where
+    pub full : List ℕ
+    pub unfollowed : IsUnfollowedBy G honest means faults old full error
+    pub asked : honest → (records : List Record) → AreRecordsIn means old records →
+        Asked (targets_in means old records) full
+
+  -- why there is no short name: a lookup failed; or there was no memory
+  abbrev pub IsNoShort : (Asked : TargetsByName → (full : List ℕ) → Type 0) → (old : Store F) →
+      ShortError → Type 0
+  IsNoShort Asked old (shorts.Unread error) = IsAskedInVain Asked old error
+  IsNoShort Asked old shorts.Memory = Unit {0}
+
+  -- a lookup for the short name of this one failed
+  abbrev pub IsUnshort : (strict : Bool) → (old : Store F) → (name : List ℕ) → Type 0
+  IsUnshort strict old name = (error : Error) × IsAskedInVain (IsAskedFor strict name) old error

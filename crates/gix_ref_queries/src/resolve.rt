@@ -3,7 +3,7 @@ ghost use Rattle.std.specs.Prelude.{◌≡◌, List, ℕ, true};
 ghost use Rattle.gix_ref_name.specs.Names.{full_bytes, full_ref_bytes};
 ghost use Rattle.gix_ref_target.specs.PackedRecords.{Record};
 ghost use Rattle.gix_ref_store.specs.Lookup.{AreRecordsIn, LooksUp};
-ghost use Rattle.gix_ref_queries.specs.Resolving.{targets_in, resolved, ReadsAs, ReadFails, EndsAs, EndFails};
+ghost use Rattle.gix_ref_queries.specs.Resolving.{targets_in, ReadsAs, ReadFails, EndsAs, EndFails};
 
 use gix_ref_files::files::Files;
 use gix_ref_hash::hash::ObjectId;
@@ -33,7 +33,8 @@ pub enum NameRead {
 pub fn read_name<F: Files>(alloc: Global, store: &mut Store<F>, name: FullNameRef<'_>) -> NameRead
     ensures reads { F.honest → (records : List Record) → AreRecordsIn F.means store.old records →
         ReadsAs (targets_in F.means store.old records (full_ref_bytes name.entry)) result }
-    ensures failed { ReadFails F.Reader.ReadAt F.honest F.means F.faults store.old result }
+    ensures failed { ReadFails F.Reader.ReadAt F.honest F.means F.faults store.old
+        (full_ref_bytes name.entry) result }
     ensures unchanged { LooksUp F.honest F.means store.old store.new }
 {
     match store.find_full(alloc, name) {
@@ -66,11 +67,12 @@ pub struct Followed {
     pub end: End,
 }
 
-/// Follows a name over at most five names.
+/// Follows a name over at most five names. The error is that of the lookup of the last name.
 pub fn follow<F: Files>(alloc: Global, store: &mut Store<F>, name: FullName) -> Followed
     ensures ends { F.honest → (records : List Record) → AreRecordsIn F.means store.old records →
-        EndsAs (resolved (targets_in F.means store.old records) 5 (full_bytes name)) result }
-    ensures failed { EndFails F.Reader.ReadAt F.honest F.means F.faults store.old result.end }
+        EndsAs (targets_in F.means store.old records) (full_bytes name) result }
+    ensures failed { EndFails F.Reader.ReadAt F.honest F.means F.faults store.old
+        (full_bytes result.name) result.end }
     ensures unchanged { LooksUp F.honest F.means store.old store.new }
 {
     let mut last = name;

@@ -4,8 +4,8 @@ ghost use Rattle.std.specs.Option.{option_map, option_to_list};
 ghost use Rattle.gix_ref_name.specs.Names.{full_bytes, full_ref_bytes};
 ghost use Rattle.gix_ref_target.specs.PackedRecords.{Record};
 ghost use Rattle.gix_ref_store.specs.Lookup.{AreRecordsIn, LooksUp};
-ghost use Rattle.gix_ref_queries.specs.Resolving.{targets_in, resolved};
-ghost use Rattle.gix_ref_queries.specs.Rows.{IsRowError, IsUnfollowed, counted, followed_row, ordered, row_of, row_texts, rows_of, shown_short};
+ghost use Rattle.gix_ref_queries.specs.Resolving.{IsUnread, targets_in, resolved};
+ghost use Rattle.gix_ref_queries.specs.Rows.{IsRowError, IsUnfollowed, IsUnreadRow, IsUnreadShort, counted, followed_row, ordered, row_of, row_texts, rows_of, shown_short};
 
 use crate::format::{Part, row, shows_short};
 use crate::resolve::{End, Followed, follow};
@@ -47,7 +47,8 @@ fn shown_short<'r, F: Files>(
     ensures short { F.honest → (records : List Record) → AreRecordsIn F.means store.old records →
         IfOk result (λ short. short.now ≡ shown_short (targets_in F.means store.old records)
         parts.now (full_ref_bytes name.entry)) }
-    ensures failed { IfErr result (IsRowError F.honest F.means F.faults F.Reader.ReadAt store.old
+    ensures failed { IfErr result (IsRowError (IsUnreadShort F.honest F.means F.faults
+        F.Reader.ReadAt store.old parts.now (full_ref_bytes name.entry))
         (full_ref_bytes name.entry)) }
     ensures unchanged { LooksUp F.honest F.means store.old store.new }
 {
@@ -73,8 +74,8 @@ fn followed_row<'r, F: Files>(
         IfOk result (λ row. option_map (λ text. text.items) row ≡ followed_row parts.now
         (full_ref_bytes name.entry) short.now
         (resolved (targets_in F.means store.old records) 5 (full_ref_bytes name.entry))) }
-    ensures failed { IfErr result (IsRowError F.honest F.means F.faults F.Reader.ReadAt store.old
-        (full_ref_bytes name.entry)) }
+    ensures failed { IfErr result (IsRowError (IsUnread F.Reader.ReadAt F.honest F.means F.faults
+        store.old (full_ref_bytes name.entry)) (full_ref_bytes name.entry)) }
     ensures unchanged { LooksUp F.honest F.means store.old store.new }
 {
     let owned = name.to_owned(alloc)?;
@@ -100,8 +101,8 @@ fn row_of<'r, F: Files>(
     ensures rows { F.honest → (records : List Record) → AreRecordsIn F.means store.old records →
         IfOk result (λ row. option_map (λ text. text.items) row
         ≡ row_of (targets_in F.means store.old records) parts.now reference.now) }
-    ensures failed { IfErr result (IsRowError F.honest F.means F.faults F.Reader.ReadAt store.old
-        (full_bytes reference.now.name)) }
+    ensures failed { IfErr result (IsRowError (IsUnreadRow F.honest F.means F.faults
+        F.Reader.ReadAt store.old parts.now reference.now) (full_bytes reference.now.name)) }
     ensures unchanged { LooksUp F.honest F.means store.old store.new }
 {
     let name = reference.name.as_ref();
@@ -142,7 +143,7 @@ pub fn rows<'r, F: Files>(
         IfOk result (λ rows. row_texts rows.items
         ≡ rows_of (targets_in F.means store.old records) parts.now references.now) }
     ensures failed { IfErr result (IsUnfollowed F.honest F.means F.faults F.Reader.ReadAt
-        store.old references.now) }
+        store.old parts.now references.now) }
     ensures unchanged { LooksUp F.honest F.means store.old store.new }
 {
     let mut rows = Vec::new(alloc);

@@ -5,7 +5,7 @@ ghost use Rattle.gix_ref_store.specs.Lookup.{AreRecordsIn, LooksUp};
 ghost use Rattle.gix_ref_queries.specs.Patterns.{texts};
 ghost use Rattle.gix_ref_queries.specs.Resolving.{targets_in};
 ghost use Rattle.gix_ref_queries.specs.Rows.{row_texts};
-ghost use Rattle.gix_ref_queries.specs.Shortening.{IsNoShort, decided, full_names, is_clear_among, leads_to_object, lent_bytes, short_after, short_by, short_name};
+ghost use Rattle.gix_ref_queries.specs.Shortening.{IsAskedAfter, IsAskedAmong, IsAskedBy, IsAskedFor, IsNoShort, decided, full_names, is_clear_among, leads_to_object, lent_bytes, short_after, short_by, short_name};
 
 use crate::resolve::{End, Followed, follow};
 use gix_ref_files::files::Files;
@@ -43,8 +43,8 @@ fn leads_to_object<F: Files>(
     ensures leads { F.honest → (records : List Record) → AreRecordsIn F.means store.old records →
         IfOk result (λ leads. leads
         ≡ leads_to_object (targets_in F.means store.old records) name.now) }
-    ensures failed { IfErr result
-        (IsNoShort F.Reader.ReadAt F.honest F.means F.faults store.old) }
+    ensures failed { IfErr result (IsNoShort F.Reader.ReadAt F.honest F.means F.faults
+        (λ find full. full ≡ name.now) store.old) }
     ensures unchanged { LooksUp F.honest F.means store.old store.new }
 {
     let Ok(full) = FullNameRef::try_from(name) else {
@@ -105,8 +105,8 @@ fn decided<F: Files>(
     ensures decides { F.honest → (records : List Record) → AreRecordsIn F.means store.old records →
         IfOk result (λ clear. clear
         ≡ decided (targets_in F.means store.old records) strict name.now full.now) }
-    ensures failed { IfErr result
-        (IsNoShort F.Reader.ReadAt F.honest F.means F.faults store.old) }
+    ensures failed { IfErr result (IsNoShort F.Reader.ReadAt F.honest F.means F.faults
+        (IsAskedAmong strict name.now (full.now ∷ [])) store.old) }
     ensures unchanged { LooksUp F.honest F.means store.old store.new }
 {
     if full == name {
@@ -129,8 +129,8 @@ fn is_clear_among<F: Files>(
     ensures clear { F.honest → (records : List Record) → AreRecordsIn F.means store.old records →
         IfOk result (λ clear. clear ≡ is_clear_among (targets_in F.means store.old records) strict
         name.now (row_texts names.now)) }
-    ensures failed { IfErr result
-        (IsNoShort F.Reader.ReadAt F.honest F.means F.faults store.old) }
+    ensures failed { IfErr result (IsNoShort F.Reader.ReadAt F.honest F.means F.faults
+        (IsAskedAmong strict name.now (row_texts names.now)) store.old) }
     ensures unchanged { LooksUp F.honest F.means store.old store.new }
 {
     for full in names {
@@ -154,8 +154,8 @@ fn short_after<'n, F: Files>(
     ensures short { F.honest → (records : List Record) → AreRecordsIn F.means store.old records →
         IfOk result (λ short. lent_bytes short
         ≡ short_after (targets_in F.means store.old records) strict name.now prefix.now) }
-    ensures failed { IfErr result
-        (IsNoShort F.Reader.ReadAt F.honest F.means F.faults store.old) }
+    ensures failed { IfErr result (IsNoShort F.Reader.ReadAt F.honest F.means F.faults
+        (IsAskedAfter strict name.now prefix.now) store.old) }
     ensures unchanged { LooksUp F.honest F.means store.old store.new }
 {
     let Some(short) = name.strip_prefix(prefix) else {
@@ -179,8 +179,8 @@ fn short_by<'n, F: Files>(
     ensures short { F.honest → (records : List Record) → AreRecordsIn F.means store.old records →
         IfOk result (λ short. short.now
         ≡ short_by (targets_in F.means store.old records) strict name.now (texts prefixes.now)) }
-    ensures failed { IfErr result
-        (IsNoShort F.Reader.ReadAt F.honest F.means F.faults store.old) }
+    ensures failed { IfErr result (IsNoShort F.Reader.ReadAt F.honest F.means F.faults
+        (IsAskedBy strict name.now (texts prefixes.now)) store.old) }
     ensures unchanged { LooksUp F.honest F.means store.old store.new }
 {
     for prefix in prefixes {
@@ -209,8 +209,8 @@ pub fn short_name<'n, F: Files>(
     ensures short { F.honest → (records : List Record) → AreRecordsIn F.means store.old records →
         IfOk result (λ short. short.now
         ≡ short_name (targets_in F.means store.old records) strict name.now) }
-    ensures failed { IfErr result
-        (IsNoShort F.Reader.ReadAt F.honest F.means F.faults store.old) }
+    ensures failed { IfErr result (IsNoShort F.Reader.ReadAt F.honest F.means F.faults
+        (IsAskedFor strict name.now) store.old) }
     ensures unchanged { LooksUp F.honest F.means store.old store.new }
 {
     let prefixes: &[&[u8]] = &[b"refs/remotes/", b"refs/heads/", b"refs/tags/", b"refs/"];

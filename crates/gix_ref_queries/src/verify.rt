@@ -3,9 +3,9 @@ ghost use Rattle.std.specs.Prelude.{◌≡◌, ◌⊎◌, ◌++◌, List, ℕ, I
 ghost use Rattle.gix_ref_name.specs.Names.{full_bytes, full_ref_bytes};
 ghost use Rattle.gix_ref_target.specs.PackedRecords.{Record};
 ghost use Rattle.gix_ref_queries.specs.Resolving.{IsUnread, resolved, targets_in};
-ghost use Rattle.gix_ref_queries.specs.Shortening.{IsNoShort};
+ghost use Rattle.gix_ref_queries.specs.Shortening.{IsAskedFor, IsNoShort, IsUnshort};
 ghost use Rattle.gix_ref_store.specs.Lookup.{AreRecordsIn, LooksUp};
-ghost use Rattle.gix_ref_queries.specs.Answers.{Says, Fails, VerifyAnswer, SymbolicAnswer, LastName, is_verifiable, VerifiesAs, SymbolicAs, EndVerified, EndNamed, NotValid, NoSuchRef, shown_as};
+ghost use Rattle.gix_ref_queries.specs.Answers.{Says, Fails, VerifyAnswer, SymbolicAnswer, LastName, is_verifiable, IsUnshown, VerifiesAs, SymbolicAs, EndVerified, NotValid, NoSuchRef, shown_as};
 ghost use Rattle.hex.specs.Hex.{encode_lower};
 ghost use Rattle.gix_ref_hash.specs.Ids.{id_bytes};
 
@@ -74,7 +74,7 @@ fn verify_full<F: Files>(
         (resolved (targets_in F.means store.old records) 5 (full_ref_bytes name.entry))
         (full_ref_bytes name.entry) answer
         ⊎ (IsUnread F.Reader.ReadAt F.honest F.means F.faults store.old
-        × NotValid (full_ref_bytes name.entry) answer)) }
+        (full_ref_bytes name.entry) × NotValid (full_ref_bytes name.entry) answer)) }
     ensures unchanged { LooksUp F.honest F.means store.old store.new }
 {
     let owned = name.to_owned(alloc)?;
@@ -93,7 +93,7 @@ pub fn verify<F: Files>(
 ) -> Result<Answer, AllocError>
     ensures answers { F.honest → (records : List Record) → AreRecordsIn F.means store.old records →
         IfOk result (λ answer. VerifiesAs (targets_in F.means store.old records) name.now answer
-        ⊎ (IsUnread F.Reader.ReadAt F.honest F.means F.faults store.old
+        ⊎ (IsUnread F.Reader.ReadAt F.honest F.means F.faults store.old name.now
         × NotValid name.now answer)) }
     ensures unchanged { LooksUp F.honest F.means store.old store.new }
 {
@@ -123,23 +123,6 @@ fn no_such_ref(alloc: Global, name: &[u8]) -> Result<Answer, AllocError>
     fatal(alloc, b"No such ref: ", name, b"")
 }
 
-/// The answer for a name whose following ends so, with this last name, which is shown so.
-fn named(
-    alloc: Global,
-    name: &[u8],
-    last: &[u8],
-    shown: &[u8],
-    end: End,
-) -> Result<Answer, AllocError>
-    ensures { IfOk result (EndNamed end last.now shown.now name.now) }
-{
-    match end {
-        End::Object(_) | End::Absent => last_name(alloc, name, last, shown),
-        End::TooDeep | End::Unread(_) => no_such_ref(alloc, name),
-        End::Memory => Err(AllocError),
-    }
-}
-
 /// A name, or its short name.
 fn shown_as<'n, F: Files>(
     alloc: Global,
@@ -150,14 +133,38 @@ fn shown_as<'n, F: Files>(
     ensures shown { F.honest → (records : List Record) → AreRecordsIn F.means store.old records →
         IfOk result (λ shown. shown.now
         ≡ shown_as (targets_in F.means store.old records) short name.now) }
-    ensures failed { IfErr result
-        (IsNoShort F.Reader.ReadAt F.honest F.means F.faults store.old) }
+    ensures failed { IfErr result (IsNoShort F.Reader.ReadAt F.honest F.means F.faults
+        (IsAskedFor false name.now) store.old) }
+    ensures asked { IfErr result (λ error. short ≡ true) }
     ensures unchanged { LooksUp F.honest F.means store.old store.new }
 {
     if short {
         short_name(alloc, store, false, name)
     } else {
         Ok(name)
+    }
+}
+
+/// The answer for a name that leads to this last one.
+fn shown_last<F: Files>(
+    alloc: Global,
+    store: &mut Store<F>,
+    short: bool,
+    name: FullNameRef<'_>,
+    last: FullNameRef<'_>,
+) -> Result<Answer, AllocError>
+    ensures answers { F.honest → (records : List Record) → AreRecordsIn F.means store.old records →
+        IfOk result (λ answer. LastName (full_ref_bytes last.entry)
+        (shown_as (targets_in F.means store.old records) short (full_ref_bytes last.entry))
+        (full_ref_bytes name.entry) answer
+        ⊎ ((short ≡ true) × IsUnshort F.Reader.ReadAt F.honest F.means F.faults false store.old
+        (full_ref_bytes last.entry) × NoSuchRef (full_ref_bytes name.entry) answer)) }
+    ensures unchanged { LooksUp F.honest F.means store.old store.new }
+{
+    match shown_as(alloc, store, short, last.to_path()) {
+        Ok(shown) => last_name(alloc, name.to_path(), last.to_path(), shown),
+        Err(ShortError::Unread(_)) => no_such_ref(alloc, name.to_path()),
+        Err(ShortError::Memory) => Err(AllocError),
     }
 }
 
@@ -173,19 +180,20 @@ fn symbolic_full<F: Files>(
         (shown_as (targets_in F.means store.old records) short)
         (resolved (targets_in F.means store.old records) 5 (full_ref_bytes name.entry))
         (full_ref_bytes name.entry) answer
-        ⊎ (IsUnread F.Reader.ReadAt F.honest F.means F.faults store.old
+        ⊎ (IsUnshown F.Reader.ReadAt F.honest F.means F.faults store.old
+        (targets_in F.means store.old records) short (full_ref_bytes name.entry)
         × NoSuchRef (full_ref_bytes name.entry) answer)) }
     ensures unchanged { LooksUp F.honest F.means store.old store.new }
 {
     let owned = name.to_owned(alloc)?;
     let Followed { name: last, end } = follow(alloc, store, owned);
-    let shown = match shown_as(alloc, store, short, last.to_path()) {
-        Ok(shown) => shown,
-        Err(ShortError::Unread(_)) => return no_such_ref(alloc, name.to_path()),
-        Err(ShortError::Memory) => return Err(AllocError),
-    };
-    let answer = named(alloc, name.to_path(), last.to_path(), shown, end)?;
-    Ok(answer)
+    match end {
+        End::Object(_) => shown_last(alloc, store, short, name, last.as_ref()),
+        End::Absent => shown_last(alloc, store, short, name, last.as_ref()),
+        End::TooDeep => no_such_ref(alloc, name.to_path()),
+        End::Unread(_) => no_such_ref(alloc, name.to_path()),
+        End::Memory => Err(AllocError),
+    }
 }
 
 /// `symbolic-ref NAME`: the last name to which a symbolic reference leads, whether or not a reference of that name exists, or with `short`
@@ -202,7 +210,8 @@ pub fn symbolic<F: Files>(
     ensures answers { F.honest → (records : List Record) → AreRecordsIn F.means store.old records →
         IfOk result (λ answer. SymbolicAs (targets_in F.means store.old records) short
         name.now answer
-        ⊎ (IsUnread F.Reader.ReadAt F.honest F.means F.faults store.old
+        ⊎ (IsUnshown F.Reader.ReadAt F.honest F.means F.faults store.old
+        (targets_in F.means store.old records) short name.now
         × NoSuchRef name.now answer)) }
     ensures unchanged { LooksUp F.honest F.means store.old store.new }
 {

@@ -1,5 +1,5 @@
 -- Names that are in one another's way, in a store that is only looked at.
-use Rattle.std.proofs.Common.{◌≡◌, ◌⊎◌, ℕ, ◌+◌, ◌<◌, length, get_or, take, map, List, [], ◌∷◌, ◌++◌, Bool, true, false, if◌then◌else◌, Option, Some, None, Result, Ok, Err, inl, inr, ap, sym, subst, refl, ◌∙◌}
+use Rattle.std.proofs.Common.{◌≡◌, ◌⊎◌, ℕ, ◌+◌, ◌<◌, length, get_or, take, map, List, [], ◌∷◌, ◌++◌, Bool, true, false, codes, if◌then◌else◌, Option, Some, None, Result, Ok, Err, inl, inr, ap, sym, subst, refl, ◌∙◌}
 use Rattle.std.specs.Prelude.{is_some, Decides, IfErr, IfOk, IsErrAnd, IfSome, MatchBool}
 use Rattle.std.specs.List.{AllByRecursion, Contains}
 use Rattle.gix_ref_edits.specs.RefEdits.{expected_of, matched, name_of}
@@ -22,7 +22,7 @@ use Rattle.gix_ref_packed.specs.OpenFiles.{CountsRefusal}
 use Rattle.gix_ref_packed.specs.declared.packed.buffer.open.Error.{Error as OpenError}
 use Rattle.gix_ref_packed_text.specs.declared.raw.Reference.{Reference}
 use Rattle.gix_ref_queries.specs.Resolving.{TargetsByName, IsUnreadBy, targets_in, resolved}
-use Rattle.gix_ref_queries.proofs.Names.{same_finds, same_records, same_settings, unread_before}
+use Rattle.gix_ref_queries.proofs.Names.{same_finds, same_records, same_settings, unfollowed_before, unread_before}
 use Rattle.gix_ref_store.specs.Listings.{IsNoListing, IteratesListing, NextItem, store_listed}
 use Rattle.gix_ref_store.specs.Lookup.{LooksUp, RefusesBuffer, settings_of, view_in}
 use Rattle.gix_ref_store.specs.Store.{files_of}
@@ -32,7 +32,7 @@ use Rattle.gix_ref_store.specs.declared.file.store.Store.{Store}
 use Rattle.gix_ref_target.specs.PackedRecords.{Record}
 use Rattle.gix_ref_target.specs.Targets.{TargetValue}
 use Rattle.gix_ref_theory.specs.OnRealTrees.{view_of}
-use Rattle.gix_ref_session.specs.Clashes.{IsBelowTaken, IsClash, IsClearEdit, IsClearName, IsEditFailure, IsFailedLook, IsFindFailure, IsFolderAt, IsInTheWay, IsListFailure, IsLookFailure, IsNameFailure, IsNotListed, IsTaken, IsTakenAt, IsUnlisted, ListsNone, ListsOne, Makes, front_below, made_name, missing_last, missing_own}
+use Rattle.gix_ref_session.specs.Clashes.{IsBelowTaken, IsClash, IsClashFailure, IsClearEdit, IsClearName, IsEditFailure, IsEditUnread, IsFailedLook, IsFindFailure, IsFolderAt, IsFolderUnread, IsHeadUnread, IsInTheWay, IsListFailure, IsLookFailure, IsNameFailure, IsNotListed, IsOwnUnread, IsTaken, IsTakenAt, IsUnlisted, ListsNone, ListsOne, Makes, front_below, made_name, missing_last, missing_own}
 use Rattle.gix_ref_session.specs.declared.fatal.Fatal.{Fatal}
 use Rattle.gix_ref_session.specs.declared.fatal.Fatal.TheVariants as fatals
 use Rattle.gix_ref_session.proofs.FolderLemmas.{taken_here}
@@ -83,6 +83,10 @@ failed_map unread unlisted clashes fatals.Restarted why = why
 failed_map unread unlisted clashes fatals.Prepared why = why
 failed_map unread unlisted clashes fatals.Deref why = why
 failed_map unread unlisted clashes (fatals.Update e) why = why
+
+-- a lookup failed, for another reason
+pub find_map : {A B : FindError → Type 0} → ((error : FindError) → A error → B error) → (fatal : Fatal) → IsFindFailure A fatal → IsFindFailure B fatal
+find_map so fatal why = failed_map so (λ error never. never) (λ name never. never) fatal why
 
 -- the error is handed on
 pub told : {T E : Type 0} (r : Result T E) (e : E) (P : E → Type 0) → IsErrAnd r (λ f. f ≡ e) → P e → IfErr r P
@@ -239,17 +243,25 @@ module _ {F : Type 0} (honest : Type 0) (means : F → Meaning) (old mid : Store
     }
 
     module _ {R : Type 0} (G : Ghosts R) where
-      unread_still : (error : FindError) → IsUnreadBy G honest means faults mid error → IsUnreadBy G honest means faults old error
-      unread_still error u = unread_before G honest means faults old mid error looked u
+      pub unread_still : (name : List ℕ) (error : FindError) → IsUnreadBy G honest means faults mid name error → IsUnreadBy G honest means faults old name error
+      unread_still name error u = unread_before G honest means faults old mid name error looked u
+
+      pub folder_still : (name : List ℕ) (error : FindError) → IsFolderUnread honest means faults G mid name error → IsFolderUnread honest means faults G old name error
+      folder_still name error (folder, of, u) = (folder, of, unread_still folder error u)
+
+      pub own_still : (edit : RefEdit) (error : FindError) → IsOwnUnread honest means faults G mid edit error → IsOwnUnread honest means faults G old edit error
+      own_still edit error (inl u) = inl (unread_still (name_of edit) error u)
+      own_still edit error (inr (follows, u)) = inr (follows, unfollowed_before G honest means faults old mid (name_of edit) error looked u)
+
+      edit_still : (edit : RefEdit) (error : FindError) → IsEditUnread honest means faults G mid error edit → IsEditUnread honest means faults G old error edit
+      edit_still edit error (inl u) = inl (own_still edit error u)
+      edit_still edit error (inr (name, makes, u)) = inr (name, makes_before edit name makes, folder_still name error u)
 
       not_listed_before : (prefix : List ℕ) (error : ListError) → IsNotListed honest means faults G mid prefix error → IsNotListed honest means faults G old prefix error
       not_listed_before prefix error n = record { mid = n.mid; now = n.now; looked = looks_on honest means old mid n.mid looked n.looked; none = n.none }
 
       unlisted_before : (error : ListError) (edit : RefEdit) → IsUnlisted honest means faults G mid error edit → IsUnlisted honest means faults G old error edit
       unlisted_before error edit u = record { name = u.name; makes = makes_before edit u.name u.makes; fails = not_listed_before (front_below u.name) error u.fails }
-
-      pub find_before : (fatal : Fatal) → IsFindFailure honest means faults G mid fatal → IsFindFailure honest means faults G old fatal
-      find_before fatal why = failed_map unread_still (λ error never. never) (λ name never. never) fatal why
 
       -- what is below a name was not listed
       pub list_name_before : (name : List ℕ) (fatal : Fatal) → IsListFailure honest means faults G mid (front_below name) fatal → IsNameFailure honest means faults G old name fatal
@@ -258,13 +270,34 @@ module _ {F : Type 0} (honest : Type 0) (means : F → Meaning) (old mid : Store
       -- a look failed for a name that an edit makes
       pub name_edit_before : (edits : List RefEdit) (edit : RefEdit) (name : List ℕ) (fatal : Fatal) → Makes honest means old edit name → IsNameFailure honest means faults G mid name fatal → IsEditFailure honest means faults G old edits edit fatal
       name_edit_before edits edit name fatal makes why =
-          failed_map unread_still (λ error not. record { name = name; makes = makes; fails = not_listed_before (front_below name) error not }) (λ n never. absurd never) fatal why
+          failed_map (λ error u. inr (name, makes, folder_still name error u)) (λ error not. record { name = name; makes = makes; fails = not_listed_before (front_below name) error not }) (λ n never. absurd never) fatal why
 
       -- one of the edits is refused
-      pub edit_look_before : (edits : List RefEdit) (k : ℕ) (edit : RefEdit) (fatal : Fatal) → k < length edits → edit ≡ get_or edits k edit → IsEditFailure honest means faults G mid edits edit fatal → IsLookFailure honest means faults G old edits fatal
+      pub edit_look_before : (edits : List RefEdit) (k : ℕ) (edit : RefEdit) (fatal : Fatal) → k < length edits → edit ≡ get_or edits k edit → IsEditFailure honest means faults G mid edits edit fatal → IsClashFailure honest means faults G old edits fatal
       edit_look_before edits k edit fatal lt here why =
-          failed_map unread_still (λ error not. (k, edit, lt, sym here, unlisted_before error edit not)) (λ n clash. (k, edit, lt, sym here, clash_before edits (full_bytes n) edit clash)) fatal why
+          failed_map (λ error u. (k, edit, lt, sym here, edit_still edit error u)) (λ error not. (k, edit, lt, sym here, unlisted_before error edit not)) (λ n clash. (k, edit, lt, sym here, clash_before edits (full_bytes n) edit clash)) fatal why
 
-      -- a lookup failed
-      pub find_look_before : (edits : List RefEdit) (fatal : Fatal) → IsFindFailure honest means faults G mid fatal → IsLookFailure honest means faults G old edits fatal
-      find_look_before edits fatal why = failed_map unread_still (λ error never. absurd never) (λ n never. absurd never) fatal why
+      -- the lookup of `HEAD` failed, or one for an edit
+      pub head_look_before : (writes : Bool) (edits : List RefEdit) (fatal : Fatal) → IsFindFailure (IsHeadUnread honest means faults G mid writes) fatal → IsLookFailure honest means faults G old writes edits fatal
+      head_look_before writes edits fatal why = failed_map (λ error u. inl (u.0, unread_still (codes "HEAD") error u.1)) (λ error never. absurd never) (λ n never. absurd never) fatal why
+
+      pub own_look_before : (writes : Bool) (edits : List RefEdit) (k : ℕ) (edit : RefEdit) (fatal : Fatal) → k < length edits → edit ≡ get_or edits k edit → IsFindFailure (IsOwnUnread honest means faults G mid edit) fatal → IsLookFailure honest means faults G old writes edits fatal
+      own_look_before writes edits k edit fatal lt here why = failed_map (λ error u. inr (k, edit, lt, sym here, inl (own_still edit error u))) (λ error never. absurd never) (λ n never. absurd never) fatal why
+
+-- Why a look failed.
+module _ {F R : Type 0} (G : Ghosts R) (honest : Type 0) (means : F → Meaning) (faults : F → FaultCounts) (store : Store F) where
+  -- one of the edits was refused
+  pub clash_look : (writes : Bool) (edits : List RefEdit) (fatal : Fatal) → IsClashFailure honest means faults G store edits fatal → IsLookFailure honest means faults G store writes edits fatal
+  clash_look writes edits fatal why = failed_map (λ error u. inr u) (λ error not. not) (λ n clash. clash) fatal why
+
+  -- a lookup for the name of an edit failed
+  pub own_edit : (edits : List RefEdit) (edit : RefEdit) (fatal : Fatal) → IsFindFailure (IsOwnUnread honest means faults G store edit) fatal → IsEditFailure honest means faults G store edits edit fatal
+  own_edit edits edit fatal why = failed_map (λ error u. inl u) (λ error never. absurd never) (λ n never. absurd never) fatal why
+
+  -- and that of a folder
+  pub folder_name : (name at : List ℕ) (fatal : Fatal) → at ≡ name → IsFindFailure (IsFolderUnread honest means faults G store at) fatal → IsNameFailure honest means faults G store name fatal
+  folder_name name at fatal same why = failed_map (λ error u. subst (λ (n : List ℕ). IsFolderUnread honest means faults G store n error) same u) (λ error never. absurd never) (λ n never. absurd never) fatal why
+
+  -- the lookup of a name, which is this one
+  pub unread_as : (name at : List ℕ) (error : FindError) → at ≡ name → IsUnreadBy G honest means faults store at error → IsUnreadBy G honest means faults store name error
+  unread_as name at error same u = subst (λ (n : List ℕ). IsUnreadBy G honest means faults store n error) same u

@@ -2,7 +2,7 @@
 use Rattle.std.proofs.Common.{◌≡◌, ℕ, zero, suc, ◌+◌, ◌<◌, length, get_or, take, arith, List, [], ◌∷◌, ◌++◌, Bool, true, false, if◌then◌else◌, ◌&&◌, ◌||◌, codes, Option, Some, None, ap, sym, subst, refl, ◌∙◌}
 use Rattle.std.specs.Prelude.{is_none}
 use Rattle.std.specs.Option.{option_map}
-use Rattle.gix_ref_edits.specs.RefEdits.{name_of}
+use Rattle.gix_ref_edits.specs.RefEdits.{name_of, new_of}
 use Rattle.gix_ref_edits.specs.declared.transaction.RefEdit.{RefEdit}
 use Rattle.gix_ref_files.specs.Files.{Meaning}
 use Rattle.std.proofs.lemmas.Slice.Eq.{bytes_eq-Decides}
@@ -74,6 +74,14 @@ pub through_by : (find : TargetsByName) (branch : List ℕ) (edit : RefEdit) (r 
 through_by find branch edit r same up direct is =
     is ∙ sym (ap (λ (b : Bool). b && (updates edit.change && (edit.deref || is_none (next_of (find (name_of edit)))))) ((bytes_eq-Decides branch (name_of edit)).1 same)
     ∙ (ap (λ (b : Bool). b && (edit.deref || is_none (next_of (find (name_of edit))))) up ∙ ap (λ (b : Bool). b || is_none (next_of (find (name_of edit)))) direct))
+
+-- a deletion that follows symbolic references follows them
+pub follows : (edit : RefEdit) → is_followed edit ≡ true → edit.deref ≡ true
+follows edit is = both edit.deref (is_none (new_of edit.change)) is
+  where
+    both : (a b : Bool) → a && b ≡ true → a ≡ true
+    both true b is = refl
+    both false b is = is
 
 -- Where an edit is led.
 module _ (find : TargetsByName) (branch : Option (List ℕ)) (edit led : RefEdit) where

@@ -1,5 +1,6 @@
 -- Tries that a lock of another's refused, and the one that ends a transaction.
 use Rattle.std.proofs.Common.{◌≡◌, inl, inr, ℕ, ◌+◌, List, [], ◌∷◌, ◌++◌, Bool, Option, Result, Ok, Err, refl, sym, subst, arith}
+use Rattle.std.specs.Prelude.{is_some}
 use Rattle.gix_ref_files.specs.declared.files.ReadAt.{Ghosts}
 use Rattle.gix_ref_packed.specs.OpenFiles.{HasReadFault}
 use Rattle.gix_ref_files.specs.Files.{Meaning, Leaves, Loses, FaultCounts}
@@ -67,7 +68,7 @@ module _ {F R : Type 0} (G : Ghosts R) (honest : Type 0) (means : F → Meaning)
     -- a try that another's lock refused
     tried : (closing : Closing) (s t : Way F) (cause : Cause) → IsLocked cause → TryEnds G honest means faults session closing edits s t (Err (fatals.Update (errors.Prepare cause))) →
         IsTried honest means faults session.committer (HasReadFault G.faults) edits cause s.store t.store × (t.input ≡ s.input) × (t.output ≡ s.output)
-    tried closing s t cause locked (inl looked) = absurd (subst (IsLookFailure honest means faults G s.store edits) (sym (err_is (fatals.Update (errors.Prepare cause)) looked.fatal looked.is)) looked.why)
+    tried closing s t cause locked (inl looked) = absurd (subst (IsLookFailure honest means faults G s.store (is_some session.committer) edits) (sym (err_is (fatals.Update (errors.Prepare cause)) looked.fatal looked.is)) looked.why)
     tried closing s t cause locked (inr led) =
         let was = refused closing (way s.input s.output led.at) (way t.input t.output t.store) led.led cause led.ends in
         ((locked, record { at = led.at; led = led.led; looked = led.looked; clear = led.clear; are_led = led.are_led; ends = was.0 }), was.1, was.2)

@@ -1,5 +1,5 @@
 -- Names that are in one another's way: of `refs/heads/a` and `refs/heads/a/b` only one may exist (`git update-ref`).
-use Rattle.std.specs.Prelude.{◌≡◌, ◌⊎◌, ℕ, List, [], ◌∷◌, ◌++◌, length, map, if◌then◌else◌, Option, Some, None, is_some, IfSome, IsSome}
+use Rattle.std.specs.Prelude.{◌≡◌, ◌⊎◌, ℕ, List, [], ◌∷◌, ◌++◌, length, map, codes, Bool, true, if◌then◌else◌, Option, Some, None, is_some, IfSome, IsSome}
 use Rattle.std.specs.Cmp.Lexicographic.{slice_cmp}
 use Rattle.std.specs.List.{AllByRecursion, Any, Contains}
 use Rattle.std.specs.List.Sorted.{IsPermutation, IsSorted}
@@ -16,7 +16,7 @@ use Rattle.gix_ref_lookup.specs.declared.find.error.Error.{Error as FindError}
 use Rattle.gix_ref_name.specs.NameGrammar.{full_error}
 use Rattle.gix_ref_name.specs.Names.{full_bytes}
 use Rattle.gix_ref_name.specs.declared.name.FullName.{FullName}
-use Rattle.gix_ref_queries.specs.Resolving.{TargetsByName, NameEnd, Missing, Reached, TooDeep, IsUnreadBy, targets_in, resolved}
+use Rattle.gix_ref_queries.specs.Resolving.{TargetsByName, NameEnd, Missing, Reached, TooDeep, IsUnfollowedBy, IsUnreadBy, targets_in, resolved}
 use Rattle.gix_ref_store.specs.Listings.{IsNoListing}
 use Rattle.gix_ref_store.specs.Lookup.{AreRecordsIn, LooksUp, settings_of, view_in}
 use Rattle.gix_ref_store.specs.Store.{files_of}
@@ -71,6 +71,10 @@ IsFailedLook Unread Unlisted Clashes (fatals.Find error) = Unread error
 IsFailedLook Unread Unlisted Clashes (fatals.List error) = Unlisted error
 IsFailedLook Unread Unlisted Clashes (fatals.Clash name) = Clashes name
 IsFailedLook Unread Unlisted Clashes fatal = ⊥
+
+-- and so where lookups alone may fail
+abbrev pub IsFindFailure : (Unread : FindError → Type 0) → Fatal → Type 0
+IsFindFailure Unread = IsFailedLook Unread (λ error. ⊥) (λ name. ⊥)
 
 -- these are the names of edits, in order
 pub record AreNamesOf (edits : List RefEdit) (names : List (Bor (List ℕ))) : Type 0 where
@@ -156,10 +160,25 @@ module _ {F : Type 0} (honest : Type 0) (means : F → Meaning) (faults : F → 
       pub makes : Makes honest means store edit name
       pub fails : IsNotListed store (front_below name) error
 
-    -- why a lookup failed
-    abbrev pub IsFindFailure : Store F → Fatal → Type 0
-    IsFindFailure store = IsFailedLook (IsUnreadBy G honest means faults store)
-        (λ error. ⊥) (λ name. ⊥)
+    -- the lookup of the name of an edit failed with this error, or where it follows symbolic references, that of a name on the way
+    abbrev pub IsOwnUnread : Store F → RefEdit → FindError → Type 0
+    IsOwnUnread store edit error = IsUnreadBy G honest means faults store (name_of edit) error
+        ⊎ ((edit.deref ≡ true) × IsUnfollowedBy G honest means faults store (name_of edit) error)
+
+    -- that of a folder of a name did
+    abbrev pub IsFolderUnread : Store F → (name : List ℕ) → FindError → Type 0
+    IsFolderUnread store name error = (folder : List ℕ) × IsFolderOf folder name
+        × IsUnreadBy G honest means faults store folder error
+
+    -- one of these lookups for an edit did: of its name or one on the way, or of a folder of the name of which it makes a reference
+    abbrev pub IsEditUnread : Store F → FindError → RefEdit → Type 0
+    IsEditUnread store error edit = IsOwnUnread store edit error
+        ⊎ ((name : List ℕ) × Makes honest means store edit name × IsFolderUnread store name error)
+
+    -- that of `HEAD` did, which is looked up where lines are written
+    abbrev pub IsHeadUnread : Store F → (writes_lines : Bool) → FindError → Type 0
+    IsHeadUnread store writes_lines error = (writes_lines ≡ true)
+        × IsUnreadBy G honest means faults store (codes "HEAD") error
 
     -- why a listing failed
     abbrev pub IsListFailure : Store F → (prefix : List ℕ) → Fatal → Type 0
@@ -167,18 +186,26 @@ module _ {F : Type 0} (honest : Type 0) (means : F → Meaning) (faults : F → 
 
     -- why it is not known whether a name is in the way of another
     abbrev pub IsNameFailure : Store F → (name : List ℕ) → Fatal → Type 0
-    IsNameFailure store name = IsFailedLook (IsUnreadBy G honest means faults store)
+    IsNameFailure store name = IsFailedLook (IsFolderUnread store name)
         (IsNotListed store (front_below name)) (λ name. ⊥)
 
     -- why an edit, one of these, is refused: a look failed; or it makes a reference of this name, which is in the way of another
     abbrev pub IsEditFailure : Store F → (edits : List RefEdit) → RefEdit → Fatal → Type 0
-    IsEditFailure store edits edit = IsFailedLook (IsUnreadBy G honest means faults store)
+    IsEditFailure store edits edit = IsFailedLook (λ error. IsEditUnread store error edit)
         (λ error. IsUnlisted store error edit)
         (λ name. IsClash store edits (full_bytes name) edit)
 
-    -- Why these edits are not begun: there was no memory; a lookup failed; what is below a name that one of them makes could not be
-    -- listed; or such a name is in the way of another.
-    abbrev pub IsLookFailure : Store F → (edits : List RefEdit) → Fatal → Type 0
-    IsLookFailure store edits = IsFailedLook (IsUnreadBy G honest means faults store)
+    -- why one of these edits is refused
+    abbrev pub IsClashFailure : Store F → (edits : List RefEdit) → Fatal → Type 0
+    IsClashFailure store edits = IsFailedLook (λ error. Any (IsEditUnread store error) edits)
+        (λ error. Any (IsUnlisted store error) edits)
+        (λ name. Any (IsClash store edits (full_bytes name)) edits)
+
+    -- Why these edits are not begun: there was no memory; a lookup for one of them failed, or that of `HEAD`; what is below a name that
+    -- one of them makes could not be listed; or such a name is in the way of another.
+    abbrev pub IsLookFailure : Store F → (writes_lines : Bool) → (edits : List RefEdit) → Fatal →
+        Type 0
+    IsLookFailure store writes_lines edits = IsFailedLook
+        (λ error. IsHeadUnread store writes_lines error ⊎ Any (IsEditUnread store error) edits)
         (λ error. Any (IsUnlisted store error) edits)
         (λ name. Any (IsClash store edits (full_bytes name)) edits)

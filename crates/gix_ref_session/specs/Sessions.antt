@@ -180,7 +180,7 @@ module _ {F R : Type 0} (G : Ghosts R) (honest : Type 0) (means : F → Meaning)
       (result : Result Bool Fatal) : Type 0 where
     pub fatal : Fatal
     pub is : result ≡ Err fatal
-    pub why : IsLookFailure honest means faults G s.store edits fatal
+    pub why : IsLookFailure honest means faults G s.store (is_some session.committer) edits fatal
     pub looked : LooksUp honest means s.store t.store
     pub input : t.input ≡ s.input
     pub output : t.output ≡ s.output

@@ -6,12 +6,12 @@ ghost use Rattle.std.specs.Option.{option_map};
 ghost use Rattle.gix_ref_edits.specs.RefEdits.{expected_of, matched, name_of};
 ghost use Rattle.gix_ref_edits.specs.declared.transaction.RefEdit.{RefEdit as AnEdit};
 ghost use Rattle.gix_ref_name.specs.Names.{full_bytes, full_ref_bytes};
-ghost use Rattle.gix_ref_queries.specs.Resolving.{targets_in, resolved};
+ghost use Rattle.gix_ref_queries.specs.Resolving.{IsUnfollowedBy, IsUnreadBy, targets_in, resolved};
 ghost use Rattle.gix_ref_store.specs.Listings.{AreHeldFor, IsWalkedIn, walked_prefix};
 ghost use Rattle.gix_ref_store.specs.Lookup.{AreRecordsIn, LooksUp};
 ghost use Rattle.gix_ref_store.specs.declared.file.store.Store.{Store as AStore};
 ghost use Rattle.gix_ref_target.specs.PackedRecords.{Record};
-ghost use Rattle.gix_ref_session.specs.Clashes.{AreClear, AreNamesOf, IsBelowTaken, IsClearEdit, IsClearName, IsEditFailure, IsFindFailure, IsFolderAt, IsInTheWay, IsListFailure, IsLookFailure, IsNameFailure, IsTaken, IsTakenAt, ListsNone, ListsOne, front_below, made_name, missing_last};
+ghost use Rattle.gix_ref_session.specs.Clashes.{AreClear, AreNamesOf, IsBelowTaken, IsClashFailure, IsClearEdit, IsClearName, IsEditFailure, IsFindFailure, IsFolderAt, IsFolderUnread, IsInTheWay, IsListFailure, IsNameFailure, IsOwnUnread, IsTaken, IsTakenAt, ListsNone, ListsOne, front_below, made_name, missing_last};
 ghost use Rattle.gix_ref_session.specs.declared.fatal.Fatal.TheVariants.{Memory};
 
 use crate::fatal::Fatal;
@@ -35,7 +35,8 @@ fn exists<F: Files>(
         ≡ is_some (targets_in F.means store.old records (full_ref_bytes name.entry))) }
     ensures unchanged { LooksUp F.honest F.means store.old store.new }
     ensures fails { IfErr result
-        (IsFindFailure F.honest F.means F.faults F.Reader.ReadAt store.old) }
+        (IsFindFailure (IsUnreadBy F.Reader.ReadAt F.honest F.means F.faults store.old
+        (full_ref_bytes name.entry))) }
 {
     match read_name(alloc, store, name) {
         NameRead::Is(_) => Ok(true),
@@ -56,7 +57,8 @@ fn missing_end<F: Files>(
         ≡ missing_last (resolved (targets_in F.means store.old records) 5 (full_bytes name.now))) }
     ensures unchanged { LooksUp F.honest F.means store.old store.new }
     ensures fails { IfErr result
-        (IsFindFailure F.honest F.means F.faults F.Reader.ReadAt store.old) }
+        (IsFindFailure (IsUnfollowedBy F.Reader.ReadAt F.honest F.means F.faults store.old
+        (full_bytes name.now))) }
 {
     let Followed { name: last, end } = follow(alloc, store, name.clone()?);
     match end {
@@ -90,7 +92,8 @@ fn missing_name<F: Files>(
         ≡ made_name (targets_in F.means store.old records) edit.now) }
     ensures unchanged { LooksUp F.honest F.means store.old store.new }
     ensures fails { IfErr result
-        (IsFindFailure F.honest F.means F.faults F.Reader.ReadAt store.old) }
+        (IsFindFailure (IsOwnUnread F.honest F.means F.faults F.Reader.ReadAt store.old
+        edit.now)) }
 {
     if expects_value(edit) {
         return Ok(None);
@@ -126,7 +129,8 @@ fn is_taken<F: Files>(
         (full_ref_bytes name.entry))) }
     ensures unchanged { LooksUp F.honest F.means store.old store.new }
     ensures fails { IfErr result
-        (IsFindFailure F.honest F.means F.faults F.Reader.ReadAt store.old) }
+        (IsFindFailure (IsUnreadBy F.Reader.ReadAt F.honest F.means F.faults store.old
+        (full_ref_bytes name.entry))) }
 {
     if is_edited(edited, name.to_path()) {
         return Ok(true);
@@ -161,7 +165,8 @@ fn is_folder_taken<F: Files>(
         (λ taken. Decides taken (IsTakenAt (targets_in F.means store.old records) edits at name.now)) }
     ensures unchanged { LooksUp F.honest F.means store.old store.new }
     ensures fails { IfErr result
-        (IsFindFailure F.honest F.means F.faults F.Reader.ReadAt store.old) }
+        (IsFindFailure (IsFolderUnread F.honest F.means F.faults F.Reader.ReadAt store.old
+        name.now)) }
 {
     match folder_before(name, at) {
         Some(folder) => is_taken(alloc, store, folder, edited),
@@ -183,7 +188,8 @@ fn is_below_one<F: Files>(
         (IsBelowTaken (targets_in F.means store.old records) edits name.now)) }
     ensures unchanged { LooksUp F.honest F.means store.old store.new }
     ensures fails { IfErr result
-        (IsFindFailure F.honest F.means F.faults F.Reader.ReadAt store.old) }
+        (IsFindFailure (IsFolderUnread F.honest F.means F.faults F.Reader.ReadAt store.old
+        name.now)) }
 {
     for at in 0..name.len() {
         if is_folder_taken(alloc, store, name, at, edited)? {
@@ -324,7 +330,7 @@ pub(crate) fn check_names<F: Files>(
     ensures clear { OnOk result (AreClear F.honest F.means store.old edits.now) }
     ensures unchanged { LooksUp F.honest F.means store.old store.new }
     ensures fails { IfErr result
-        (IsLookFailure F.honest F.means F.faults F.Reader.ReadAt store.old edits.now) }
+        (IsClashFailure F.honest F.means F.faults F.Reader.ReadAt store.old edits.now) }
 {
     let edited = names_of(alloc, edits)?;
     for edit in edits {

@@ -6,8 +6,8 @@ ghost use Rattle.gix_ref_edits.specs.RefEdits.{SameChange, name_of};
 ghost use Rattle.gix_ref_name.specs.Names.{full_bytes, full_ref_bytes};
 ghost use Rattle.gix_ref_target.specs.PackedRecords.{Record};
 ghost use Rattle.gix_ref_store.specs.Lookup.{AreRecordsIn, LooksUp};
-ghost use Rattle.gix_ref_queries.specs.Resolving.{targets_in, resolved};
-ghost use Rattle.gix_ref_session.specs.Clashes.{AreClear, IsFindFailure, IsLookFailure};
+ghost use Rattle.gix_ref_queries.specs.Resolving.{IsUnfollowedBy, IsUnreadBy, targets_in, resolved};
+ghost use Rattle.gix_ref_session.specs.Clashes.{AreClear, IsFindFailure, IsHeadUnread, IsLookFailure, IsOwnUnread};
 ghost use Rattle.gix_ref_session.specs.Leading.{AreLed, LeadsTo, branch_of, is_followed, is_through_head, last_of, next_of, updates, LeadsIn};
 ghost use Rattle.gix_ref_session.specs.declared.fatal.Fatal.TheVariants.{Memory};
 
@@ -33,7 +33,8 @@ fn next_name<F: Files>(
         ≡ next_of (targets_in F.means store.old records (full_ref_bytes name.entry))) }
     ensures unchanged { LooksUp F.honest F.means store.old store.new }
     ensures fails { IfErr result
-        (IsFindFailure F.honest F.means F.faults F.Reader.ReadAt store.old) }
+        (IsFindFailure (IsUnreadBy F.Reader.ReadAt F.honest F.means F.faults store.old
+        (full_ref_bytes name.entry))) }
 {
     match read_name(alloc, store, name) {
         NameRead::Is(Target::Symbolic(next)) => Ok(Some(next)),
@@ -55,7 +56,8 @@ fn end_of_chain<F: Files>(
         ≡ last_of (resolved (targets_in F.means store.old records) 5 (full_bytes name.now))) }
     ensures unchanged { LooksUp F.honest F.means store.old store.new }
     ensures fails { IfErr result
-        (IsFindFailure F.honest F.means F.faults F.Reader.ReadAt store.old) }
+        (IsFindFailure (IsUnfollowedBy F.Reader.ReadAt F.honest F.means F.faults store.old
+        (full_bytes name.now))) }
 {
     let Followed { name: last, end } = follow(alloc, store, name.clone()?);
     match end {
@@ -90,7 +92,8 @@ fn head_branch<F: Files>(
         ≡ branch_of (targets_in F.means store.old records) writes_lines) }
     ensures unchanged { LooksUp F.honest F.means store.old store.new }
     ensures fails { IfErr result
-        (IsFindFailure F.honest F.means F.faults F.Reader.ReadAt store.old) }
+        (IsFindFailure (IsHeadUnread F.honest F.means F.faults F.Reader.ReadAt store.old
+        writes_lines)) }
 {
     if !writes_lines {
         return Ok(None);
@@ -131,7 +134,8 @@ fn is_through_head<F: Files>(
         (option_map full_bytes branch.now) edit.now) }
     ensures unchanged { LooksUp F.honest F.means store.old store.new }
     ensures fails { IfErr result
-        (IsFindFailure F.honest F.means F.faults F.Reader.ReadAt store.old) }
+        (IsFindFailure (IsUnreadBy F.Reader.ReadAt F.honest F.means F.faults store.old
+        (name_of edit.now))) }
 {
     let Some(branch) = branch else {
         return Ok(false);
@@ -162,7 +166,8 @@ fn led_edit<F: Files>(
     ensures change { IfOk result (λ led. SameChange edit.now.change led.change) }
     ensures unchanged { LooksUp F.honest F.means store.old store.new }
     ensures fails { IfErr result
-        (IsFindFailure F.honest F.means F.faults F.Reader.ReadAt store.old) }
+        (IsFindFailure (IsOwnUnread F.honest F.means F.faults F.Reader.ReadAt store.old
+        edit.now)) }
 {
     let mut led = edit.clone()?;
     if is_through_head(alloc, store, edit, branch)? {
@@ -192,7 +197,8 @@ pub(crate) fn led_edits<F: Files>(
         (LeadsIn F.honest F.means store.old writes_lines) edits.now led.items) }
     ensures unchanged { LooksUp F.honest F.means store.old store.new }
     ensures fails { IfErr result
-        (IsLookFailure F.honest F.means F.faults F.Reader.ReadAt store.old edits.now) }
+        (IsLookFailure F.honest F.means F.faults F.Reader.ReadAt store.old writes_lines
+        edits.now) }
 {
     check_names(alloc, store, edits)?;
     let branch = head_branch(alloc, store, writes_lines)?;

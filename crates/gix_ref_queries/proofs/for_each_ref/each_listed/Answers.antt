@@ -3,7 +3,7 @@ use Rattle.gix_ref_packed_text.specs.declared.raw.Reference.{Reference}
 use Rattle.gix_ref_queries.specs.Answers.{path_lines}
 use Rattle.gix_ref_queries.specs.Patterns.{texts}
 use Rattle.gix_ref_queries.specs.Rows.{EachListed, IsUnfollowedAs, ListsAsked, row_lines, row_texts}
-use Rattle.gix_ref_queries.proofs.RowLemmas.{if_ok, lines_of_rows, rows_before, unfollowed_before}
+use Rattle.gix_ref_queries.proofs.RowLemmas.{if_ok, lines_of_rows, rows_before, rows_failed_before}
 use Rattle.gix_ref_queries.proofs.for_each_ref.each_listed.Goals as goal
 
 pub returns-in-Ok-rows-clause-answers : goal.returns-in-Ok-rows-clause-answers
@@ -28,4 +28,4 @@ returns-clause-answers g c =
     let patterns = texts c.args.patterns.now in
     let lists = subst (λ (r : List Reference). ListsAsked F.honest F.means F.faults old mid (codes "refs/") patterns r) (sym c.deref.ensures.value) c.in-Ok.ensures.lists in
     if_ok c.unfollowed.result (IsUnfollowedAs c.in-Err-rows.why) (EachListed F.honest F.means F.faults G old c.rows.new.store c.args.parts.now patterns c.args.descending c.args.count)
-    (λ answer said. inr (mid, references, c.list_asked.ensures.unchanged, lists, inl (c.in-Err-rows.why, unfollowed_before G F.honest F.means F.faults old mid references c.in-Err-rows.why c.list_asked.ensures.unchanged c.in-Err-rows.ensures.failed, said))) c.unfollowed.ensures
+    (λ answer said. inr (mid, references, c.list_asked.ensures.unchanged, lists, inl (c.in-Err-rows.why, rows_failed_before G F.honest F.means F.faults old mid c.args.parts.now references c.in-Err-rows.why c.list_asked.ensures.unchanged c.in-Err-rows.ensures.failed, said))) c.unfollowed.ensures

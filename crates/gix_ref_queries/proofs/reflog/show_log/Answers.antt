@@ -1,12 +1,14 @@
-use Rattle.std.proofs.Common.{◌++◌, codes, subst, List, ℕ}
+use Rattle.std.proofs.Common.{◌++◌, ◌∙◌, ap, inl, inr, codes, subst, List, ℕ}
+use Rattle.std.specs.Prelude.{is_none}
 use Rattle.gix_ref_name.specs.Names.{full_bytes, full_ref_bytes}
 use Rattle.gix_ref_queries.specs.Answers.{Fails}
 use Rattle.gix_ref_queries.specs.LogRows.{ShowAnswer, ShowsLog}
-use Rattle.gix_ref_queries.specs.Resolving.{targets_in, resolved}
+use Rattle.gix_ref_queries.specs.Resolving.{targets_in}
 use Rattle.gix_ref_queries.specs.Resolving.NameEnd.{Reached, Missing, TooDeep}
 use Rattle.gix_ref_queries.specs.declared.answer.Answer.{Answer}
 use Rattle.gix_ref_queries.specs.declared.resolve.End.TheVariants as ends
 use Rattle.gix_ref_queries.proofs.LogEntries.{answered, ended_at, shows_before}
+use Rattle.gix_ref_queries.proofs.Names.{unfollowed_by}
 use Rattle.gix_ref_queries.proofs.RowLemmas.{if_ok}
 use Rattle.gix_ref_queries.proofs.reflog.show_log.Goals as goal
 
@@ -23,7 +25,7 @@ returns-in-Object-clause-answers g c =
     let id = c.in-Object.field-0 in
     if_ok c.show_either.result (ShowsLog F.honest F.means mid full (full_ref_bytes c.as_ref.result) c.args.count) (ShowAnswer F.honest F.means G F.faults old name c.args.count)
     (λ answer shows. answered F.honest F.means old G F.faults name c.args.count answer (Reached last id) c.in-Ok.ensures.1
-    (λ h records are. ended_at (resolved (targets_in F.means old records) 5) (full_bytes c.in_ok-owned.owned) full name last done.end (ends.Object id) (Reached last id) c.in_ok-owned.ensures c.in-Ok.ensures.0 (c.follow-last.ensures.ends h records are) c.in-Object.is (λ e is. is))
+    (λ h records are. ended_at (targets_in F.means old records) (full_bytes c.in_ok-owned.owned) full name last done.end (ends.Object id) (Reached last id) c.in_ok-owned.ensures c.in-Ok.ensures.0 (c.follow-last.ensures.ends h records are) c.in-Object.is (λ is. is))
     (subst (λ (n : List ℕ). ShowsLog F.honest F.means old n last c.args.count answer) c.in-Ok.ensures.0
     (subst (λ (l : List ℕ). ShowsLog F.honest F.means old full l c.args.count answer) c.as_ref.ensures (shows_before F.honest F.means old mid c.follow-last.ensures.unchanged full (full_ref_bytes c.as_ref.result) c.args.count answer shows)))) c.show_either.ensures.answers
 
@@ -38,7 +40,7 @@ returns-in-Absent-clause-answers g c =
     let last = full_bytes done.name in
     if_ok c.ambiguous.result (λ (answer : Answer). Fails (codes "ambiguous argument '" ++ (name ++ codes "': unknown revision or path not in the working tree.")) answer) (ShowAnswer F.honest F.means G F.faults old name c.args.count)
     (λ answer fails. answered F.honest F.means old G F.faults name c.args.count answer (Missing last) c.in-Ok.ensures.1
-    (λ h records are. ended_at (resolved (targets_in F.means old records) 5) (full_bytes c.in_ok-owned.owned) full name last done.end ends.Absent (Missing last) c.in_ok-owned.ensures c.in-Ok.ensures.0 (c.follow-last.ensures.ends h records are) c.in-Absent.is (λ e is. is)) fails) c.ambiguous.ensures
+    (λ h records are. ended_at (targets_in F.means old records) (full_bytes c.in_ok-owned.owned) full name last done.end ends.Absent (Missing last) c.in_ok-owned.ensures c.in-Ok.ensures.0 (c.follow-last.ensures.ends h records are) c.in-Absent.is (λ is. is)) fails) c.ambiguous.ensures
 
 pub returns-in-TooDeep-clause-answers : goal.returns-in-TooDeep-clause-answers
 returns-in-TooDeep-clause-answers g c =
@@ -51,4 +53,15 @@ returns-in-TooDeep-clause-answers g c =
     let last = full_bytes done.name in
     if_ok c.ambiguous-in-TooDeep.result (λ (answer : Answer). Fails (codes "ambiguous argument '" ++ (name ++ codes "': unknown revision or path not in the working tree.")) answer) (ShowAnswer F.honest F.means G F.faults old name c.args.count)
     (λ answer fails. answered F.honest F.means old G F.faults name c.args.count answer TooDeep c.in-Ok.ensures.1
-    (λ h records are. ended_at (resolved (targets_in F.means old records) 5) (full_bytes c.in_ok-owned.owned) full name last done.end ends.TooDeep TooDeep c.in_ok-owned.ensures c.in-Ok.ensures.0 (c.follow-last.ensures.ends h records are) c.in-TooDeep.is (λ e is. is)) fails) c.ambiguous-in-TooDeep.ensures
+    (λ h records are. ended_at (targets_in F.means old records) (full_bytes c.in_ok-owned.owned) full name last done.end ends.TooDeep TooDeep c.in_ok-owned.ensures c.in-Ok.ensures.0 (c.follow-last.ensures.ends h records are) c.in-TooDeep.is (λ is. is)) fails) c.ambiguous-in-TooDeep.ensures
+
+pub returns-in-Unread-clause-answers : goal.returns-in-Unread-clause-answers
+returns-in-Unread-clause-answers g c =
+    let F = g.F.Files in
+    let G = g.F.Reader.ReadAt in
+    let old = c.args.store.now in
+    let done = c.follow-last.result in
+    let name = c.args.name.now in
+    let error = c.in-Unread.field-0 in
+    if_ok c.fatal-in-Unread.result (λ (answer : Answer). Fails (codes "cannot follow '" ++ (name ++ codes "'")) answer) (ShowAnswer F.honest F.means G F.faults old name c.args.count)
+    (λ answer fails. inr (ap is_none c.in-Ok.ensures.1, inl ((error, unfollowed_by G F.honest F.means F.faults old (full_bytes c.in_ok-owned.owned) (full_bytes done.name) name done.end error c.in-Unread.is (c.in_ok-owned.ensures ∙ c.in-Ok.ensures.0) c.follow-last.ensures.ends c.follow-last.ensures.failed), fails))) c.fatal-in-Unread.ensures

@@ -1,8 +1,8 @@
-use Rattle.std.proofs.Common.{◌≡◌, ◌+◌, ◌-◌, suc, ◌∙◌, ap, arith, Some}
+use Rattle.std.proofs.Common.{◌≡◌, ◌+◌, ◌-◌, suc, ◌∙◌, ap, arith, subst, sym, refl, inl, Some, List, ℕ}
 use Rattle.gix_ref_name.specs.Names.{full_bytes, full_ref_bytes}
 use Rattle.gix_ref_target.specs.Targets.TargetValue.{object_id, symbolic_name}
-use Rattle.gix_ref_queries.specs.Resolving.{targets_in, resolved}
-use Rattle.gix_ref_queries.proofs.Names.{step_end, same_finds, same_records, looks_up, unread_before}
+use Rattle.gix_ref_queries.specs.Resolving.{targets_in, resolved, IsOnWay, IsUnreadBy}
+use Rattle.gix_ref_queries.proofs.Names.{step_end, way_on, same_finds, same_records, looks_up, unread_before}
 use Rattle.gix_ref_queries.proofs.resolve.follow.Goals as goal
 
 pub returns-in-Is-Object-clause-ends : goal.returns-in-Is-Object-clause-ends
@@ -28,7 +28,16 @@ returns-in-Absent-clause-ends g c h records are =
 pub returns-in-Unread-clause-failed : goal.returns-in-Unread-clause-failed
 returns-in-Unread-clause-failed g c =
     let F = g.F.Files in
-    unread_before g.F.Reader.ReadAt F.honest F.means F.faults c.args.store.now c.loop.store c.in-Unread.error c.loop.invariant.unchanged c.in-Unread.ensures.failed
+    let G = g.F.Reader.ReadAt in
+    let old = c.args.store.now in
+    subst (λ (n : List ℕ). IsUnreadBy G F.honest F.means F.faults old n c.in-Unread.error) c.as_ref.ensures (unread_before G F.honest F.means F.faults old c.loop.store (full_ref_bytes c.as_ref.result) c.in-Unread.error c.loop.invariant.unchanged c.in-Unread.ensures.failed)
+
+pub returns-in-Unread-clause-ends : goal.returns-in-Unread-clause-ends
+returns-in-Unread-clause-ends g c h records are =
+    let find = targets_in g.F.Files.means c.args.store.now records in
+    let last = full_bytes c.loop.last in
+    let one : suc (4 - c.loop.counter) ≡ 5 - c.loop.counter = omega arith in
+    c.loop.invariant.on_way h records are last (subst (λ (n : ℕ). IsOnWay find n last last) one (inl refl))
 
 pub loop-preserved : goal.loop-preserved
 loop-preserved g c =
@@ -45,6 +54,14 @@ loop-preserved g c =
           step_end find mid (4 - c.loop.counter) last (full_ref_bytes c.as_ref.result) (resolved find 5 (full_bytes c.args.name)) (Some (symbolic_name next)) (c.loop.invariant.ends h records are ∙ ap (λ n. resolved find n last) one) (same_finds F.honest F.means c.args.store.now c.loop.store records looked h) c.as_ref.ensures
           (rw c.in-Is-Symbolic.field-0-is at (c.in-Is-Symbolic.ensures.reads h records (same_records F.honest F.means c.args.store.now c.loop.store records looked h are)))
           ∙ ap (λ n. resolved find n next) less;
+      on_way = λ h records are name way.
+          let find = targets_in F.means c.args.store.now records in
+          let mid = targets_in F.means c.loop.store records in
+          c.loop.invariant.on_way h records are name
+          (subst (λ (n : ℕ). IsOnWay find n last name) (sym one)
+          (way_on find mid (4 - c.loop.counter) last (full_ref_bytes c.as_ref.result) next name (same_finds F.honest F.means c.args.store.now c.loop.store records looked h) c.as_ref.ensures
+          (rw c.in-Is-Symbolic.field-0-is at (c.in-Is-Symbolic.ensures.reads h records (same_records F.honest F.means c.args.store.now c.loop.store records looked h are)))
+          (subst (λ (n : ℕ). IsOnWay find n next name) (sym less) way)));
       unchanged = looks_up F.honest F.means c.args.store.now c.loop.store c.read_name.new.store looked c.read_name.ensures.unchanged;
     }
 

@@ -1,5 +1,4 @@
 use Rattle.std.proofs.Common.{ap, rules}
-use Rattle.gix_ref_name.specs.Names.{full_ref_bytes}
 use Rattle.gix_ref_queries.specs.Resolving.{target_read}
 use Rattle.gix_ref_queries.proofs.Names.{looks_none}
 use Rattle.gix_ref_queries.proofs.resolve.read_name.Goals as goal
@@ -16,7 +15,6 @@ returns-in-Err g c = record {
   failed = record {
     mid = c.args.store.now;
     new = c.find_full.new.self;
-    name = full_ref_bytes c.args.name;
     looked = looks_none g.F.Files.honest g.F.Files.means c.args.store.now;
     fails = c.in-Err.ensures.failed;
     told = search rules;

@@ -1,11 +1,11 @@
-use Rattle.std.proofs.Common.{◌≡◌, ◌∙◌, subst, List, ℕ, Option, Vec}
+use Rattle.std.proofs.Common.{◌≡◌, ◌∙◌, ℕ, Option, Vec}
 use Rattle.std.specs.Option.{option_map}
 use Rattle.std.specs.declared.alloc.Global.{Global}
 use Rattle.gix_ref_name.specs.Names.{full_bytes, full_ref_bytes}
-use Rattle.gix_ref_queries.specs.Resolving.{targets_in, resolved}
-use Rattle.gix_ref_queries.specs.Rows.{IsRowError, followed_row, row_of}
+use Rattle.gix_ref_queries.specs.Resolving.{IsUnread, targets_in, resolved}
+use Rattle.gix_ref_queries.specs.Rows.{IsRowError, IsUnreadRow, followed_row, row_of}
 use Rattle.gix_ref_queries.proofs.Names.{same_finds, same_records}
-use Rattle.gix_ref_queries.proofs.RowLemmas.{if_err, if_ok, row_direct, row_error_before, row_led}
+use Rattle.gix_ref_queries.proofs.RowLemmas.{if_err, if_ok, row_direct, row_led, unread_short, unread_symbolic}
 use Rattle.gix_ref_queries.proofs.rows.row_of.Goals as goal
 
 pub returns-in_ok-text-in-Object-clause-rows : goal.returns-in_ok-text-in-Object-clause-rows
@@ -34,6 +34,13 @@ returns-in-Symbolic-clause-failed g c =
     let G = g.F.Reader.ReadAt in
     let old = c.args.store.now in
     let mid = c.shown_short.new.store in
+    let parts = c.args.parts.now in
+    let reference = c.args.reference.now in
     let name = full_ref_bytes c.as_ref-name.result in
-    if_err c.followed_row.result (IsRowError F.honest F.means F.faults G mid name) (IsRowError F.honest F.means F.faults G old (full_bytes c.args.reference.now.name))
-    (λ e is. subst (λ (n : List ℕ). IsRowError F.honest F.means F.faults G old n e) c.as_ref-name.ensures (row_error_before G F.honest F.means F.faults old mid name e c.shown_short.ensures.unchanged is)) c.followed_row.ensures.failed
+    if_err c.followed_row.result (IsRowError (IsUnread G F.honest F.means F.faults mid name) name) (IsRowError (IsUnreadRow F.honest F.means F.faults G old parts reference) (full_bytes reference.name))
+    (λ e is. unread_symbolic G F.honest F.means F.faults old mid parts reference c.in-Symbolic.field-0 name e c.shown_short.ensures.unchanged c.in-Symbolic.is c.as_ref-name.ensures is) c.followed_row.ensures.failed
+
+pub returns-in-Err-clause-failed : goal.returns-in-Err-clause-failed
+returns-in-Err-clause-failed g c =
+    let F = g.F.Files in
+    unread_short g.F.Reader.ReadAt F.honest F.means F.faults c.args.store.now c.args.parts.now c.args.reference.now (full_ref_bytes c.as_ref-name.result) c.in-Err.error c.as_ref-name.ensures c.in-Err.ensures.failed

@@ -8,7 +8,7 @@ use Rattle.gix_ref_queries.proofs.rows.rows.Goals as goal
 pub returns-in-Err-clause-failed : goal.returns-in-Err-clause-failed
 returns-in-Err-clause-failed g c =
     let F = g.F.Files in
-    unfollowed_at g.F.Reader.ReadAt F.honest F.means F.faults c.args.store.now c.loop-reference.store c.args.references.now c.loop-reference.reference-index c.reference-item.result c.in-Err.error c.loop-reference.invariant.unchanged c.loop-reference-test.true c.reference-item.is c.in-Err.ensures.failed
+    unfollowed_at g.F.Reader.ReadAt F.honest F.means F.faults c.args.store.now c.loop-reference.store c.args.parts.now c.args.references.now c.loop-reference.reference-index c.reference-item.result c.in-Err.error c.loop-reference.invariant.unchanged c.loop-reference-test.true c.reference-item.is c.in-Err.ensures.failed
 
 pub loop-reference-preserved : goal.loop-reference-preserved
 loop-reference-preserved g c =

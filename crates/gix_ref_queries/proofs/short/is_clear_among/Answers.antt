@@ -1,9 +1,9 @@
-use Rattle.std.proofs.Common.{◌≡◌, ◌+◌, Bool, List, ℕ, Option, Some, None, drop, sym, ◌∙◌, subst}
+use Rattle.std.proofs.Common.{◌≡◌, ◌+◌, Bool, List, [], ◌∷◌, ℕ, Option, Some, None, drop, sym, ◌∙◌, subst}
 use Rattle.gix_ref_queries.specs.Resolving.{targets_in}
 use Rattle.gix_ref_queries.specs.Rows.{row_texts}
-use Rattle.gix_ref_queries.specs.Shortening.{decided}
+use Rattle.gix_ref_queries.specs.Shortening.{IsAskedAmong, decided}
 use Rattle.gix_ref_queries.proofs.Names.{looks_up, same_finds, same_records}
-use Rattle.gix_ref_queries.proofs.ShortLemmas.{clear_step, decides, goes_on, no_short_before}
+use Rattle.gix_ref_queries.proofs.ShortLemmas.{asked_first, asked_later, clear_step, decides, goes_on, names_step, no_short_from}
 use Rattle.gix_ref_queries.proofs.short.is_clear_among.Goals as goal
 
 pub returns-in-Ok-Some-clause-clear : goal.returns-in-Ok-Some-clause-clear
@@ -23,7 +23,20 @@ returns-in-Ok-Some-clause-clear g c h records are =
     ∙ (sym (clear_step find c.args.strict name names c.loop-full.full-index full c.loop-full-test.true c.full-item.is) ∙ sym (c.loop-full.invariant.clear h records are))
 
 pub returns-in-Err-clause-failed : goal.returns-in-Err-clause-failed
-returns-in-Err-clause-failed g c = no_short_before g.F.Reader.ReadAt g.F.Files.honest g.F.Files.means g.F.Files.faults c.args.store.now c.loop-full.store c.in-Err.error c.loop-full.invariant.unchanged c.in-Err.ensures.failed
+returns-in-Err-clause-failed g c =
+    let F = g.F.Files in
+    let old = c.args.store.now in
+    let name = c.args.name.now in
+    let names = c.args.names.now in
+    let i = c.loop-full.full-index in
+    let full = c.full-item.result in
+    let strict = c.args.strict in
+    no_short_from g.F.Reader.ReadAt F.honest F.means F.faults (IsAskedAmong strict name (c.deref.result.now ∷ [])) (IsAskedAmong strict name (row_texts names)) old c.loop-full.store c.in-Err.error c.loop-full.invariant.unchanged
+    (λ h records are asked is.
+    let find = targets_in F.means old records in
+    c.loop-full.invariant.asked h records are asked
+    (subst (λ (ts : List (List ℕ)). IsAskedAmong strict name ts find asked) (sym (names_step names i full c.loop-full-test.true c.full-item.is))
+    (asked_first strict name full.items (row_texts (drop (i + 1) names)) find asked (subst (λ (t : List ℕ). IsAskedAmong strict name (t ∷ []) find asked) c.deref.ensures.value is)))) c.in-Err.ensures.failed
 
 pub loop-full-preserved : goal.loop-full-preserved
 loop-full-preserved g c =
@@ -41,5 +54,13 @@ loop-full-preserved g c =
           c.loop-full.invariant.clear h records are ∙ (clear_step find c.args.strict name names c.loop-full.full-index full c.loop-full-test.true c.full-item.is
           ∙ goes_on find (targets_in F.means mid records) c.args.strict name full.items (row_texts (drop (c.loop-full.full-index + 1) names)) (same_finds F.honest F.means old mid records looked h)
           (subst (λ (text : List ℕ). let o : Option Bool = None in o ≡ decided (targets_in F.means mid records) c.args.strict name text) c.deref.ensures.value is));
+      asked = λ h records are asked later.
+          let find = targets_in F.means old records in
+          let mid_finds = targets_in F.means mid records in
+          let is = rw c.in-Ok-None.field-0-is at (c.in-Ok-None.ensures.decides h records (same_records F.honest F.means old mid records looked h are)) in
+          c.loop-full.invariant.asked h records are asked
+          (subst (λ (ts : List (List ℕ)). IsAskedAmong c.args.strict name ts find asked) (sym (names_step names c.loop-full.full-index full c.loop-full-test.true c.full-item.is))
+          (asked_later find mid_finds c.args.strict name full.items (row_texts (drop (c.loop-full.full-index + 1) names)) asked (same_finds F.honest F.means old mid records looked h)
+          (subst (λ (text : List ℕ). let o : Option Bool = None in o ≡ decided mid_finds c.args.strict name text) c.deref.ensures.value is) later));
       unchanged = looks_up F.honest F.means old mid c.decided.new.store looked c.decided.ensures.unchanged;
     }

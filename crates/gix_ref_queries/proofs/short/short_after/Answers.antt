@@ -1,8 +1,9 @@
-use Rattle.std.proofs.Common.{Bool, List, ℕ, Option, Some, None, if◌then◌else◌, sym, ◌∙◌, ap}
+use Rattle.std.proofs.Common.{Bool, List, ℕ, Option, Some, None, if◌then◌else◌, sym, subst, ◌∙◌, ap}
 use Rattle.gix_ref_queries.specs.Resolving.{targets_in}
 use Rattle.gix_ref_queries.specs.Rows.{row_texts}
-use Rattle.gix_ref_queries.specs.Shortening.{lent_bytes}
-use Rattle.gix_ref_queries.proofs.ShortLemmas.{short_is}
+use Rattle.gix_ref_queries.specs.Shortening.{IsAskedAfter, IsAskedAmong, lent_bytes}
+use Rattle.gix_ref_queries.proofs.Names.{looks_none}
+use Rattle.gix_ref_queries.proofs.ShortLemmas.{no_short_from, rest_is, short_is}
 use Rattle.gix_ref_queries.proofs.short.short_after.Goals.{then-clear, else-clear}
 use Rattle.gix_ref_queries.proofs.short.short_after.Goals as goal
 
@@ -16,3 +17,18 @@ returns-in-Ok-clause-short g c h records are =
       | then-clear w ↦ ap lent_bytes w.result-is ∙ sym (ap either w.if-clear.true)
       | else-clear w ↦ ap lent_bytes w.result-is ∙ sym (ap either w.if-clear.false)
     ])
+
+pub returns-clause-failed : goal.returns-clause-failed
+returns-clause-failed g c =
+    let F = g.F.Files in
+    let old = c.args.store.now in
+    let name = c.args.name.now in
+    let prefix = c.args.prefix.now in
+    let short = c.in-Some.short.now in
+    let strict = c.args.strict in
+    no_short_from g.F.Reader.ReadAt F.honest F.means F.faults (IsAskedAmong strict name (row_texts c.deref.result.now)) (IsAskedAfter strict name prefix) old old c.in-Err.error (looks_none F.honest F.means old)
+    (λ h records are asked is. (
+      short,
+      rest_is name prefix short c.in-Some.ensures.cases.0 c.in-Some.ensures.cases.1,
+      subst (λ (ts : List (List ℕ)). IsAskedAmong strict name ts (targets_in F.means old records) asked) (ap row_texts c.deref.ensures.value ∙ c.in_ok-names.ensures) is,
+    )) c.in-Err.ensures.failed

@@ -1,8 +1,9 @@
-use Rattle.std.proofs.Common.{◌+◌, [], List, ℕ, Bor, drop, get_or, sym, ◌∙◌}
+use Rattle.std.proofs.Common.{◌+◌, [], List, ℕ, Bor, drop, get_or, inl, sym, subst, ◌∙◌}
 use Rattle.gix_ref_queries.specs.Patterns.{texts}
 use Rattle.gix_ref_queries.specs.Resolving.{targets_in}
+use Rattle.gix_ref_queries.specs.Shortening.{IsAskedAfter, IsAskedBy}
 use Rattle.gix_ref_queries.proofs.Names.{looks_up, same_finds, same_records}
-use Rattle.gix_ref_queries.proofs.ShortLemmas.{no_short_before, short_step, shortens, shortens_not}
+use Rattle.gix_ref_queries.proofs.ShortLemmas.{asked_by_later, no_short_from, prefixes_step, short_step, shortens, shortens_not}
 use Rattle.gix_ref_queries.proofs.short.short_by.Goals as goal
 
 pub returns-in-Ok-Some-clause-short : goal.returns-in-Ok-Some-clause-short
@@ -20,7 +21,18 @@ returns-in-Ok-Some-clause-short g c h records are =
     ∙ (sym (short_step find c.args.strict c.args.name.now prefixes i none c.loop-prefix-test.true) ∙ sym (c.loop-prefix.invariant.short h records are))
 
 pub returns-in-Err-clause-failed : goal.returns-in-Err-clause-failed
-returns-in-Err-clause-failed g c = no_short_before g.F.Reader.ReadAt g.F.Files.honest g.F.Files.means g.F.Files.faults c.args.store.now c.loop-prefix.store c.in-Err.error c.loop-prefix.invariant.unchanged c.in-Err.ensures.failed
+returns-in-Err-clause-failed g c =
+    let F = g.F.Files in
+    let old = c.args.store.now in
+    let name = c.args.name.now in
+    let strict = c.args.strict in
+    let prefixes = c.args.prefixes.now in
+    let i = c.loop-prefix.prefix-index in
+    let none : Bor (List ℕ) = record { ref_ptr = (0, 0); now = [] } in
+    no_short_from g.F.Reader.ReadAt F.honest F.means F.faults (IsAskedAfter strict name (get_or prefixes i none).now) (IsAskedBy strict name (texts prefixes)) old c.loop-prefix.store c.in-Err.error c.loop-prefix.invariant.unchanged
+    (λ h records are asked is.
+    c.loop-prefix.invariant.asked h records are asked
+    (subst (λ (ts : List (List ℕ)). IsAskedBy strict name ts (targets_in F.means old records) asked) (sym (prefixes_step prefixes i none c.loop-prefix-test.true)) (inl is))) c.in-Err.ensures.failed
 
 pub loop-prefix-preserved : goal.loop-prefix-preserved
 loop-prefix-preserved g c =
@@ -37,5 +49,11 @@ loop-prefix-preserved g c =
           c.loop-prefix.invariant.short h records are ∙ (short_step find c.args.strict c.args.name.now prefixes i none c.loop-prefix-test.true
           ∙ shortens_not find (targets_in F.means mid records) c.args.strict c.args.name.now (get_or prefixes i none).now (texts (drop (i + 1) prefixes)) (same_finds F.honest F.means old mid records looked h)
           (rw c.in-Ok-None.field-0-is at (c.in-Ok-None.ensures.short h records (same_records F.honest F.means old mid records looked h are))));
+      asked = λ h records are asked later.
+          let find = targets_in F.means old records in
+          c.loop-prefix.invariant.asked h records are asked
+          (subst (λ (ts : List (List ℕ)). IsAskedBy c.args.strict c.args.name.now ts find asked) (sym (prefixes_step prefixes i none c.loop-prefix-test.true))
+          (asked_by_later find (targets_in F.means mid records) c.args.strict c.args.name.now (get_or prefixes i none).now (texts (drop (i + 1) prefixes)) asked (same_finds F.honest F.means old mid records looked h)
+          (rw c.in-Ok-None.field-0-is at (c.in-Ok-None.ensures.short h records (same_records F.honest F.means old mid records looked h are))) later));
       unchanged = looks_up F.honest F.means old mid c.short_after.new.store looked c.short_after.ensures.unchanged;
     }

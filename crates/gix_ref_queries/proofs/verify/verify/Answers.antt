@@ -11,5 +11,5 @@ returns-clause-answers g c h records are =
     let name = c.args.name.now in
     let a = c.in_ok-answer-in-Some.answer in
     let U = IsUnread g.F.Reader.ReadAt F.honest F.means F.faults c.args.store.now in
-    subst (λ (b : Bool). VerifyAnswer (if b then resolved find 5 name else TooDeep) name a ⊎ (U × NotValid name a)) (sym c.in-Some.ensures.0)
-    (subst (λ (n : List ℕ). VerifyAnswer (resolved find 5 n) n a ⊎ (U × NotValid n a)) c.in-Some.ensures.1 (c.in_ok-answer-in-Some.ensures.answers h records are))
+    subst (λ (b : Bool). VerifyAnswer (if b then resolved find 5 name else TooDeep) name a ⊎ (U name × NotValid name a)) (sym c.in-Some.ensures.0)
+    (subst (λ (n : List ℕ). VerifyAnswer (resolved find 5 n) n a ⊎ (U n × NotValid n a)) c.in-Some.ensures.1 (c.in_ok-answer-in-Some.ensures.answers h records are))

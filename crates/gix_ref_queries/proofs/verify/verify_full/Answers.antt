@@ -13,5 +13,6 @@ returns-clause-answers g c h records are =
     let a = c.in_ok-answer.answer in
     let U = IsUnread g.F.Reader.ReadAt F.honest F.means F.faults c.args.store.now in
     let done = c.follow-end.result in
-    let ended = verified U (resolved find 5 (full_bytes c.in_ok-owned.owned)) done.end (full_bytes done.name) c.to_path.result.now a (c.follow-end.ensures.ends h records are) (unread_if g.F.Reader.ReadAt F.honest F.means F.faults c.args.store.now done.end c.follow-end.ensures.failed) c.in_ok-answer.ensures in
-    subst (λ (n : List ℕ). VerifyAnswer (resolved find 5 n) name a ⊎ (U × NotValid name a)) c.in_ok-owned.ensures (subst (λ (n : List ℕ). VerifyAnswer (resolved find 5 (full_bytes c.in_ok-owned.owned)) n a ⊎ (U × NotValid n a)) c.to_path.ensures.bytes ended)
+    let owned = full_bytes c.in_ok-owned.owned in
+    let ended = verified (U owned) find owned (full_bytes done.name) c.to_path.result.now done.end a (c.follow-end.ensures.ends h records are) (unread_if g.F.Reader.ReadAt F.honest F.means F.faults c.args.store.now owned (full_bytes done.name) done.end c.follow-end.ensures.ends c.follow-end.ensures.failed) c.in_ok-answer.ensures in
+    subst (λ (n : List ℕ). VerifyAnswer (resolved find 5 n) name a ⊎ (U n × NotValid name a)) c.in_ok-owned.ensures (subst (λ (n : List ℕ). VerifyAnswer (resolved find 5 owned) n a ⊎ (U owned × NotValid n a)) c.to_path.ensures.bytes ended)

@@ -5,7 +5,7 @@ use Rattle.gix_ref_name.specs.Names.{full_bytes}
 use Rattle.gix_ref_queries.specs.Resolving.{targets_in}
 use Rattle.gix_ref_queries.proofs.Names.{same_records}
 use Rattle.gix_ref_session.specs.Clashes.{IsClearName, IsEditFailure, IsInTheWay, ListsNone}
-use Rattle.gix_ref_session.proofs.ClashLemmas.{clear_before, name_edit_before, told, way_before}
+use Rattle.gix_ref_session.proofs.ClashLemmas.{clear_before, name_edit_before, own_edit, told, way_before}
 use Rattle.gix_ref_session.proofs.clash.check_name.Goals as goal
 
 pub returns-in_err-is_in_the_way-clause-fails : goal.returns-in_err-is_in_the_way-clause-fails
@@ -45,3 +45,13 @@ returns-clause-clear g c h records are edits names =
     (clear_before F.honest F.means old mid looked records edits name h
     (subst (λ (b : Bool). MatchBool b (IsInTheWay F.honest F.means F.faults mid edits records name) (IsClearName (targets_in F.means mid records) edits (ListsNone F.honest F.means mid records) name)) c.if-branch.false
     (c.in_ok-is_in_the_way.ensures.clashes h records (same_records F.honest F.means old mid records looked h are) edits names)))
+
+pub returns-in_err-name-clause-fails : goal.returns-in_err-name-clause-fails
+returns-in_err-name-clause-fails g c edits names =
+    let F = g.F.Files in
+    let G = g.F.Reader.ReadAt in
+    let old = c.args.store.now in
+    let edit = c.args.edit.now in
+    let fatal = c.in_err-name.field-0.0 in
+    told c.from_residual.result fatal (IsEditFailure F.honest F.means F.faults G old edits edit) c.from_residual.ensures.1
+    (own_edit G F.honest F.means F.faults old edits edit fatal c.in_err-name.ensures.fails)

@@ -1,7 +1,7 @@
 use Rattle.std.proofs.Common.{List, Bor, ℕ, sym, subst}
 use Rattle.gix_ref_queries.specs.Resolving.{targets_in}
 use Rattle.gix_ref_queries.proofs.Names.{same_records}
-use Rattle.gix_ref_session.specs.Clashes.{AreNamesOf, IsClearEdit, IsLookFailure, ListsNone}
+use Rattle.gix_ref_session.specs.Clashes.{AreNamesOf, IsClashFailure, IsClearEdit, ListsNone}
 use Rattle.gix_ref_session.proofs.ClashLemmas.{all_taken, clear_edit_before, edit_look_before, told}
 use Rattle.gix_ref_session.proofs.Looking.{looks_on}
 use Rattle.gix_ref_session.proofs.clash.check_names.Goals as goal
@@ -14,7 +14,7 @@ returns-in_err-check_name-clause-fails g c =
     let edits = c.args.edits.now in
     let fatal = c.in_err-check_name.field-0.0 in
     let names = subst (λ (ns : List (Bor (List ℕ))). AreNamesOf edits ns) (sym c.deref.ensures.value) c.in_ok-edited.ensures in
-    told c.from_residual-in_err-check_name.result fatal (IsLookFailure F.honest F.means F.faults G first edits) c.from_residual-in_err-check_name.ensures.1
+    told c.from_residual-in_err-check_name.result fatal (IsClashFailure F.honest F.means F.faults G first edits) c.from_residual-in_err-check_name.ensures.1
     (edit_look_before F.honest F.means first c.loop-edit.store c.loop-edit.invariant.looked F.faults G edits c.loop-edit.edit-index c.edit-item.result fatal c.loop-edit-test.true c.edit-item.is (c.in_err-check_name.ensures.fails edits names))
 
 pub loop-edit-preserved : goal.loop-edit-preserved

@@ -1,7 +1,7 @@
 use Rattle.gix_ref_queries.specs.Resolving.{targets_in}
 use Rattle.gix_ref_queries.proofs.Names.{same_records}
-use Rattle.gix_ref_session.specs.Clashes.{IsBelowTaken, IsFindFailure, IsTaken, IsTakenAt}
-use Rattle.gix_ref_session.proofs.ClashLemmas.{fails, find_before, holds, not_when, taken_after, taken_before, told}
+use Rattle.gix_ref_session.specs.Clashes.{IsBelowTaken, IsFindFailure, IsFolderUnread, IsTaken, IsTakenAt}
+use Rattle.gix_ref_session.proofs.ClashLemmas.{fails, find_map, folder_still, holds, not_when, taken_after, taken_before, told}
 use Rattle.gix_ref_session.proofs.FolderLemmas.{none_at_all, none_here}
 use Rattle.gix_ref_session.proofs.Looking.{looks_on}
 use Rattle.gix_ref_session.proofs.clash.is_below_one.Goals as goal
@@ -44,5 +44,5 @@ returns-in_err-is_folder_taken-clause-fails g c =
     let G = g.F.Reader.ReadAt in
     let first = c.args.store.now in
     let fatal = c.in_err-is_folder_taken.field-0.0 in
-    told c.from_residual.result fatal (IsFindFailure F.honest F.means F.faults G first) c.from_residual.ensures.1
-    (find_before F.honest F.means first c.loop-at.store c.loop-at.invariant.looked F.faults G fatal c.in_err-is_folder_taken.ensures.fails)
+    told c.from_residual.result fatal (IsFindFailure (IsFolderUnread F.honest F.means F.faults G first c.args.name.now)) c.from_residual.ensures.1
+    (find_map (folder_still F.honest F.means first c.loop-at.store c.loop-at.invariant.looked F.faults G c.args.name.now) fatal c.in_err-is_folder_taken.ensures.fails)

@@ -4,7 +4,7 @@ use Rattle.gix_ref_name.specs.Names.{full_bytes}
 use Rattle.gix_ref_queries.specs.Resolving.{targets_in}
 use Rattle.gix_ref_queries.proofs.Names.{same_records}
 use Rattle.gix_ref_session.specs.Clashes.{IsBelowTaken, IsListFailure, IsNameFailure, ListsNone, ListsOne, front_below}
-use Rattle.gix_ref_session.proofs.ClashLemmas.{err_map, list_name_before, not_when, way_by}
+use Rattle.gix_ref_session.proofs.ClashLemmas.{err_map, folder_name, list_name_before, not_when, told, way_by}
 use Rattle.gix_ref_session.proofs.clash.is_in_the_way.Goals as goal
 
 pub returns-then-branch-clause-clashes : goal.returns-then-branch-clause-clashes
@@ -36,3 +36,13 @@ returns-clause-fails g c =
     err_map c.has_below.result (IsListFailure F.honest F.means F.faults G mid (front_below name)) (IsNameFailure F.honest F.means F.faults G old name)
     (subst (λ (p : List ℕ). IfErr c.has_below.result (IsListFailure F.honest F.means F.faults G mid p)) (c.deref.ensures.value ∙ c.in_ok-prefix.ensures) c.has_below.ensures.fails)
     (list_name_before F.honest F.means old mid c.is_below_one.ensures.unchanged F.faults G name)
+
+pub returns-in_err-is_below_one-clause-fails : goal.returns-in_err-is_below_one-clause-fails
+returns-in_err-is_below_one-clause-fails g c =
+    let F = g.F.Files in
+    let G = g.F.Reader.ReadAt in
+    let old = c.args.store.now in
+    let name = full_bytes c.args.name.now in
+    let fatal = c.in_err-is_below_one.field-0.0 in
+    told c.from_residual.result fatal (IsNameFailure F.honest F.means F.faults G old name) c.from_residual.ensures.1
+    (folder_name G F.honest F.means F.faults old name c.to_path.result.now fatal c.to_path.ensures.bytes c.in_err-is_below_one.ensures.fails)

@@ -1,6 +1,7 @@
 use Rattle.std.proofs.Common.{rules, ◌≡◌, ◌∙◌, ap, sym, List, ℕ}
 use Rattle.gix_ref_name.specs.Names.{full_bytes}
 use Rattle.gix_ref_queries.specs.Resolving.{targets_in, resolved}
+use Rattle.gix_ref_queries.proofs.Names.{unfollowed_by}
 use Rattle.gix_ref_session.specs.Clashes.{missing_last}
 use Rattle.gix_ref_session.proofs.clash.missing_end.Goals as goal
 
@@ -21,3 +22,10 @@ returns-in-TooDeep-clause-ends g c h records are =
     let find = targets_in g.F.Files.means c.args.store.now records in
     let same : full_bytes c.in_ok-clone.field-0 ≡ full_bytes c.args.name.now = search rules in
     sym (ap missing_last (sym (ap (λ (n : List ℕ). resolved find 5 n) same) ∙ rw c.in-TooDeep.is at (c.follow-last.ensures.ends h records are)))
+
+pub returns-in-Unread-clause-fails : goal.returns-in-Unread-clause-fails
+returns-in-Unread-clause-fails g c =
+    let F = g.F.Files in
+    let done = c.follow-last.result in
+    let same : full_bytes c.in_ok-clone.field-0 ≡ full_bytes c.args.name.now = search rules in
+    unfollowed_by g.F.Reader.ReadAt F.honest F.means F.faults c.args.store.now (full_bytes c.in_ok-clone.field-0) (full_bytes done.name) (full_bytes c.args.name.now) done.end c.in-Unread.error c.in-Unread.is same c.follow-last.ensures.ends c.follow-last.ensures.failed

@@ -1,10 +1,11 @@
-use Rattle.std.proofs.Common.{rules, Some, ◌≡◌, ◌∙◌, ap, sym, subst, List, ℕ, Option, IfOk}
+use Rattle.std.proofs.Common.{rules, inl, inr, Some, ◌≡◌, ◌∙◌, ap, sym, subst, List, ℕ, Option, IfOk}
 use Rattle.std.specs.Option.{option_map}
 use Rattle.gix_ref_edits.specs.RefEdits.{name_of}
-use Rattle.gix_ref_name.specs.Names.{full_bytes}
-use Rattle.gix_ref_queries.specs.Resolving.{targets_in}
+use Rattle.gix_ref_name.specs.Names.{full_bytes, full_ref_bytes}
+use Rattle.gix_ref_queries.specs.Resolving.{IsUnfollowedBy, targets_in}
+use Rattle.gix_ref_session.specs.Clashes.{IsFindFailure, IsOwnUnread}
 use Rattle.std.specs.Prelude.{is_some}
-use Rattle.gix_ref_session.proofs.ClashLemmas.{makes_itself, makes_last, makes_none, makes_not}
+use Rattle.gix_ref_session.proofs.ClashLemmas.{err_map, find_map, told, unread_as, makes_itself, makes_last, makes_none, makes_not}
 use Rattle.gix_ref_session.proofs.clash.missing_name.Goals as goal
 
 pub returns-then-expects_value-clause-makes : goal.returns-then-expects_value-clause-makes
@@ -30,3 +31,21 @@ returns-clause-makes g c h records are =
     let same : full_bytes c.in_ok-clone.field-0 ≡ name_of c.args.edit.now = search rules in
     ap Some same ∙ sym (makes_itself find c.args.edit.now (sym c.expects_value.ensures ∙ c.if-expects_value.false) c.if-edit.false
     (sym (c.in_ok-exists.ensures.finds h records are ∙ ap (λ (name : List ℕ). is_some (find name)) c.as_ref.ensures) ∙ c.if-branch.false))
+
+pub returns-then-edit-clause-fails : goal.returns-then-edit-clause-fails
+returns-then-edit-clause-fails g c =
+    let F = g.F.Files in
+    let G = g.F.Reader.ReadAt in
+    let old = c.args.store.now in
+    let edit = c.args.edit.now in
+    err_map c.missing_end.result (IsFindFailure (IsUnfollowedBy G F.honest F.means F.faults old (name_of edit))) (IsFindFailure (IsOwnUnread F.honest F.means F.faults G old edit)) c.missing_end.ensures.fails (find_map (λ error u. inr (c.if-edit.true, u)))
+
+pub returns-in_err-exists-clause-fails : goal.returns-in_err-exists-clause-fails
+returns-in_err-exists-clause-fails g c =
+    let F = g.F.Files in
+    let G = g.F.Reader.ReadAt in
+    let old = c.args.store.now in
+    let edit = c.args.edit.now in
+    let fatal = c.in_err-exists.field-0.0 in
+    told c.from_residual.result fatal (IsFindFailure (IsOwnUnread F.honest F.means F.faults G old edit)) c.from_residual.ensures.1
+    (find_map (λ error u. inl (unread_as G F.honest F.means F.faults old (name_of edit) (full_ref_bytes c.as_ref.result) error c.as_ref.ensures u)) fatal c.in_err-exists.ensures.fails)

@@ -1,12 +1,12 @@
-use Rattle.std.proofs.Common.{rules, ◌∙◌, sym, Some, None}
+use Rattle.std.proofs.Common.{rules, inl, inr, ◌∙◌, sym, Some, None}
 use Rattle.std.specs.Option.{option_map}
 use Rattle.gix_ref_edits.specs.RefEdits.{name_of}
 use Rattle.gix_ref_name.specs.Names.{full_bytes}
 use Rattle.gix_ref_queries.specs.Resolving.{targets_in}
-use Rattle.gix_ref_queries.proofs.Names.{same_records}
-use Rattle.gix_ref_session.specs.Clashes.{IsFindFailure}
-use Rattle.gix_ref_session.proofs.ClashLemmas.{find_before, told}
-use Rattle.gix_ref_session.proofs.LeadLemmas.{ends_in, to_end, to_itself}
+use Rattle.gix_ref_queries.proofs.Names.{same_records, unfollowed_before}
+use Rattle.gix_ref_session.specs.Clashes.{IsFindFailure, IsOwnUnread}
+use Rattle.gix_ref_session.proofs.ClashLemmas.{find_map, told}
+use Rattle.gix_ref_session.proofs.LeadLemmas.{ends_in, follows, to_end, to_itself}
 use Rattle.gix_ref_session.proofs.lead.led_edit.Goals.{then-is_followed+in_ok-name+in-Some, then-is_followed+in_ok-name+in_default, else-is_followed}
 use Rattle.gix_ref_session.proofs.lead.led_edit.Goals as goal
 
@@ -34,6 +34,15 @@ returns-in_err-name-clause-fails g c =
     let F = g.F.Files in
     let G = g.F.Reader.ReadAt in
     let first = c.args.store.now in
+    let edit = c.args.edit.now in
     let fatal = c.in_err-name.field-0.0 in
-    told c.from_residual-in_err-name.result fatal (IsFindFailure F.honest F.means F.faults G first) c.from_residual-in_err-name.ensures.1
-    (find_before F.honest F.means first c.is_through_head.new.store c.is_through_head.ensures.unchanged F.faults G fatal c.in_err-name.ensures.fails)
+    told c.from_residual-in_err-name.result fatal (IsFindFailure (IsOwnUnread F.honest F.means F.faults G first edit)) c.from_residual-in_err-name.ensures.1
+    (find_map (λ error u. inr (follows edit (sym c.is_followed.ensures ∙ c.if-is_followed.true), unfollowed_before G F.honest F.means F.faults first c.is_through_head.new.store (name_of edit) error c.is_through_head.ensures.unchanged u)) fatal c.in_err-name.ensures.fails)
+
+pub returns-in_err-is_through_head-clause-fails : goal.returns-in_err-is_through_head-clause-fails
+returns-in_err-is_through_head-clause-fails g c =
+    let F = g.F.Files in
+    let G = g.F.Reader.ReadAt in
+    let fatal = c.in_err-is_through_head.field-0.0 in
+    told c.from_residual-in_err-is_through_head.result fatal (IsFindFailure (IsOwnUnread F.honest F.means F.faults G c.args.store.now c.args.edit.now)) c.from_residual-in_err-is_through_head.ensures.1
+    (find_map (λ error u. inl u) fatal c.in_err-is_through_head.ensures.fails)

@@ -2,7 +2,7 @@ use Rattle.std.proofs.Common.{subst, sym, List, []}
 use Rattle.gix_ref_edits.specs.declared.transaction.RefEdit.{RefEdit}
 use Rattle.gix_ref_session.specs.Leading.{AreLed, IsLed, LeadsIn}
 use Rattle.gix_ref_session.specs.Clashes.{IsLookFailure}
-use Rattle.gix_ref_session.proofs.ClashLemmas.{find_look_before, told}
+use Rattle.gix_ref_session.proofs.ClashLemmas.{clash_look, head_look_before, own_look_before, told}
 use Rattle.gix_ref_session.proofs.LeadLemmas.{branch_in, leads_in, led_more}
 use Rattle.gix_ref_session.proofs.Looking.{looks_on}
 use Rattle.gix_ref_session.proofs.lead.led_edits.Goals as goal
@@ -39,8 +39,8 @@ returns-in_err-branch-clause-fails g c =
     let G = g.F.Reader.ReadAt in
     let first = c.args.store.now in
     let fatal = c.in_err-branch.field-0.0 in
-    told c.from_residual-in_err-branch.result fatal (IsLookFailure F.honest F.means F.faults G first c.args.edits.now) c.from_residual-in_err-branch.ensures.1
-    (find_look_before F.honest F.means first c.check_names.new.store c.check_names.ensures.unchanged F.faults G c.args.edits.now fatal c.in_err-branch.ensures.fails)
+    told c.from_residual-in_err-branch.result fatal (IsLookFailure F.honest F.means F.faults G first c.args.writes_lines c.args.edits.now) c.from_residual-in_err-branch.ensures.1
+    (head_look_before F.honest F.means first c.check_names.new.store c.check_names.ensures.unchanged F.faults G c.args.writes_lines c.args.edits.now fatal c.in_err-branch.ensures.fails)
 
 pub returns-in_err-edit-clause-fails : goal.returns-in_err-edit-clause-fails
 returns-in_err-edit-clause-fails g c =
@@ -48,5 +48,14 @@ returns-in_err-edit-clause-fails g c =
     let G = g.F.Reader.ReadAt in
     let first = c.args.store.now in
     let fatal = c.in_err-edit.field-0.0 in
-    told c.from_residual-in_err-edit.result fatal (IsLookFailure F.honest F.means F.faults G first c.args.edits.now) c.from_residual-in_err-edit.ensures.1
-    (find_look_before F.honest F.means first c.loop-edit.store c.loop-edit.invariant.0 F.faults G c.args.edits.now fatal c.in_err-edit.ensures.fails)
+    told c.from_residual-in_err-edit.result fatal (IsLookFailure F.honest F.means F.faults G first c.args.writes_lines c.args.edits.now) c.from_residual-in_err-edit.ensures.1
+    (own_look_before F.honest F.means first c.loop-edit.store c.loop-edit.invariant.0 F.faults G c.args.writes_lines c.args.edits.now c.loop-edit.edit-index c.edit-item.result fatal c.loop-edit-test.true c.edit-item.is c.in_err-edit.ensures.fails)
+
+pub returns-in_err-check_names-clause-fails : goal.returns-in_err-check_names-clause-fails
+returns-in_err-check_names-clause-fails g c =
+    let F = g.F.Files in
+    let G = g.F.Reader.ReadAt in
+    let first = c.args.store.now in
+    let fatal = c.in_err-check_names.field-0.0 in
+    told c.from_residual.result fatal (IsLookFailure F.honest F.means F.faults G first c.args.writes_lines c.args.edits.now) c.from_residual.ensures.1
+    (clash_look G F.honest F.means F.faults first c.args.writes_lines c.args.edits.now fatal c.in_err-check_names.ensures.fails)

@@ -1,0 +1,14 @@
+use Rattle.std.proofs.Common.{◌≡◌, [], ◌∷◌, inl}
+use Rattle.gix_ref_queries.specs.Shortening.{IsAskedAmong}
+use Rattle.gix_ref_queries.proofs.Names.{looks_none}
+use Rattle.gix_ref_queries.proofs.ShortLemmas.{apart, no_short_from}
+use Rattle.gix_ref_queries.proofs.short.decided.Goals as goal
+
+pub returns-in-Err-clause-failed : goal.returns-in-Err-clause-failed
+returns-in-Err-clause-failed g c =
+    let F = g.F.Files in
+    let old = c.args.store.now in
+    let name = c.args.name.now in
+    let full = c.args.full.now in
+    no_short_from g.F.Reader.ReadAt F.honest F.means F.faults (λ find asked. asked ≡ full) (IsAskedAmong c.args.strict name (full ∷ [])) old old c.in-Err.error (looks_none F.honest F.means old)
+    (λ h records are asked is. inl (is, apart full name c.eq.result c.eq.ensures c.if-eq.false)) c.in-Err.ensures.failed
