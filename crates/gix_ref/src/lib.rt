@@ -6,6 +6,7 @@
 //! - `packed`, `log`, `raw`, `actor`: `packed-refs`, reflogs, references as values, and signatures.
 //! - `object`: objects, and finders of objects.
 //! - `files`: the file system that a store is over, with `Disk` for the disk and `Memory` for tests; `lock`: lock files.
+//! - `pack`: packing of loose references.
 //! - `layout`: where a name is kept; `theorems`: what is proved of definitions alone.
 #![tactic(auto)]
 
@@ -25,3 +26,9 @@ pub use gix_ref_object::object;
 pub use gix_ref_packed::raw;
 pub use gix_ref_store::store;
 pub use gix_ref_target::{layout, target};
+
+pub mod pack {
+    //! Packing of loose references (`git pack-refs`). Not in gix-ref.
+    pub use gix_ref_pack::objects::{Objects, TableError};
+    pub use gix_ref_pack::pack::{PackError, Packed, pack_refs};
+}

@@ -1,11 +1,13 @@
 //! Transactions that no case can write: a value that no text has, and a transaction that is given up before it is prepared.
+use gix_ref::actor::SignatureRef;
 use gix_ref::file::Store;
 use gix_ref::file::transaction::{PackedRefs, prepare};
-use gix_ref::files::Memory;
+use gix_ref::files::{Files, Memory};
 use gix_ref::hash::Kind;
 use gix_ref::name::{FullName, FullNameRef, PartialNameRef};
 use gix_ref::namespace::expand;
 use gix_ref::object::Never;
+use gix_ref::pack::{Objects, pack_refs};
 use gix_ref::target::Target;
 use gix_ref::theorems::read_back::error::Error;
 use gix_ref::theorems::read_back::make::make;
@@ -19,6 +21,28 @@ fn store(alloc: Global) -> Result<Store<Memory>, Fail> {
     match Store::at(Memory::new(alloc), folder, Kind::Sha1) {
         Ok(store) => Ok(store),
         Err(_) => Err(Fail::from("a clean folder")),
+    }
+}
+
+/// The store in `/r`, which is there, with a branch.
+fn store_with(alloc: Global, name: FullName) -> Result<Store<Memory>, Fail> {
+    let mut files = Memory::new(alloc);
+    let Ok(true) = files.make_folders(b"/r") else {
+        return Err(Fail::from("no git folder"));
+    };
+    let Ok(mut store) = Store::at(files, b"/r".to_vec(alloc)?, Kind::Sha1) else {
+        return Err(Fail::from("a clean folder"));
+    };
+    let new = Target::Object(Kind::Sha1.null());
+    let edit = RefEdit::update(name, new, PreviousValue::Any, Vec::new(alloc));
+    let edits = vec![in alloc; edit]?;
+    let mode = PackedRefs::<Never>::DeletionsOnly;
+    let Some(committer) = SignatureRef::decode(b"C <c@example.com> 1234 +0800") else {
+        return Err(Fail::from("a signature"));
+    };
+    match make(alloc, &mut store, mode, edits, Some(committer)) {
+        Ok(_) => Ok(store),
+        Err(_) => Err(Fail::from("no branch")),
     }
 }
 
@@ -88,6 +112,30 @@ fn a_refused_edit_is_tried_again(rt: HostRuntime) -> Result<(), Fail> {
             );
         }
         None => panic!(rt; "nor is there one now"),
+    }
+    Ok(())
+}
+
+#[test]
+fn a_branch_is_packed(rt: HostRuntime) -> Result<(), Fail> {
+    let alloc = rt.alloc();
+    let name = FullNameRef::try_from("refs/heads/a")?;
+    let mut store = store_with(alloc, name.to_owned(alloc)?)?;
+    let packed = pack_refs(alloc, &mut store, true, true, Objects::new(alloc));
+    assert!(rt; matches!(packed.result, Ok(1)), "one is packed");
+    match store.find_full(alloc, name) {
+        Ok(Some(found)) => {
+            let target = found.target;
+            assert!(rt;
+                matches!(target, Target::Object(id) if id.is_null()),
+                "as it was"
+            );
+        }
+        Ok(None) | Err(_) => panic!(rt; "it is there"),
+    }
+    match store.loose_iter(alloc) {
+        Ok(mut items) => assert!(rt; items.next().is_none(), "and not loose"),
+        Err(_) => panic!(rt; "they are listed"),
     }
     Ok(())
 }
