@@ -10,7 +10,7 @@ ghost use Rattle.gix_ref_store.specs.PreparedFields.{held_edits, held_packed};
 ghost use Rattle.gix_ref_store.specs.Store.{files_of};
 ghost use Rattle.gix_ref_store.specs.declared.file.store.Store.{Store as AStore};
 ghost use Rattle.gix_ref_session.specs.Sessions.{AnswersAbort, AnswersCommit, ClosedBy, HeardClosing, MakeEnds, PreparedEnds, TryEnds, way};
-ghost use Rattle.gix_ref_session.specs.Transactions.{CommitEnds, IsCommitResult, IsEditStop, IsRolledBack, IsTryLoss, IsTryStop, Prepares, uses};
+ghost use Rattle.gix_ref_session.specs.Transactions.{ClosingLosses, ClosingStops, CommitEnds, IsCommitResult, IsEditStop, IsRolledBack, IsTryLoss, IsTryStop, Prepares, uses};
 
 use crate::command::Command;
 use crate::fatal::Fatal;
@@ -45,17 +45,12 @@ fn commit<F: Files>(
         prepared.entry.store.now edits (held_packed prepared.entry.plan)
         (held_edits prepared.entry.plan) → CommitEnds F.honest F.means F.faults
         session.now.committer (HasReadFault F.Reader.faults) old prepared.exit.0.now edits result }
-    ensures leaves { (old : AStore F) (edits : List AnEdit) → Prepares F.honest F.means F.faults old
-        prepared.entry.store.now edits (held_packed prepared.entry.plan)
-        (held_edits prepared.entry.plan) → F.honest → Leaves (F.means (files_of old))
-        (F.means (files_of prepared.exit.0.now))
-        (IsEditStop F.honest F.means F.faults session.now.committer old edits) }
-    ensures lost { (old : AStore F) (edits : List AnEdit) → Prepares F.honest F.means F.faults old
-        prepared.entry.store.now edits (held_packed prepared.entry.plan)
-        (held_edits prepared.entry.plan) → F.honest → HasGoodRecords F.means old →
-        IsAtRest F.means old → Loses (F.means (files_of old))
-        (F.means (files_of prepared.exit.0.now))
-        (IsLossOf F.honest F.means F.faults uses old session.now.committer edits) }
+    ensures leaves { ClosingStops F.honest F.means F.faults session.now.committer
+        prepared.entry.store.now prepared.exit.0.now (held_packed prepared.entry.plan)
+        (held_edits prepared.entry.plan) }
+    ensures lost { ClosingLosses F.honest F.means F.faults session.now.committer
+        prepared.entry.store.now prepared.exit.0.now (held_packed prepared.entry.plan)
+        (held_edits prepared.entry.plan) }
 {
     result_of(prepared.commit(alloc, session.committer))
 }
@@ -66,18 +61,12 @@ fn give_up<F: Files>(prepared: Prepared<'_, F>)
         prepared.entry.store.now edits (held_packed prepared.entry.plan)
         (held_edits prepared.entry.plan) →
         IsRolledBack F.honest F.means F.faults old prepared.exit.0.now edits }
-    ensures leaves { (committer : Option SignatureRef) (old : AStore F) (edits : List AnEdit) →
-        Prepares F.honest F.means F.faults old
-        prepared.entry.store.now edits (held_packed prepared.entry.plan)
-        (held_edits prepared.entry.plan) → F.honest → Leaves (F.means (files_of old))
-        (F.means (files_of prepared.exit.0.now))
-        (IsEditStop F.honest F.means F.faults committer old edits) }
-    ensures lost { (committer : Option SignatureRef) (old : AStore F) (edits : List AnEdit) →
-        Prepares F.honest F.means F.faults old prepared.entry.store.now edits
-        (held_packed prepared.entry.plan) (held_edits prepared.entry.plan) → F.honest →
-        HasGoodRecords F.means old → IsAtRest F.means old → Loses (F.means (files_of old))
-        (F.means (files_of prepared.exit.0.now))
-        (IsLossOf F.honest F.means F.faults uses old committer edits) }
+    ensures leaves { (committer : Option SignatureRef) → ClosingStops F.honest F.means F.faults
+        committer prepared.entry.store.now prepared.exit.0.now (held_packed prepared.entry.plan)
+        (held_edits prepared.entry.plan) }
+    ensures lost { (committer : Option SignatureRef) → ClosingLosses F.honest F.means F.faults
+        committer prepared.entry.store.now prepared.exit.0.now (held_packed prepared.entry.plan)
+        (held_edits prepared.entry.plan) }
 {
     let _given_up = prepared.rollback();
 }
@@ -119,17 +108,12 @@ fn close_by<F: Files, W: Write>(
         (held_edits prepared.entry.plan) → ClosedBy F.Reader.ReadAt F.honest F.means
         F.faults session.now heard old prepared.exit.0.now edits
         (W.contents out.old) (W.contents out.new) result }
-    ensures leaves { (old : AStore F) (edits : List AnEdit) → Prepares F.honest F.means F.faults old
-        prepared.entry.store.now edits (held_packed prepared.entry.plan)
-        (held_edits prepared.entry.plan) → F.honest → Leaves (F.means (files_of old))
-        (F.means (files_of prepared.exit.0.now))
-        (IsEditStop F.honest F.means F.faults session.now.committer old edits) }
-    ensures lost { (old : AStore F) (edits : List AnEdit) → Prepares F.honest F.means F.faults old
-        prepared.entry.store.now edits (held_packed prepared.entry.plan)
-        (held_edits prepared.entry.plan) → F.honest → HasGoodRecords F.means old →
-        IsAtRest F.means old → Loses (F.means (files_of old))
-        (F.means (files_of prepared.exit.0.now))
-        (IsLossOf F.honest F.means F.faults uses old session.now.committer edits) }
+    ensures leaves { ClosingStops F.honest F.means F.faults session.now.committer
+        prepared.entry.store.now prepared.exit.0.now (held_packed prepared.entry.plan)
+        (held_edits prepared.entry.plan) }
+    ensures lost { ClosingLosses F.honest F.means F.faults session.now.committer
+        prepared.entry.store.now prepared.exit.0.now (held_packed prepared.entry.plan)
+        (held_edits prepared.entry.plan) }
 {
     match heard {
         Closing::Commit => {
@@ -187,17 +171,12 @@ fn close<F: Files, R: BufRead, W: Write>(
         F.means F.faults session.now Closing.Prepare
         (way (R.remaining input.old) (W.contents out.old) old)
         (way (R.remaining input.new) (W.contents out.new) prepared.exit.0.now) edits result }
-    ensures leaves { (old : AStore F) (edits : List AnEdit) → Prepares F.honest F.means F.faults old
-        prepared.entry.store.now edits (held_packed prepared.entry.plan)
-        (held_edits prepared.entry.plan) → F.honest → Leaves (F.means (files_of old))
-        (F.means (files_of prepared.exit.0.now))
-        (IsEditStop F.honest F.means F.faults session.now.committer old edits) }
-    ensures lost { (old : AStore F) (edits : List AnEdit) → Prepares F.honest F.means F.faults old
-        prepared.entry.store.now edits (held_packed prepared.entry.plan)
-        (held_edits prepared.entry.plan) → F.honest → HasGoodRecords F.means old →
-        IsAtRest F.means old → Loses (F.means (files_of old))
-        (F.means (files_of prepared.exit.0.now))
-        (IsLossOf F.honest F.means F.faults uses old session.now.committer edits) }
+    ensures leaves { ClosingStops F.honest F.means F.faults session.now.committer
+        prepared.entry.store.now prepared.exit.0.now (held_packed prepared.entry.plan)
+        (held_edits prepared.entry.plan) }
+    ensures lost { ClosingLosses F.honest F.means F.faults session.now.committer
+        prepared.entry.store.now prepared.exit.0.now (held_packed prepared.entry.plan)
+        (held_edits prepared.entry.plan) }
 {
     match hear_closing(alloc, session, input, out, texts) {
         Ok(heard) => close_by(alloc, session, prepared, heard, out),
@@ -216,19 +195,15 @@ fn commit_at_end<F: Files>(
 ) -> Result<bool, Fatal>
     ensures ends { (input out : Option (List ℕ)) (old : AStore F) (edits : List AnEdit) →
         Prepares F.honest F.means F.faults old prepared.entry.store.now edits
-        (held_packed prepared.entry.plan) (held_edits prepared.entry.plan) → PreparedEnds F.Reader.ReadAt F.honest F.means F.faults session.now Closing.End
+        (held_packed prepared.entry.plan) (held_edits prepared.entry.plan) →
+        PreparedEnds F.Reader.ReadAt F.honest F.means F.faults session.now Closing.End
         (way input out old) (way input out prepared.exit.0.now) edits result }
-    ensures leaves { (old : AStore F) (edits : List AnEdit) → Prepares F.honest F.means F.faults old
-        prepared.entry.store.now edits (held_packed prepared.entry.plan)
-        (held_edits prepared.entry.plan) → F.honest → Leaves (F.means (files_of old))
-        (F.means (files_of prepared.exit.0.now))
-        (IsEditStop F.honest F.means F.faults session.now.committer old edits) }
-    ensures lost { (old : AStore F) (edits : List AnEdit) → Prepares F.honest F.means F.faults old
-        prepared.entry.store.now edits (held_packed prepared.entry.plan)
-        (held_edits prepared.entry.plan) → F.honest → HasGoodRecords F.means old →
-        IsAtRest F.means old → Loses (F.means (files_of old))
-        (F.means (files_of prepared.exit.0.now))
-        (IsLossOf F.honest F.means F.faults uses old session.now.committer edits) }
+    ensures leaves { ClosingStops F.honest F.means F.faults session.now.committer
+        prepared.entry.store.now prepared.exit.0.now (held_packed prepared.entry.plan)
+        (held_edits prepared.entry.plan) }
+    ensures lost { ClosingLosses F.honest F.means F.faults session.now.committer
+        prepared.entry.store.now prepared.exit.0.now (held_packed prepared.entry.plan)
+        (held_edits prepared.entry.plan) }
 {
     match commit(alloc, session, prepared) {
         Ok(()) => Ok(false),
@@ -245,20 +220,16 @@ fn commit_and_answer<F: Files, W: Write>(
 ) -> Result<bool, Fatal>
     ensures ends { (input : Option (List ℕ)) (old : AStore F) (edits : List AnEdit) →
         Prepares F.honest F.means F.faults old prepared.entry.store.now edits
-        (held_packed prepared.entry.plan) (held_edits prepared.entry.plan) → PreparedEnds F.Reader.ReadAt F.honest F.means F.faults session.now Closing.Commit
+        (held_packed prepared.entry.plan) (held_edits prepared.entry.plan) →
+        PreparedEnds F.Reader.ReadAt F.honest F.means F.faults session.now Closing.Commit
         (way input (W.contents out.old) old) (way input (W.contents out.new) prepared.exit.0.now)
         edits result }
-    ensures leaves { (old : AStore F) (edits : List AnEdit) → Prepares F.honest F.means F.faults old
-        prepared.entry.store.now edits (held_packed prepared.entry.plan)
-        (held_edits prepared.entry.plan) → F.honest → Leaves (F.means (files_of old))
-        (F.means (files_of prepared.exit.0.now))
-        (IsEditStop F.honest F.means F.faults session.now.committer old edits) }
-    ensures lost { (old : AStore F) (edits : List AnEdit) → Prepares F.honest F.means F.faults old
-        prepared.entry.store.now edits (held_packed prepared.entry.plan)
-        (held_edits prepared.entry.plan) → F.honest → HasGoodRecords F.means old →
-        IsAtRest F.means old → Loses (F.means (files_of old))
-        (F.means (files_of prepared.exit.0.now))
-        (IsLossOf F.honest F.means F.faults uses old session.now.committer edits) }
+    ensures leaves { ClosingStops F.honest F.means F.faults session.now.committer
+        prepared.entry.store.now prepared.exit.0.now (held_packed prepared.entry.plan)
+        (held_edits prepared.entry.plan) }
+    ensures lost { ClosingLosses F.honest F.means F.faults session.now.committer
+        prepared.entry.store.now prepared.exit.0.now (held_packed prepared.entry.plan)
+        (held_edits prepared.entry.plan) }
 {
     let committed = commit(alloc, session, prepared);
     answer_commit(committed, out)
@@ -277,20 +248,16 @@ fn finish<F: Files, R: BufRead, W: Write>(
     requires { closing ≢ Closing.Abort }
     ensures ends { (old : AStore F) (edits : List AnEdit) → Prepares F.honest F.means F.faults old
         prepared.entry.store.now edits (held_packed prepared.entry.plan)
-        (held_edits prepared.entry.plan) → PreparedEnds F.Reader.ReadAt F.honest F.means F.faults session.now closing
+        (held_edits prepared.entry.plan) →
+        PreparedEnds F.Reader.ReadAt F.honest F.means F.faults session.now closing
         (way (R.remaining input.old) (W.contents out.old) old)
         (way (R.remaining input.new) (W.contents out.new) prepared.exit.0.now) edits result }
-    ensures leaves { (old : AStore F) (edits : List AnEdit) → Prepares F.honest F.means F.faults old
-        prepared.entry.store.now edits (held_packed prepared.entry.plan)
-        (held_edits prepared.entry.plan) → F.honest → Leaves (F.means (files_of old))
-        (F.means (files_of prepared.exit.0.now))
-        (IsEditStop F.honest F.means F.faults session.now.committer old edits) }
-    ensures lost { (old : AStore F) (edits : List AnEdit) → Prepares F.honest F.means F.faults old
-        prepared.entry.store.now edits (held_packed prepared.entry.plan)
-        (held_edits prepared.entry.plan) → F.honest → HasGoodRecords F.means old →
-        IsAtRest F.means old → Loses (F.means (files_of old))
-        (F.means (files_of prepared.exit.0.now))
-        (IsLossOf F.honest F.means F.faults uses old session.now.committer edits) }
+    ensures leaves { ClosingStops F.honest F.means F.faults session.now.committer
+        prepared.entry.store.now prepared.exit.0.now (held_packed prepared.entry.plan)
+        (held_edits prepared.entry.plan) }
+    ensures lost { ClosingLosses F.honest F.means F.faults session.now.committer
+        prepared.entry.store.now prepared.exit.0.now (held_packed prepared.entry.plan)
+        (held_edits prepared.entry.plan) }
 {
     match closing {
         Closing::Prepare => close(alloc, session, prepared, input, out, texts),
