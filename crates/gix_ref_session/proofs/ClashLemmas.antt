@@ -32,7 +32,7 @@ use Rattle.gix_ref_store.specs.declared.file.store.Store.{Store}
 use Rattle.gix_ref_target.specs.PackedRecords.{Record}
 use Rattle.gix_ref_target.specs.Targets.{TargetValue}
 use Rattle.gix_ref_theory.specs.OnRealTrees.{view_of}
-use Rattle.gix_ref_session.specs.Clashes.{IsBelowTaken, IsClash, IsClashFailure, IsClearEdit, IsClearName, IsEditFailure, IsEditUnread, IsFailedLook, IsFindFailure, IsFolderAt, IsFolderUnread, IsHeadUnread, IsInTheWay, IsListFailure, IsLookFailure, IsNameFailure, IsNotListed, IsOwnUnread, IsTaken, IsTakenAt, IsUnlisted, ListsNone, ListsOne, Makes, front_below, made_name, missing_last, missing_own}
+use Rattle.gix_ref_session.specs.Clashes.{HasFreeFolders, IsClash, IsClashFailure, IsClearEdit, IsClearName, IsEditFailure, IsEditUnread, IsFailedLook, IsFindFailure, IsFolderAt, IsFolderUnread, IsHeadUnread, IsInTheWay, IsListFailure, IsLookFailure, IsNameFailure, IsNotListed, IsOwnUnread, IsTaken, IsTakenAt, IsUnlisted, ListsNone, ListsOne, Makes, front_below, made_name, missing_last, missing_own}
 use Rattle.gix_ref_session.specs.declared.fatal.Fatal.{Fatal}
 use Rattle.gix_ref_session.specs.declared.fatal.Fatal.TheVariants as fatals
 use Rattle.gix_ref_session.proofs.FolderLemmas.{taken_here}
@@ -126,7 +126,7 @@ taken_by find edits name (Ok b) not is = (
 -- whether the folder that ends at a place is taken
 pub folder_by : (find : TargetsByName) (edits : List RefEdit) (name : List ℕ) (at : ℕ) (f : List ℕ) (r : Result Bool Fatal) → IsFolderAt at f name → IfOk r (λ taken. Decides taken (IsTaken find edits f)) → IfOk r (λ taken. Decides taken (IsTakenAt find edits at name))
 folder_by find edits name at f (Err fatal) is taken = tt
-folder_by find edits name at f (Ok b) is taken = taken_here (IsTaken find edits) name at f b is taken
+folder_by find edits name at f (Ok b) is taken = taken_here find edits name at f b is taken
 
 -- one element more
 pub all_more : {X : Type 0} (P : X → Type 0) (xs : List X) (x : X) → AllByRecursion P xs → P x → AllByRecursion P (xs ++ x ∷ [])
@@ -193,9 +193,16 @@ module _ {F : Type 0} (honest : Type 0) (means : F → Meaning) (old mid : Store
   pub taken_after : (records : List Record) (edits : List RefEdit) (name : List ℕ) → honest → IsTaken (targets_in means old records) edits name → IsTaken (targets_in means mid records) edits name
   taken_after records edits name h taken = subst (λ (find : TargetsByName). IsTaken find edits name) (sym (same_finds honest means old mid records looked h)) taken
 
+  -- folders that are free are so after a look
+  pub free_after : (records : List Record) (edits : List RefEdit) (name : List ℕ) → honest → HasFreeFolders (targets_in means old records) edits name → HasFreeFolders (targets_in means mid records) edits name
+  free_after records edits name h free folder of taken = free folder of (taken_before records edits folder h taken)
+
+  pub free_before : (records : List Record) (edits : List RefEdit) (name : List ℕ) → honest → HasFreeFolders (targets_in means mid records) edits name → HasFreeFolders (targets_in means old records) edits name
+  free_before records edits name h free folder of taken = free folder of (taken_after records edits folder h taken)
+
   pub clear_before : (records : List Record) (edits : List RefEdit) (name : List ℕ) → honest → IsClearName (targets_in means mid records) edits (ListsNone honest means mid records) name → IsClearName (targets_in means old records) edits (ListsNone honest means old records) name
   clear_before records edits name h clear = record {
-    folders = λ folder of taken. clear.folders folder of (taken_after records edits folder h taken);
+    folders = free_before records edits name h clear.folders;
     below = lists_before records (front_below name) [] h clear.below;
   }
 
@@ -225,16 +232,27 @@ module _ {F : Type 0} (honest : Type 0) (means : F → Meaning) (old mid : Store
     way_before records edits name h (inl (folder, of, taken)) = inl (folder, of, taken_before records edits folder h taken)
     way_before records edits name h (inr l) = inr (lists_one_before records (front_below name) h l)
 
-    -- whether a name, of which no folder is taken, is in the way
-    pub way_by : (records : List Record) (edits : List RefEdit) (name : List ℕ) (r : Result Bool Fatal) → honest → (IsBelowTaken (targets_in means old records) edits name → ⊥) →
+    -- a name below which one is listed is in the way
+    pub way_found : (records : List Record) (edits : List RefEdit) (name : List ℕ) (r : Result Bool Fatal) → honest →
         IfOk r (λ any. MatchBool any (ListsOne honest means faults mid records (front_below name)) (ListsNone honest means mid records (front_below name))) →
-        IfOk r (λ clashes. MatchBool clashes (IsInTheWay honest means faults old edits records name) (IsClearName (targets_in means old records) edits (ListsNone honest means old records) name))
-    way_by records edits name (Ok true) h not l = inr (lists_one_before records (front_below name) h l)
-    way_by records edits name (Ok false) h not l = record {
-      folders = λ folder of taken. not (folder, of, taken);
-      below = lists_before records (front_below name) [] h l;
-    }
-    way_by records edits name (Err fatal) h not l = tt
+        IfOk r (λ clashes. clashes ≡ true → IsInTheWay honest means faults old edits records name)
+    way_found records edits name (Ok true) h l = λ _. inr (lists_one_before records (front_below name) h l)
+    way_found records edits name (Ok false) h l = λ is. no is
+      where
+        no : false ≡ true → IsInTheWay honest means faults old edits records name
+        no is = cc
+    way_found records edits name (Err fatal) h l = tt
+
+    -- one below which none is listed is clear, where its folders are free
+    pub clear_found : (records : List Record) (edits : List RefEdit) (name : List ℕ) (r : Result Bool Fatal) → honest → HasFreeFolders (targets_in means old records) edits name →
+        IfOk r (λ any. MatchBool any (ListsOne honest means faults mid records (front_below name)) (ListsNone honest means mid records (front_below name))) →
+        IfOk r (λ clashes. clashes ≡ false → IsClearName (targets_in means old records) edits (ListsNone honest means old records) name)
+    clear_found records edits name (Ok true) h free l = λ is. no is
+      where
+        no : true ≡ false → IsClearName (targets_in means old records) edits (ListsNone honest means old records) name
+        no is = cc
+    clear_found records edits name (Ok false) h free l = λ _. record { folders = free; below = lists_before records (front_below name) [] h l }
+    clear_found records edits name (Err fatal) h free l = tt
 
     clash_before : (edits : List RefEdit) (name : List ℕ) (edit : RefEdit) → IsClash honest means faults mid edits name edit → IsClash honest means faults old edits name edit
     clash_before edits name edit clash = record {

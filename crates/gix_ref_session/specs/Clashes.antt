@@ -1,5 +1,5 @@
 -- Names that are in one another's way: of `refs/heads/a` and `refs/heads/a/b` only one may exist (`git update-ref`).
-use Rattle.std.specs.Prelude.{◌≡◌, ◌⊎◌, ℕ, List, [], ◌∷◌, ◌++◌, length, map, codes, Bool, true, if◌then◌else◌, Option, Some, None, is_some, IfSome, IsSome}
+use Rattle.std.specs.Prelude.{◌≡◌, ◌<◌, ◌⊎◌, ℕ, List, [], ◌∷◌, ◌++◌, length, map, codes, Bool, true, if◌then◌else◌, Option, Some, None, is_some, IfSome, IsSome}
 use Rattle.std.specs.Cmp.Lexicographic.{slice_cmp}
 use Rattle.std.specs.List.{AllByRecursion, Any, Contains}
 use Rattle.std.specs.List.Sorted.{IsPermutation, IsSorted}
@@ -94,9 +94,18 @@ module _ (find : TargetsByName) (edits : List RefEdit) where
   abbrev pub IsBelowTaken : (name : List ℕ) → Type 0
   IsBelowTaken name = (folder : List ℕ) × IsFolderOf folder name × IsTaken folder
 
+  -- none that ends before this place is
+  abbrev pub IsFreeBefore : (at : ℕ) → (name : List ℕ) → Type 0
+  IsFreeBefore at name = (folder : List ℕ) → IsFolderOf folder name → length folder < at →
+      IsTaken folder → ⊥
+
+  -- no folder of a name is taken
+  abbrev pub HasFreeFolders : (name : List ℕ) → Type 0
+  HasFreeFolders name = (folder : List ℕ) → IsFolderOf folder name → IsTaken folder → ⊥
+
   -- no other name is in the way of this one
   pub record IsClearName (ListsNone : (prefix : List ℕ) → Type 0) (name : List ℕ) : Type 0 where
-    pub folders : (folder : List ℕ) → IsFolderOf folder name → IsTaken folder → ⊥
+    pub folders : HasFreeFolders name
     pub below : ListsNone (front_below name)
 
   -- nor of the name that an edit makes

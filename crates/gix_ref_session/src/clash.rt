@@ -1,6 +1,6 @@
 //! Names that are in one another's way: of `refs/heads/a` and `refs/heads/a/b` only one may exist (`git update-ref`).
 
-ghost use Rattle.std.specs.Prelude.{◌≡◌, ◌⊎◌, ℕ, List, map, Decides, IfErr, IfOk, MatchBool, MatchOption, OnOk, is_some};
+ghost use Rattle.std.specs.Prelude.{◌≡◌, ◌<◌, ◌⊎◌, ℕ, List, length, map, Bool, true, false, Decides, IfErr, IfOk, MatchBool, MatchOption, OnOk, is_some};
 ghost use Rattle.std.specs.List.{Contains};
 ghost use Rattle.std.specs.Option.{option_map};
 ghost use Rattle.gix_ref_edits.specs.RefEdits.{expected_of, matched, name_of};
@@ -11,7 +11,7 @@ ghost use Rattle.gix_ref_store.specs.Listings.{AreHeldFor, IsWalkedIn, walked_pr
 ghost use Rattle.gix_ref_store.specs.Lookup.{AreRecordsIn, LooksUp};
 ghost use Rattle.gix_ref_store.specs.declared.file.store.Store.{Store as AStore};
 ghost use Rattle.gix_ref_target.specs.PackedRecords.{Record};
-ghost use Rattle.gix_ref_session.specs.Clashes.{AreClear, AreNamesOf, IsBelowTaken, IsClashFailure, IsClearEdit, IsClearName, IsEditFailure, IsFindFailure, IsFolderAt, IsFolderUnread, IsInTheWay, IsListFailure, IsNameFailure, IsOwnUnread, IsTaken, IsTakenAt, ListsNone, ListsOne, front_below, made_name, missing_last};
+ghost use Rattle.gix_ref_session.specs.Clashes.{AreClear, AreNamesOf, HasFreeFolders, IsBelowTaken, IsClashFailure, IsClearEdit, IsClearName, IsEditFailure, IsFindFailure, IsFreeBefore, IsFolderAt, IsFolderOf, IsFolderUnread, IsInTheWay, IsListFailure, IsNameFailure, IsOwnUnread, IsTaken, IsTakenAt, ListsNone, ListsOne, front_below, made_name, missing_last};
 ghost use Rattle.gix_ref_session.specs.declared.fatal.Fatal.TheVariants.{Memory};
 
 use crate::fatal::Fatal;
@@ -174,24 +174,43 @@ fn is_folder_taken<F: Files>(
     }
 }
 
-/// Whether a folder of the name is a reference, or has an edit.
+/// The number of bytes that a name begins with as another does. A folder that ends before is one of both.
+fn shared(name: &[u8], other: &[u8]) -> usize
+    ensures { (folder : List ℕ) → IsFolderOf folder name.now → length folder < result →
+        IsFolderOf folder other.now }
+{
+    for at in 0..name.len() {
+        if at >= other.len() || name[at] != other[at] {
+            return at;
+        }
+    }
+    name.len()
+}
+
+/// Whether a folder of the name is a reference, or has an edit. Those that end before `from` are known to be free, and not looked for.
 #[tactic(auto, using(crate::proofs::Looking::looks_on, crate::proofs::Looking::looks_same))]
 fn is_below_one<F: Files>(
     alloc: Global,
     store: &mut Store<F>,
     name: &[u8],
+    from: usize,
     edited: &[&[u8]],
 ) -> Result<bool, Fatal>
     ensures below { F.honest → (records : List Record) → AreRecordsIn F.means store.old records →
         (edits : List AnEdit) → AreNamesOf edits edited.now → IfOk result
-        (λ below. Decides below
-        (IsBelowTaken (targets_in F.means store.old records) edits name.now)) }
+        (λ below. below ≡ true →
+        IsBelowTaken (targets_in F.means store.old records) edits name.now) }
+    ensures free { F.honest → (records : List Record) → AreRecordsIn F.means store.old records →
+        (edits : List AnEdit) → AreNamesOf edits edited.now →
+        IsFreeBefore (targets_in F.means store.old records) edits from name.now → IfOk result
+        (λ below. below ≡ false →
+        HasFreeFolders (targets_in F.means store.old records) edits name.now) }
     ensures unchanged { LooksUp F.honest F.means store.old store.new }
     ensures fails { IfErr result
         (IsFindFailure (IsFolderUnread F.honest F.means F.faults F.Reader.ReadAt store.old
         name.now)) }
 {
-    for at in 0..name.len() {
+    for at in from..name.len() {
         if is_folder_taken(alloc, store, name, at, edited)? {
             return Ok(true);
         }
@@ -257,55 +276,68 @@ fn prefix_below(alloc: Global, name: &FullName) -> Result<Vec<u8>, AllocError>
     Ok(prefix)
 }
 
-/// Whether a name is in the way of another.
+/// Whether a name is in the way of another. The folders of `last` are known to be free.
 #[tactic(auto, using(crate::proofs::Looking::looks_on, crate::proofs::Looking::looks_same))]
 fn is_in_the_way<F: Files>(
     alloc: Global,
     store: &mut Store<F>,
     name: &FullName,
+    last: &[u8],
     edited: &[&[u8]],
 ) -> Result<bool, Fatal>
     ensures clashes { F.honest → (records : List Record) → AreRecordsIn F.means store.old records →
         (edits : List AnEdit) → AreNamesOf edits edited.now → IfOk result
-        (λ clashes. MatchBool clashes
-        (IsInTheWay F.honest F.means F.faults store.old edits records (full_bytes name.now))
-        (IsClearName (targets_in F.means store.old records) edits
-        (ListsNone F.honest F.means store.old records) (full_bytes name.now))) }
+        (λ clashes. clashes ≡ true →
+        IsInTheWay F.honest F.means F.faults store.old edits records (full_bytes name.now)) }
+    ensures clear { F.honest → (records : List Record) → AreRecordsIn F.means store.old records →
+        (edits : List AnEdit) → AreNamesOf edits edited.now →
+        HasFreeFolders (targets_in F.means store.old records) edits last.now → IfOk result
+        (λ clashes. clashes ≡ false →
+        IsClearName (targets_in F.means store.old records) edits
+        (ListsNone F.honest F.means store.old records) (full_bytes name.now)) }
     ensures unchanged { LooksUp F.honest F.means store.old store.new }
     ensures fails { IfErr result
         (IsNameFailure F.honest F.means F.faults F.Reader.ReadAt store.old
         (full_bytes name.now)) }
 {
-    if is_below_one(alloc, store, name.to_path(), edited)? {
+    let path = name.to_path();
+    if is_below_one(alloc, store, path, shared(path, last), edited)? {
         return Ok(true);
     }
     let prefix = prefix_below(alloc, name)?;
     has_below(alloc, store, &prefix)
 }
 
-/// Refuses an edit that makes a reference with a name in the way of another, or another in its way.
+/// Refuses an edit that makes a reference with a name in the way of another, or another in its way. Gives the name that it makes, or
+/// `last` where it makes none: a name whose folders are free.
 #[tactic(auto, using(crate::proofs::Looking::looks_on, crate::proofs::Looking::looks_same))]
 fn check_name<F: Files>(
     alloc: Global,
     store: &mut Store<F>,
     edit: &RefEdit,
+    last: Vec<u8>,
     edited: &[&[u8]],
-) -> Result<(), Fatal>
+) -> Result<Vec<u8>, Fatal>
     ensures clear { F.honest → (records : List Record) → AreRecordsIn F.means store.old records →
-        (edits : List AnEdit) → AreNamesOf edits edited.now → OnOk result
+        (edits : List AnEdit) → AreNamesOf edits edited.now →
+        HasFreeFolders (targets_in F.means store.old records) edits last.items → OnOk result
         (IsClearEdit (targets_in F.means store.old records) edits
         (ListsNone F.honest F.means store.old records) edit.now) }
+    ensures free { F.honest → (records : List Record) → AreRecordsIn F.means store.old records →
+        (edits : List AnEdit) → AreNamesOf edits edited.now →
+        HasFreeFolders (targets_in F.means store.old records) edits last.items → IfOk result
+        (λ name. HasFreeFolders (targets_in F.means store.old records) edits name.items) }
     ensures unchanged { LooksUp F.honest F.means store.old store.new }
     ensures fails { (edits : List AnEdit) → AreNamesOf edits edited.now → IfErr result
         (IsEditFailure F.honest F.means F.faults F.Reader.ReadAt store.old edits edit.now) }
 {
     let Some(name) = missing_name(alloc, store, edit)? else {
-        return Ok(());
+        return Ok(last);
     };
-    if is_in_the_way(alloc, store, &name, edited)? {
+    if is_in_the_way(alloc, store, &name, &last, edited)? {
         return Err(Fatal::Clash(name));
     }
-    Ok(())
+    Ok(name.into_inner())
 }
 
 /// The names of edits, sorted.
@@ -333,8 +365,9 @@ pub(crate) fn check_names<F: Files>(
         (IsClashFailure F.honest F.means F.faults F.Reader.ReadAt store.old edits.now) }
 {
     let edited = names_of(alloc, edits)?;
+    let mut last = Vec::new(alloc);
     for edit in edits {
-        check_name(alloc, store, edit, &edited)?;
+        last = check_name(alloc, store, edit, last, &edited)?;
     }
     Ok(())
 }

@@ -1,11 +1,11 @@
-use Rattle.std.proofs.Common.{◌∙◌, ap, sym, subst, Bool, List, ℕ, Option}
+use Rattle.std.proofs.Common.{◌∙◌, ap, sym, subst, List, ℕ, Option}
 use Rattle.std.specs.Option.{option_map}
-use Rattle.std.specs.Prelude.{IfSome, MatchBool}
+use Rattle.std.specs.Prelude.{IfSome}
 use Rattle.gix_ref_name.specs.Names.{full_bytes}
 use Rattle.gix_ref_queries.specs.Resolving.{targets_in}
 use Rattle.gix_ref_queries.proofs.Names.{same_records}
-use Rattle.gix_ref_session.specs.Clashes.{IsClearName, IsEditFailure, IsInTheWay, ListsNone}
-use Rattle.gix_ref_session.proofs.ClashLemmas.{clear_before, name_edit_before, own_edit, told, way_before}
+use Rattle.gix_ref_session.specs.Clashes.{HasFreeFolders, IsClearName, IsEditFailure, ListsNone}
+use Rattle.gix_ref_session.proofs.ClashLemmas.{clear_before, free_after, name_edit_before, own_edit, told, way_before}
 use Rattle.gix_ref_session.proofs.clash.check_name.Goals as goal
 
 pub returns-in_err-is_in_the_way-clause-fails : goal.returns-in_err-is_in_the_way-clause-fails
@@ -25,26 +25,34 @@ returns-then-branch-clause-fails g c edits names =
     let old = c.args.store.now in
     let mid = c.missing_name.new.store in
     let looked = c.missing_name.ensures.unchanged in
-    let name = full_bytes c.in-Some.name in
     record {
       makes = λ h records are. sym (c.in_ok-name.ensures.makes h records are) ∙ ap (option_map full_bytes) c.in-Some.is;
       in_the_way = λ h records are.
-          way_before F.honest F.means old mid looked F.faults records edits name h
-          (subst (λ (b : Bool). MatchBool b (IsInTheWay F.honest F.means F.faults mid edits records name) (IsClearName (targets_in F.means mid records) edits (ListsNone F.honest F.means mid records) name)) c.if-branch.true
-          (c.in_ok-is_in_the_way.ensures.clashes h records (same_records F.honest F.means old mid records looked h are) edits names));
+          way_before F.honest F.means old mid looked F.faults records edits (full_bytes c.in-Some.name) h
+          (c.in_ok-is_in_the_way.ensures.clashes h records (same_records F.honest F.means old mid records looked h are) edits names c.if-branch.true);
     }
 
 pub returns-clause-clear : goal.returns-clause-clear
-returns-clause-clear g c h records are edits names =
+returns-clause-clear g c h records are edits names free =
     let F = g.F.Files in
     let old = c.args.store.now in
     let mid = c.missing_name.new.store in
     let looked = c.missing_name.ensures.unchanged in
-    let name = full_bytes c.in-Some.name in
+    let last = subst (λ (n : List ℕ). HasFreeFolders (targets_in F.means mid records) edits n) (sym c.deref.ensures.value) (free_after F.honest F.means old mid looked records edits c.args.last.items h free) in
     subst (λ (made : Option (List ℕ)). IfSome made (IsClearName (targets_in F.means old records) edits (ListsNone F.honest F.means old records))) (sym (sym (c.in_ok-name.ensures.makes h records are) ∙ ap (option_map full_bytes) c.in-Some.is))
-    (clear_before F.honest F.means old mid looked records edits name h
-    (subst (λ (b : Bool). MatchBool b (IsInTheWay F.honest F.means F.faults mid edits records name) (IsClearName (targets_in F.means mid records) edits (ListsNone F.honest F.means mid records) name)) c.if-branch.false
-    (c.in_ok-is_in_the_way.ensures.clashes h records (same_records F.honest F.means old mid records looked h are) edits names)))
+    (clear_before F.honest F.means old mid looked records edits (full_bytes c.in-Some.name) h
+    (c.in_ok-is_in_the_way.ensures.clear h records (same_records F.honest F.means old mid records looked h are) edits names last c.if-branch.false))
+
+pub returns-clause-free : goal.returns-clause-free
+returns-clause-free g c h records are edits names free =
+    let F = g.F.Files in
+    let old = c.args.store.now in
+    let mid = c.missing_name.new.store in
+    let looked = c.missing_name.ensures.unchanged in
+    let last = subst (λ (n : List ℕ). HasFreeFolders (targets_in F.means mid records) edits n) (sym c.deref.ensures.value) (free_after F.honest F.means old mid looked records edits c.args.last.items h free) in
+    subst (λ (n : List ℕ). HasFreeFolders (targets_in F.means old records) edits n) (sym c.into_inner.ensures)
+    (clear_before F.honest F.means old mid looked records edits (full_bytes c.in-Some.name) h
+    (c.in_ok-is_in_the_way.ensures.clear h records (same_records F.honest F.means old mid records looked h are) edits names last c.if-branch.false)).folders
 
 pub returns-in_err-name-clause-fails : goal.returns-in_err-name-clause-fails
 returns-in_err-name-clause-fails g c edits names =

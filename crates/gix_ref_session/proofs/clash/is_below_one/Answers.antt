@@ -1,7 +1,7 @@
 use Rattle.gix_ref_queries.specs.Resolving.{targets_in}
 use Rattle.gix_ref_queries.proofs.Names.{same_records}
-use Rattle.gix_ref_session.specs.Clashes.{IsBelowTaken, IsFindFailure, IsFolderUnread, IsTaken, IsTakenAt}
-use Rattle.gix_ref_session.proofs.ClashLemmas.{fails, find_map, folder_still, holds, not_when, taken_after, taken_before, told}
+use Rattle.gix_ref_session.specs.Clashes.{IsFindFailure, IsFolderUnread, IsTakenAt}
+use Rattle.gix_ref_session.proofs.ClashLemmas.{find_map, folder_still, not_when, taken_after, taken_before, told}
 use Rattle.gix_ref_session.proofs.FolderLemmas.{none_at_all, none_here}
 use Rattle.gix_ref_session.proofs.Looking.{looks_on}
 use Rattle.gix_ref_session.proofs.clash.is_below_one.Goals as goal
@@ -16,27 +16,24 @@ loop-at-preserved g c =
     let looked = c.loop-at.invariant.looked in
     record {
       looked = looks_on F.honest F.means first mid c.is_folder_taken.new.store looked c.is_folder_taken.ensures.unchanged;
-      none = λ h records are edits names.
-          none_here (IsTaken (targets_in F.means first records) edits) name at (c.loop-at.invariant.none h records are edits names)
+      none = λ h records are edits names free.
+          none_here (targets_in F.means first records) edits name at (c.loop-at.invariant.none h records are edits names free)
           (λ has. not_when c.in_ok-is_folder_taken.field-0 (IsTakenAt (targets_in F.means mid records) edits at name) (c.in_ok-is_folder_taken.ensures.taken h records (same_records F.honest F.means first mid records looked h are) edits names) c.if-branch.false
           (has.0, has.1, taken_after F.honest F.means first mid looked records edits has.0 h has.2));
     }
 
 pub returns-then-branch-clause-below : goal.returns-then-branch-clause-below
-returns-then-branch-clause-below g c h records are edits names =
+returns-then-branch-clause-below g c h records are edits names is =
     let F = g.F.Files in
     let first = c.args.store.now in
     let mid = c.loop-at.store in
     let looked = c.loop-at.invariant.looked in
     let has = (c.in_ok-is_folder_taken.ensures.taken h records (same_records F.honest F.means first mid records looked h are) edits names).0 c.if-branch.true in
-    holds (IsBelowTaken (targets_in F.means first records) edits c.args.name.now) (has.0, has.1.0, taken_before F.honest F.means first mid looked records edits has.0 h has.2)
+    (has.0, has.1.0, taken_before F.honest F.means first mid looked records edits has.0 h has.2)
 
-pub returns-clause-below : goal.returns-clause-below
-returns-clause-below g c h records are edits names =
-    let F = g.F.Files in
-    let find = targets_in F.means c.args.store.now records in
-    fails (IsBelowTaken find edits c.args.name.now)
-    (λ has. none_at_all (IsTaken find edits) c.args.name.now c.loop-at.at c.loop-at-test.false (c.loop-at.invariant.none h records are edits names) has.0 has.1 has.2)
+pub returns-clause-free : goal.returns-clause-free
+returns-clause-free g c h records are edits names free is =
+    none_at_all (targets_in g.F.Files.means c.args.store.now records) edits c.args.name.now c.loop-at.at c.loop-at-test.false (c.loop-at.invariant.none h records are edits names free)
 
 pub returns-in_err-is_folder_taken-clause-fails : goal.returns-in_err-is_folder_taken-clause-fails
 returns-in_err-is_folder_taken-clause-fails g c =

@@ -1,16 +1,16 @@
-use Rattle.std.proofs.Common.{◌∙◌, inl, sym, subst, IfOk, List, ℕ}
+use Rattle.std.proofs.Common.{◌∙◌, inl, subst, IfOk, List, ℕ}
 use Rattle.std.specs.Prelude.{IfErr, MatchBool}
 use Rattle.gix_ref_name.specs.Names.{full_bytes}
 use Rattle.gix_ref_queries.specs.Resolving.{targets_in}
 use Rattle.gix_ref_queries.proofs.Names.{same_records}
-use Rattle.gix_ref_session.specs.Clashes.{IsBelowTaken, IsListFailure, IsNameFailure, ListsNone, ListsOne, front_below}
-use Rattle.gix_ref_session.proofs.ClashLemmas.{err_map, folder_name, list_name_before, not_when, told, way_by}
+use Rattle.gix_ref_session.specs.Clashes.{HasFreeFolders, IsBelowTaken, IsListFailure, IsNameFailure, ListsNone, ListsOne, front_below}
+use Rattle.gix_ref_session.proofs.ClashLemmas.{err_map, folder_name, clear_found, list_name_before, told, way_found}
 use Rattle.gix_ref_session.proofs.clash.is_in_the_way.Goals as goal
 
 pub returns-then-branch-clause-clashes : goal.returns-then-branch-clause-clashes
-returns-then-branch-clause-clashes g c h records are edits names =
+returns-then-branch-clause-clashes g c h records are edits names is =
     let find = targets_in g.F.Files.means c.args.store.now records in
-    inl (subst (λ (name : List ℕ). IsBelowTaken find edits name) c.to_path.ensures.bytes ((c.in_ok-is_below_one.ensures.below h records are edits names).0 c.if-branch.true))
+    inl (subst (λ (name : List ℕ). IsBelowTaken find edits name) c.to_path-path.ensures.bytes (c.in_ok-is_below_one.ensures.below h records are edits names c.if-branch.true))
 
 pub returns-clause-clashes : goal.returns-clause-clashes
 returns-clause-clashes g c h records are edits names =
@@ -18,11 +18,19 @@ returns-clause-clashes g c h records are edits names =
     let old = c.args.store.now in
     let mid = c.is_below_one.new.store in
     let looked = c.is_below_one.ensures.unchanged in
-    let find = targets_in F.means old records in
-    let name = full_bytes c.args.name.now in
-    way_by F.honest F.means old mid looked F.faults records edits name c.has_below.result h
-    (λ has. not_when c.in_ok-is_below_one.field-0 (IsBelowTaken find edits c.to_path.result.now) (c.in_ok-is_below_one.ensures.below h records are edits names) c.if-branch.false
-    (subst (λ (n : List ℕ). IsBelowTaken find edits n) (sym c.to_path.ensures.bytes) has))
+    way_found F.honest F.means old mid looked F.faults records edits (full_bytes c.args.name.now) c.has_below.result h
+    (subst (λ (p : List ℕ). IfOk c.has_below.result (λ any. MatchBool any (ListsOne F.honest F.means F.faults mid records p) (ListsNone F.honest F.means mid records p))) (c.deref.ensures.value ∙ c.in_ok-prefix.ensures)
+    (c.has_below.ensures.lists h records (same_records F.honest F.means old mid records looked h are)))
+
+pub returns-clause-clear : goal.returns-clause-clear
+returns-clause-clear g c h records are edits names free =
+    let F = g.F.Files in
+    let old = c.args.store.now in
+    let mid = c.is_below_one.new.store in
+    let looked = c.is_below_one.ensures.unchanged in
+    clear_found F.honest F.means old mid looked F.faults records edits (full_bytes c.args.name.now) c.has_below.result h
+    (subst (λ (name : List ℕ). HasFreeFolders (targets_in F.means old records) edits name) c.to_path-path.ensures.bytes
+    (c.in_ok-is_below_one.ensures.free h records are edits names (λ folder of lt. free folder (c.shared.ensures folder of lt)) c.if-branch.false))
     (subst (λ (p : List ℕ). IfOk c.has_below.result (λ any. MatchBool any (ListsOne F.honest F.means F.faults mid records p) (ListsNone F.honest F.means mid records p))) (c.deref.ensures.value ∙ c.in_ok-prefix.ensures)
     (c.has_below.ensures.lists h records (same_records F.honest F.means old mid records looked h are)))
 
@@ -45,4 +53,4 @@ returns-in_err-is_below_one-clause-fails g c =
     let name = full_bytes c.args.name.now in
     let fatal = c.in_err-is_below_one.field-0.0 in
     told c.from_residual.result fatal (IsNameFailure F.honest F.means F.faults G old name) c.from_residual.ensures.1
-    (folder_name G F.honest F.means F.faults old name c.to_path.result.now fatal c.to_path.ensures.bytes c.in_err-is_below_one.ensures.fails)
+    (folder_name G F.honest F.means F.faults old name c.to_path-path.result.now fatal c.to_path-path.ensures.bytes c.in_err-is_below_one.ensures.fails)

@@ -1,4 +1,4 @@
-use Rattle.std.proofs.Common.{◌≡◌, ◌∷◌, [], List, ℕ, Option, Bor, MatchOption, refl, sym, ◌∙◌, subst}
+use Rattle.std.proofs.Common.{◌∷◌, List, ℕ, Option, Bor, MatchOption, refl, sym, ◌∙◌, subst}
 use Rattle.gix_ref_session.specs.Commands.{texts}
 use Rattle.gix_ref_session.specs.Words.{AreOptions, IsRead, IsUnreadable, IsValued, options_in}
 use Rattle.gix_ref_session.specs.declared.words.Line.{Line}

@@ -1,6 +1,6 @@
-use Rattle.std.proofs.Common.{◌≡◌, List, ℕ, length}
+use Rattle.std.proofs.Common.{List, ℕ, length}
 use Rattle.gix_ref_session.specs.Commands.{texts}
-use Rattle.gix_ref_session.specs.Words.{AreOptions, Options, no_options, options_in}
+use Rattle.gix_ref_session.specs.Words.{AreOptions, Options, options_in}
 use Rattle.gix_ref_session.proofs.WordLemmas.{AfterFirst, IsFirst}
 use Rattle.gix_ref_session.proofs.words.parse.Given as goal
 
