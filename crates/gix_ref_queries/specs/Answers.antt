@@ -1,9 +1,11 @@
 -- What a command answers.
-use Rattle.std.specs.Prelude.{◌≡◌, ◌⊎◌, ℕ, List, [], ◌++◌, Vec, codes, Bool, true, false, if◌then◌else◌, bytes_eq, nat_eq, ◌||◌, ◌&&◌, is_none}
+use Rattle.std.specs.Prelude.{◌≡◌, ◌≢◌, ◌⊎◌, ℕ, List, [], ◌++◌, Vec, codes, Bool, true, false, if◌then◌else◌, bytes_eq, nat_eq, ◌||◌, ◌&&◌, is_none}
 use Rattle.gix_ref_name.specs.NameGrammar.{full_error, partial_error}
 use Rattle.std.specs.List.{flat_map, starts_with}
 use Rattle.std.specs.declared.alloc.Global.{Global}
-use Rattle.gix_ref_files.specs.Files.{FaultCounts, Meaning}
+use Rattle.gix_ref_files.specs.Files.{FaultCounts, IsMet, Meaning}
+use Rattle.gix_ref_files.specs.declared.files.FileError.{FileError}
+use Rattle.gix_ref_files.specs.declared.files.FileError.TheVariants as faulty
 use Rattle.gix_ref_files.specs.declared.files.ReadAt.{Ghosts}
 use Rattle.gix_ref_locks.specs.LockFiles.{IsLockFailure}
 use Rattle.gix_ref_locks.specs.Removals.{StopsAt}
@@ -12,7 +14,9 @@ use Rattle.gix_ref_locks.specs.declared.locks.Error.TheVariants as unlisted
 use Rattle.gix_ref_store.specs.Lookup.{settings_of}
 use Rattle.gix_ref_store.specs.Locks.{AreLocks, AreRemoved}
 use Rattle.gix_ref_files.specs.Tree.{is_file}
+use Rattle.gix_ref_lookup.specs.Reflogs.{count_by}
 use Rattle.gix_ref_lookup.specs.declared.reflog.error.Error.{Error as LogError}
+use Rattle.gix_ref_lookup.specs.declared.reflog.error.Error.TheVariants as unlogged
 use Rattle.gix_ref_store.specs.Reflogs.{reflog_at, IsNoReflog}
 use Rattle.gix_ref_store.specs.Store.{files_of, meaning_of}
 use Rattle.gix_ref_store.specs.declared.file.store.Store.{Store}
@@ -128,7 +132,7 @@ module _ {F : Type 0} (means : F → Meaning) (faults : F → FaultCounts) where
       × Says (path_lines paths) 0 answer) ⊎ IsUnlisted old new answer
 
   -- `locks --remove`: a line for each lock file, all of which were removed; or why they are not listed, and then none was removed; or
-  -- a line for each that was removed before one that could not be
+  -- a line for each that was removed before one that could not be, by a fault that was counted
   abbrev pub RemovesAnswer : (honest : Type 0) → (old new : Store F) → Answer → Type 0
   RemovesAnswer honest old new answer =
       ((paths : List (Vec ℕ Global)) × (honest → AreRemoved means old new paths)
@@ -137,15 +141,23 @@ module _ {F : Type 0} (means : F → Meaning) (faults : F → FaultCounts) where
       × (honest → (means (files_of new)).tree ≡ (means (files_of old)).tree))
       ⊎ ((removed : List (Vec ℕ Global)) × (path : Vec ℕ Global)
       × (honest → StopsAt (meaning_of old) (means (files_of old)).tree (means (files_of new)).tree
-      removed path) × FailsAfter (path_lines removed)
+      removed path) × ((error : FileError) × (error ≢ faulty.Memory)
+      × IsMet error (faults (files_of old)) (faults (files_of new)))
+      × FailsAfter (path_lines removed)
       (codes "cannot remove '" ++ (path.items ++ codes "'")) answer))
 
+  -- why a log is not looked at: its path is prohibited, or by a fault that was counted; want of memory has no answer
+  abbrev pub IsNotLookedAt : (old new : Store F) → (name : List ℕ) → Type 0
+  IsNotLookedAt old new name = (error : LogError) × (error ≢ unlogged.Memory)
+      × IsNoReflog old name error
+      × (faults (files_of new) ≡ count_by error (faults (files_of old)))
+
   -- `reflog exists`: whether there is a log; or the name is no valid one; or the log is not looked at
-  abbrev pub ExistsAs : (honest : Type 0) → (old : Store F) → (name : List ℕ) → Answer → Type 0
-  ExistsAs honest old name answer = ((is_none (partial_error name) ≡ true)
+  abbrev pub ExistsAs : (honest : Type 0) → (old new : Store F) → (name : List ℕ) → Answer → Type 0
+  ExistsAs honest old new name answer = ((is_none (partial_error name) ≡ true)
       × (status : ℕ) × (honest → status ≡ (if is_file (reflog_at means old name) then 0 else 1))
       × Says [] status answer)
       ⊎ (((is_none (partial_error name) ≡ false)
       × Fails (codes "invalid ref format: " ++ name) answer)
-      ⊎ ((error : LogError) × IsNoReflog old name error
+      ⊎ ((is_none (partial_error name) ≡ true) × IsNotLookedAt old new name
       × Fails (codes "cannot look at the reflog of " ++ name) answer))

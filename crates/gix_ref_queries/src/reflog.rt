@@ -25,7 +25,7 @@ pub fn log_exists<F: Files>(
     name: &[u8],
 ) -> Result<Answer, AllocError>
     ensures answers { IfOk result
-        (ExistsAs F.means F.faults F.honest store.old name.now) }
+        (ExistsAs F.means F.faults F.honest store.old store.new name.now) }
     ensures unchanged { LooksUp F.honest F.means store.old store.new }
 {
     let Some(full) = FullNameRef::from_path(name) else {

@@ -43,16 +43,16 @@ module _ {F R : Type 0} (G : Ghosts R) (honest : Type 0) (means : F → Meaning)
   not_prepared : (closing : Closing) (s t : Way F) (edits : List RefEdit) (cause : Cause) → PreparedEnds G honest means faults session closing s t edits (Err (fatals.Update (errors.Prepare cause))) → ⊥
   not_prepared closings.Prepare s t edits cause (inl failed) = failed.0
   not_prepared closings.Prepare s t edits cause (inr (inl given)) = no_closing cause s.input given.2
-  not_prepared closings.Prepare s t edits cause (inr (inr unsaid)) = unsaid.0
+  not_prepared closings.Prepare s t edits cause (inr (inr unsaid)) = unsaid.1
   not_prepared closings.Commit s t edits cause (inl failed) = failed.0
   not_prepared closings.Commit s t edits cause (inr (inl given)) = no_closing cause s.input given.2
-  not_prepared closings.Commit s t edits cause (inr (inr unsaid)) = unsaid.0
+  not_prepared closings.Commit s t edits cause (inr (inr unsaid)) = unsaid.1
   not_prepared closings.Abort s t edits cause (inl failed) = failed.0
   not_prepared closings.Abort s t edits cause (inr (inl given)) = no_closing cause s.input given.2
-  not_prepared closings.Abort s t edits cause (inr (inr unsaid)) = unsaid.0
+  not_prepared closings.Abort s t edits cause (inr (inr unsaid)) = unsaid.1
   not_prepared closings.End s t edits cause (inl failed) = failed.0
   not_prepared closings.End s t edits cause (inr (inl given)) = no_closing cause s.input given.2
-  not_prepared closings.End s t edits cause (inr (inr unsaid)) = unsaid.0
+  not_prepared closings.End s t edits cause (inr (inr unsaid)) = unsaid.1
 
   refused : (closing : Closing) (s t : Way F) (edits : List RefEdit) (cause : Cause) → MakeEnds G honest means faults session closing edits s t (Err (fatals.Update (errors.Prepare cause))) →
       IsRefused honest means faults session.committer (HasReadFault G.faults) (errors.Prepare cause) s.store t.store edits × (t.input ≡ s.input) × (t.output ≡ s.output)
@@ -128,7 +128,7 @@ module _ {F R : Type 0} (G : Ghosts R) (honest : Type 0) (means : F → Meaning)
 
       pub ends_well : (closing : Closing) (input output rest now : Option (List ℕ)) (goes_on : Bool) → TryEnds G honest means faults session closing edits (way input output mid) (way rest now new) (Ok goes_on) →
           Settles G honest means faults session closing edits (way input output first) (way rest now new) (Ok goes_on)
-      ends_well closing input output rest now goes_on ends = ends_with closing input output rest now (Ok goes_on) ends (record { lock = λ name is. no_error is; packed = λ is. no_error is })
+      ends_well closing input output rest now goes_on ends = ends_with closing input output rest now (Ok goes_on) ends (record { no_longer = omega (arith, b.lock); no_longer_packed = omega (arith, b.packed); lock = λ name is. no_error is; packed = λ is. no_error is })
         where
           no_error : {P : Type 0} {fatal : Fatal} → ◌≡◌ {A = Result Bool Fatal} (Ok goes_on) (Err fatal) → P
           no_error is = cc
@@ -136,6 +136,8 @@ module _ {F R : Type 0} (G : Ghosts R) (honest : Type 0) (means : F → Meaning)
       pub gives_up : (closing : Closing) (input output rest now : Option (List ℕ)) (fatal : Fatal) → NoneIsLeft fatal before → TryEnds G honest means faults session closing edits (way input output mid) (way rest now new) (Err fatal) →
           Settles G honest means faults session closing edits (way input output first) (way rest now new) (Err fatal)
       gives_up closing input output rest now fatal none ends = ends_with closing input output rest now (Err fatal) ends (record {
+        no_longer = omega (arith, b.lock);
+        no_longer_packed = omega (arith, b.packed);
         lock = λ name is. omega (arith, b.lock, none.lock name (err_is fatal _ is));
         packed = λ is. omega (arith, b.packed, none.packed (err_is fatal _ is));
       })

@@ -1,5 +1,5 @@
 -- A session: transactions one after the other, with an answer to each command (`git update-ref --stdin`).
-use Rattle.std.specs.Prelude.{◌≡◌, ◌⊎◌, ℕ, List, [], ◌∷◌, ◌++◌, Bool, true, false, ◌||◌, codes, Option, is_some, Result, Ok, Err}
+use Rattle.std.specs.Prelude.{◌≡◌, ◌≢◌, ◌⊎◌, ℕ, List, [], ◌∷◌, ◌++◌, Bool, true, false, ◌||◌, codes, Option, is_some, Result, Ok, Err}
 use Rattle.std.specs.Io.KnownBytes.{Appends, IsAtEnd, Keeps}
 use Rattle.gix_ref_files.specs.declared.files.ReadAt.{Ghosts}
 use Rattle.gix_ref_files.specs.Files.{Meaning, FaultCounts, Leaves, Loses}
@@ -104,6 +104,12 @@ HeardClosing session input rest out now (Ok closings.Prepare) = ⊥
 HeardClosing session input rest out now (Err fatal) =
     IsUnclosed session input fatal × IsPreparedSaid fatal out now
 
+-- `commit` is heard: it is what closes the edits, or after `prepare: ok` it is read; at the end of the input nothing is
+abbrev pub IsCommitHeard : Session → Closing → (input rest : Option (List ℕ)) → Type 0
+IsCommitHeard session closings.Prepare input rest =
+    Hears session.format session.object_hash Commit input rest
+IsCommitHeard session closing input rest = Keeps input rest
+
 -- what was answered before a commit
 abbrev pub said_before : Closing → List ℕ
 said_before closings.Prepare = codes "prepare: ok\n"
@@ -150,13 +156,17 @@ module _ {F R : Type 0} (G : Ghosts R) (honest : Type 0) (means : F → Meaning)
   PreparedEnds closings.Prepare s t edits (Ok false) =
       IsRolledBack honest means faults s.store t.store edits
       × IsAtEnd s.input × Appends s.output t.output (codes "prepare: ok\n")
-  -- their commit failed; or after `prepare` they were not closed, and given up; or the writer failed after they were committed
+  -- their commit failed; or after `prepare` they were not closed, and given up; or the writer failed after they were committed, where
+  -- that is answered
   PreparedEnds closing s t edits (Err fatal) =
       (CommitFailed honest means faults session.committer (HasReadFault G.faults) fatal s.store t.store edits
+      × IsCommitHeard session closing s.input t.input
       × Appends s.output t.output (said_before closing))
       ⊎ (((closing ≡ closings.Prepare) × IsRolledBack honest means faults s.store t.store edits
       × IsUnclosed session s.input fatal × IsPreparedSaid fatal s.output t.output)
-      ⊎ (IsUnsaid fatal × IsCommitted honest means faults session.committer s.store t.store edits))
+      ⊎ ((closing ≢ closings.End) × IsUnsaid fatal
+      × IsCommitted honest means faults session.committer s.store t.store edits
+      × IsCommitHeard session closing s.input t.input))
   PreparedEnds closing s t edits result = ⊥
 
   -- edits were not prepared, by the first cause against them

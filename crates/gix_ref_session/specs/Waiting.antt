@@ -1,5 +1,5 @@
 -- How long the locks that others hold are waited for.
-use Rattle.std.specs.Prelude.{◌≡◌, ℕ, ◌+◌, List, [], ◌∷◌, Bool, Result, Err}
+use Rattle.std.specs.Prelude.{◌≡◌, ◌≤◌, ℕ, ◌+◌, List, [], ◌∷◌, Bool, Result, Err}
 use Rattle.gix_ref_name.specs.declared.name.FullName.{FullName}
 use Rattle.gix_ref_transaction.specs.declared.prepare.error.Error.{Error as Cause}
 use Rattle.gix_ref_transaction.specs.declared.prepare.error.Error.TheVariants as causes
@@ -24,9 +24,11 @@ abbrev pub times_met : (meets : Cause → ℕ) → (tries : List Cause) → ℕ
 times_met meets [] = 0
 times_met meets (cause ∷ tries) = meets cause + times_met meets tries
 
--- a lock is given up on only after a try for each millisecond that it is waited for
+-- There is no more than one try for each millisecond that a lock is waited for, and it is given up on only after that many.
 pub record HasWaited (session : Session) (tries : List Cause)
     (result : Result Bool Fatal) : Type 0 where
+  pub no_longer : times_met meets_lock tries ≤ session.lock_timeout
+  pub no_longer_packed : times_met meets_packed tries ≤ session.packed_lock_timeout
   pub lock : (name : FullName) →
       result ≡ Err (fatals.Update (errors.Prepare (causes.LockAcquire name))) →
       times_met meets_lock tries ≡ session.lock_timeout
