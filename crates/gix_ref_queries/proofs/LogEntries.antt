@@ -26,14 +26,14 @@ use Rattle.gix_ref_log.specs.declared.log.iter.decode.Error as decode
 use Rattle.gix_ref_log.specs.declared.log.iter.forwards.Forward.{Forward}
 use Rattle.gix_ref_log.specs.declared.log.line.LineRef.{LineRef}
 use Rattle.gix_ref_lookup.specs.Lookups.{meaning_in}
-use Rattle.gix_ref_lookup.specs.Reflogs.{IsNoLog}
+use Rattle.gix_ref_lookup.specs.Reflogs.{IsNoLog, count_by}
 use Rattle.gix_ref_lookup.specs.declared.reflog.error.Error.{Error as LogError}
 use Rattle.gix_ref_lookup.specs.declared.settings.Settings.{Settings}
 use Rattle.gix_ref_store.specs.Lookup.{AreRecordsIn, LooksUp}
 use Rattle.gix_ref_store.specs.Reflogs.{IsNoReflog, reflog_at}
 use Rattle.gix_ref_store.specs.Store as stores
 use Rattle.gix_ref_store.specs.declared.file.store.Store.{Store}
-use Rattle.gix_ref_queries.specs.LogRows.{AreEntries, AreLogEntries, AreShown, IsShownOf, IsShownOfRun, ShowAnswer, ShowsByEnd, ShowsLog, entry_line, entry_lines, entry_parts, newest}
+use Rattle.gix_ref_queries.specs.LogRows.{AreEntries, AreLogEntries, AreShown, IsAsked, IsShownOf, IsShownOfRun, ShowAnswer, ShowsByEnd, ShowsLog, entry_line, entry_lines, entry_parts, newest}
 use Rattle.gix_ref_queries.specs.declared.answer.Answer.{Answer}
 use Rattle.gix_ref_queries.proofs.Names.{same_settings}
 
@@ -117,7 +117,7 @@ shown_of content log name count (Some text) file reads (run, from, whole, (some,
   shows,
 )
 
-module _ {F : Type 0} (honest : Type 0) (means : F → Meaning) (old mid : Store F) (looked : LooksUp honest means old mid) where
+module _ {F : Type 0} (honest : Type 0) (means : F → Meaning) (faults : F → FaultCounts) (old mid : Store F) (looked : LooksUp honest means old mid) where
   pub same_log : (name : List ℕ) → honest → reflog_at means mid name ≡ reflog_at means old name
   same_log name h =
       ap (λ (s : Settings). (means (stores.files_of mid)).tree ((meaning_in s).log name)) (same_settings old mid looked.same)
@@ -126,35 +126,39 @@ module _ {F : Type 0} (honest : Type 0) (means : F → Meaning) (old mid : Store
   pub same_unread : (name : List ℕ) (error : LogError) → IsNoReflog mid name error → IsNoReflog old name error
   same_unread name error = subst (λ (s : Settings). IsNoLog s name error) (same_settings old mid looked.same)
 
-  -- what is shown as the store was before
-  pub shows_before : (name last : List ℕ) (count : Option ℕ) (answer : Answer) → ShowsLog honest means mid name last count answer → ShowsLog honest means old name last count answer
-  shows_before name last count answer (inl (at, error, which, why, fails)) = inl (at, error, which, same_unread at error why, fails)
-  shows_before name last count answer (inr (text, says, shown)) = inr (text, says, (λ h. let s = shown h in (s.0, by h s.0 s.1, s.2)))
+  -- what is shown as the store was before, in which no fault was counted
+  pub shows_before : (new : Store F) (name last : List ℕ) (count : Option ℕ) (answer : Answer) → faults (stores.files_of mid) ≡ faults (stores.files_of old) → ShowsLog honest means faults mid new name last count answer → ShowsLog honest means faults old new name last count answer
+  shows_before new name last count answer none (inl (at, error, which, why, counts, fails)) = inl (at, error, asks which, same_unread at error why, counts ∙ ap (count_by error) none, fails)
     where
-      by : honest → (entries : List LogLine) → AreShown honest means mid name last entries → AreShown honest means old name last entries
+      asks : IsAsked honest means faults mid name last at → IsAsked honest means faults old name last at
+      asks (inl own) = inl own
+      asks (inr (is, empty)) = inr (is, (λ h. subst (λ (c : Option Content). AreLogEntries c []) (same_log name h) (empty h)))
+  shows_before new name last count answer none (inr (text, says, shown)) = inr (text, says, (λ h. let s = shown h in (s.0, by h s.0 s.1, s.2)))
+    where
+      by : honest → (entries : List LogLine) → AreShown honest means faults mid name last entries → AreShown honest means faults old name last entries
       by h entries (inl (own, some)) = inl (subst (λ (c : Option Content). AreLogEntries c entries) (same_log name h) own, some)
       by h entries (inr (none, of_last)) = inr (subst (λ (c : Option Content). AreLogEntries c []) (same_log name h) none, subst (λ (c : Option Content). AreLogEntries c entries) (same_log last h) of_last)
 
   -- a name without an entry of its own
-  pub last_shown : (name last label : List ℕ) (count : Option ℕ) (text : Vec ℕ Global) (answer : Answer) → label ≡ name → Says text.items 0 answer → (honest → AreLogEntries (reflog_at means old name) []) → (honest → IsShownOf (reflog_at means mid last) label count (Some text)) → ShowsLog honest means old name last count answer
-  last_shown name last label count text answer same says none shows = inr (text.items, says, (λ h. let s = shows h in (s.0, inr (none h, subst (λ (c : Option Content). AreLogEntries c s.0) (same_log last h) s.1), s.3 ∙ ap (λ (n : List ℕ). entry_lines n 0 (newest count s.0)) same)))
+  pub last_shown : (new : Store F) (name last label : List ℕ) (count : Option ℕ) (text : Vec ℕ Global) (answer : Answer) → label ≡ name → Says text.items 0 answer → (honest → AreLogEntries (reflog_at means old name) []) → (honest → IsShownOf (reflog_at means mid last) label count (Some text)) → ShowsLog honest means faults old new name last count answer
+  last_shown new name last label count text answer same says none shows = inr (text.items, says, (λ h. let s = shows h in (s.0, inr (none h, subst (λ (c : Option Content). AreLogEntries c s.0) (same_log last h) s.1), s.3 ∙ ap (λ (n : List ℕ). entry_lines n 0 (newest count s.0)) same)))
 
-  pub none_shown : (name last : List ℕ) (count : Option ℕ) (answer : Answer) → Says [] 0 answer → (honest → AreLogEntries (reflog_at means old name) []) → (honest → AreLogEntries (reflog_at means mid last) []) → ShowsLog honest means old name last count answer
-  none_shown name last count answer says none of_last = inr ([], says, (λ h. ([], inr (none h, subst (λ (c : Option Content). AreLogEntries c []) (same_log last h) (of_last h)), by count)))
+  pub none_shown : (new : Store F) (name last : List ℕ) (count : Option ℕ) (answer : Answer) → Says [] 0 answer → (honest → AreLogEntries (reflog_at means old name) []) → (honest → AreLogEntries (reflog_at means mid last) []) → ShowsLog honest means faults old new name last count answer
+  none_shown new name last count answer says none of_last = inr ([], says, (λ h. ([], inr (none h, subst (λ (c : Option Content). AreLogEntries c []) (same_log last h) (of_last h)), by count)))
     where
       by : (count : Option ℕ) → [] ≡ entry_lines name 0 (newest count [])
       by None = refl
       by (Some zero) = refl
       by (Some (suc n)) = refl
 
-module _ {F : Type 0} (honest : Type 0) (means : F → Meaning) (old : Store F) where
-  pub own_shown : (name last label : List ℕ) (count : Option ℕ) (text : Vec ℕ Global) (answer : Answer) → label ≡ name → Says text.items 0 answer → (honest → IsShownOf (reflog_at means old name) label count (Some text)) → ShowsLog honest means old name last count answer
+module _ {F : Type 0} (honest : Type 0) (means : F → Meaning) (faults : F → FaultCounts) (old new : Store F) where
+  pub own_shown : (name last label : List ℕ) (count : Option ℕ) (text : Vec ℕ Global) (answer : Answer) → label ≡ name → Says text.items 0 answer → (honest → IsShownOf (reflog_at means old name) label count (Some text)) → ShowsLog honest means faults old new name last count answer
   own_shown name last label count text answer same says shows = inr (text.items, says, (λ h. let s = shows h in (s.0, inl (s.1, s.2), s.3 ∙ ap (λ (n : List ℕ). entry_lines n 0 (newest count s.0)) same)))
 
   -- what is answered where the following ended so
-  pub answered : {R : Type 0} (G : Ghosts R) (faults : F → FaultCounts) (name : List ℕ) (count : Option ℕ) (answer : Answer) (end : NameEnd) → full_error name ≡ None → (honest → (records : List Record) → AreRecordsIn means old records → end ≡ resolved (targets_in means old records) 5 name) →
-      ShowsByEnd honest means old end name count answer → ShowAnswer honest means G faults old name count answer
-  answered G faults name count answer end valid leads shows = inr (ap is_none valid, inr (end, leads, shows))
+  pub answered : {R : Type 0} (G : Ghosts R) (name : List ℕ) (count : Option ℕ) (answer : Answer) (end : NameEnd) → full_error name ≡ None → (honest → (records : List Record) → AreRecordsIn means old records → end ≡ resolved (targets_in means old records) 5 name) →
+      ShowsByEnd honest means faults old new end name count answer → ShowAnswer honest means faults G old new name count answer
+  answered G name count answer end valid leads shows = inr (ap is_none valid, inr (end, leads, shows))
 
 pub ended_at : (find : TargetsByName) (owned full name last : List ℕ) (done of : End) (end : NameEnd) → owned ≡ full → full ≡ name → EndsBy find owned last done → done ≡ of → (EndsBy find owned last of → resolved find 5 owned ≡ end) → end ≡ resolved find 5 name
 ended_at find owned full name last done of end p q by is so = sym (so (subst (λ (d : End). EndsBy find owned last d) is by)) ∙ ap (resolved find 5) (p ∙ q)

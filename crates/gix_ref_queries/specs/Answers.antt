@@ -1,6 +1,7 @@
 -- What a command answers.
 use Rattle.std.specs.Prelude.{◌≡◌, ◌≢◌, ◌⊎◌, ℕ, List, [], ◌++◌, Vec, codes, Bool, true, false, if◌then◌else◌, bytes_eq, nat_eq, ◌||◌, ◌&&◌, is_none}
 use Rattle.gix_ref_name.specs.NameGrammar.{full_error, partial_error}
+use Rattle.gix_ref_target.specs.PackedRecords.{Record}
 use Rattle.std.specs.List.{flat_map, starts_with}
 use Rattle.std.specs.declared.alloc.Global.{Global}
 use Rattle.gix_ref_files.specs.Files.{FaultCounts, IsMet, Meaning}
@@ -11,7 +12,7 @@ use Rattle.gix_ref_locks.specs.LockFiles.{IsLockFailure}
 use Rattle.gix_ref_locks.specs.Removals.{StopsAt}
 use Rattle.gix_ref_locks.specs.declared.locks.Error.{Error as LockError}
 use Rattle.gix_ref_locks.specs.declared.locks.Error.TheVariants as unlisted
-use Rattle.gix_ref_store.specs.Lookup.{settings_of}
+use Rattle.gix_ref_store.specs.Lookup.{AreRecordsIn, settings_of}
 use Rattle.gix_ref_store.specs.Locks.{AreLocks, AreRemoved}
 use Rattle.gix_ref_files.specs.Tree.{is_file}
 use Rattle.gix_ref_lookup.specs.Reflogs.{count_by}
@@ -22,7 +23,7 @@ use Rattle.gix_ref_store.specs.Store.{files_of, meaning_of}
 use Rattle.gix_ref_store.specs.declared.file.store.Store.{Store}
 use Rattle.hex.specs.Hex.{encode_lower}
 use Rattle.gix_ref_hash.specs.Ids.{id_bytes}
-use Rattle.gix_ref_queries.specs.Resolving.{TargetsByName, NameEnd, IsUnread, resolved}
+use Rattle.gix_ref_queries.specs.Resolving.{NameEnd, FollowsTo, IsUnread, targets_in}
 use Rattle.gix_ref_queries.specs.Resolving.NameEnd.{Reached, Missing, TooDeep}
 use Rattle.gix_ref_queries.specs.Shortening.{IsUnshort, short_name}
 use Rattle.gix_ref_queries.specs.declared.resolve.End.{End}
@@ -49,13 +50,13 @@ NotValid name answer = Fails (codes "'" ++ (name ++ codes "' - not a valid ref")
 abbrev pub NoSuchRef : (name : List ℕ) → Answer → Type 0
 NoSuchRef name answer = Fails (codes "No such ref: " ++ name) answer
 
--- `show-ref --verify`: the id of the object that a name leads to, and the name
+-- the id of the object that a name leads to, and the name
 abbrev pub VerifyAnswer : NameEnd → (name : List ℕ) → Answer → Type 0
 VerifyAnswer (Reached last id) name answer =
     Says (encode_lower (id_bytes id) ++ (codes " " ++ (name ++ codes "\n"))) 0 answer
 VerifyAnswer end name answer = NotValid name answer
 
--- `symbolic-ref`: the last name that another one leads to
+-- the last name that another one leads to, as it is shown
 abbrev pub LastNameBy : (same : Bool) → (shown name : List ℕ) → Answer → Type 0
 LastNameBy true shown name answer =
     Fails (codes "ref " ++ (name ++ codes " is not a symbolic ref")) answer
@@ -63,12 +64,6 @@ LastNameBy false shown name answer = Says (shown ++ codes "\n") 0 answer
 
 abbrev pub LastName : (last shown name : List ℕ) → Answer → Type 0
 LastName last shown name answer = LastNameBy (bytes_eq last name) shown name answer
-
--- as it is shown
-abbrev pub SymbolicAnswer : (shown : List ℕ → List ℕ) → NameEnd → (name : List ℕ) → Answer → Type 0
-SymbolicAnswer shown (Reached last id) name answer = LastName last (shown last) name answer
-SymbolicAnswer shown (Missing last) name answer = LastName last (shown last) name answer
-SymbolicAnswer shown TooDeep name answer = NoSuchRef name answer
 
 -- the answers for a following that ends so
 abbrev pub EndVerified : End → (name : List ℕ) → Answer → Type 0
@@ -82,31 +77,51 @@ abbrev pub is_verifiable : (name : List ℕ) → Bool
 is_verifiable name = (starts_with nat_eq name (codes "refs/") || bytes_eq name (codes "HEAD"))
     && is_none (full_error name)
 
--- and what is answered where lookups find this
-abbrev pub VerifiesAs : TargetsByName → (name : List ℕ) → Answer → Type 0
-VerifiesAs find name answer =
-    VerifyAnswer (if is_verifiable name then resolved find 5 name else TooDeep) name answer
+-- a name as it is shown: itself, or its short name, which only the names that Git looks up before may take
+abbrev pub IsShownAs : {F : Type 0} (honest : Type 0) (means : F → Meaning) → Store F →
+    (short : Bool) → (name shown : List ℕ) → Type 0
+IsShownAs honest means store false name shown = shown ≡ name
+IsShownAs honest means store true name shown = honest → (records : List Record) →
+    AreRecordsIn means store records → shown ≡ short_name (targets_in means store records) false name
 
--- a name as it is shown, or its short name, which only the names that Git looks up before may take
-abbrev pub shown_as : TargetsByName → (short : Bool) → (name : List ℕ) → List ℕ
-shown_as find short name = if short then short_name find false name else name
+module _ {F R : Type 0} (G : Ghosts R) (honest : Type 0) (means : F → Meaning)
+    (faults : F → FaultCounts) where
+  -- what is answered for a name that may be verified: its following failed; or by where it leads
+  abbrev pub VerifiesFull : (old : Store F) → (name : List ℕ) → Answer → Type 0
+  VerifiesFull old name answer =
+      (IsUnread G honest means faults old name × NotValid name answer)
+      ⊎ ((end : NameEnd) × FollowsTo honest means old name end × VerifyAnswer end name answer)
 
-abbrev pub SymbolicAs : TargetsByName → (short : Bool) → (name : List ℕ) → Answer → Type 0
-SymbolicAs find short name answer = SymbolicAnswer (shown_as find short)
-    (if is_none (partial_error name) then resolved find 5 name else TooDeep) name answer
+  -- `show-ref --verify`: the name may not be verified; or what is answered where it may
+  abbrev pub VerifiesAs : (old : Store F) → (name : List ℕ) → Answer → Type 0
+  VerifiesAs old name answer = ((is_verifiable name ≡ false) × NotValid name answer)
+      ⊎ ((is_verifiable name ≡ true) × VerifiesFull old name answer)
 
--- a following ends at this name, at an object or without a reference
-abbrev pub EndsAt : NameEnd → (last : List ℕ) → Type 0
-EndsAt (Reached name id) last = name ≡ last
-EndsAt (Missing name) last = name ≡ last
-EndsAt TooDeep last = ⊥
+  -- the last name is shown; or it is to be shown short, and a lookup for that failed
+  abbrev pub ShowsLast : (old : Store F) → (short : Bool) → (last name : List ℕ) → Answer → Type 0
+  ShowsLast old short last name answer =
+      ((shown : List ℕ) × IsShownAs honest means old short last shown
+      × LastName last shown name answer)
+      ⊎ ((short ≡ true) × IsUnshort G honest means faults false old last × NoSuchRef name answer)
 
--- why the last name to which another one leads is not shown: the following failed; or it is to be shown short, and a lookup for that failed
-abbrev pub IsUnshown : {F R : Type 0} (G : Ghosts R) (honest : Type 0) (means : F → Meaning)
-    (faults : F → FaultCounts) → Store F → TargetsByName → (short : Bool) → (name : List ℕ) → Type 0
-IsUnshown G honest means faults old find short name = IsUnread G honest means faults old name
-    ⊎ ((last : List ℕ) × EndsAt (resolved find 5 name) last × (short ≡ true)
-    × IsUnshort G honest means faults false old last)
+  -- what is answered where the following of a name ends so: at an object, or without a reference
+  abbrev pub ShowsEnd : (old : Store F) → (short : Bool) → NameEnd → (name : List ℕ) → Answer →
+      Type 0
+  ShowsEnd old short (Reached last id) name answer = ShowsLast old short last name answer
+  ShowsEnd old short (Missing last) name answer = ShowsLast old short last name answer
+  ShowsEnd old short TooDeep name answer = NoSuchRef name answer
+
+  -- and of a name that a reference may have: its following failed; or by where it leads
+  abbrev pub SymbolicFull : (old : Store F) → (short : Bool) → (name : List ℕ) → Answer → Type 0
+  SymbolicFull old short name answer =
+      (IsUnread G honest means faults old name × NoSuchRef name answer)
+      ⊎ ((end : NameEnd) × FollowsTo honest means old name end × ShowsEnd old short end name answer)
+
+  -- `symbolic-ref`: no reference may have the name; or what is answered where one may
+  abbrev pub SymbolicAs : (old : Store F) → (short : Bool) → (name : List ℕ) → Answer → Type 0
+  SymbolicAs old short name answer =
+      ((is_none (partial_error name) ≡ false) × NoSuchRef name answer)
+      ⊎ ((is_none (partial_error name) ≡ true) × SymbolicFull old short name answer)
 
 -- a line for each path
 abbrev pub path_lines : List (Vec ℕ Global) → List ℕ

@@ -10,15 +10,15 @@ use Rattle.gix_ref_log.specs.declared.log.iter.decode.Error as decode
 use Rattle.gix_ref_log.specs.LogCuts.{log_lines}
 use Rattle.gix_ref_log.specs.LogLines.{LogLine, IsLine, NoLine, line_ref_parts}
 use Rattle.gix_ref_log.specs.declared.log.line.LineRef.{LineRef}
+use Rattle.gix_ref_lookup.specs.Reflogs.{count_by}
 use Rattle.gix_ref_lookup.specs.declared.reflog.error.Error.{Error as LogError}
 use Rattle.gix_ref_lookup.specs.declared.reflog.error.Error.TheVariants.{Memory}
 use Rattle.gix_ref_name.specs.NameGrammar.{full_error}
-use Rattle.gix_ref_target.specs.PackedRecords.{Record}
-use Rattle.gix_ref_store.specs.Lookup.{AreRecordsIn}
 use Rattle.gix_ref_store.specs.Reflogs.{reflog_at, IsNoReflog}
+use Rattle.gix_ref_store.specs.Store.{files_of}
 use Rattle.gix_ref_store.specs.declared.file.store.Store.{Store}
 use Rattle.gix_ref_queries.specs.Answers.{Says, Fails}
-use Rattle.gix_ref_queries.specs.Resolving.{NameEnd, IsUnread, targets_in, resolved}
+use Rattle.gix_ref_queries.specs.Resolving.{NameEnd, FollowsTo, IsUnread}
 use Rattle.gix_ref_queries.specs.Resolving.NameEnd.{Reached}
 use Rattle.gix_ref_queries.specs.declared.answer.Answer.{Answer}
 
@@ -75,7 +75,7 @@ IsUnreadLog name Memory answer = ⊥
 IsUnreadLog name error answer =
     Fails (codes "cannot read the reflog of '" ++ (name ++ codes "'")) answer
 
-module _ {F : Type 0} (honest : Type 0) (means : F → Meaning) where
+module _ {F : Type 0} (honest : Type 0) (means : F → Meaning) (faults : F → FaultCounts) where
   -- the entries that are shown of a name that leads to this one: its own, or, where it has none, those of the last name
   abbrev pub AreShown : (old : Store F) → (name last : List ℕ) → List LogLine → Type 0
   AreShown old name last entries =
@@ -83,30 +83,36 @@ module _ {F : Type 0} (honest : Type 0) (means : F → Meaning) where
       ⊎ (AreLogEntries (reflog_at means old name) []
       × AreLogEntries (reflog_at means old last) entries)
 
-  -- a log is not read; or its entries are shown, newest first
-  abbrev pub ShowsLog : (old : Store F) → (name last : List ℕ) → (count : Option ℕ) → Answer →
-      Type 0
-  ShowsLog old name last count answer =
-      ((at : List ℕ) × (error : LogError) × ((at ≡ name) ⊎ (at ≡ last))
-      × IsNoReflog old at error × IsUnreadLog at error answer)
+  -- the log of this name is asked for: its own; or that of the last name, where its own has no entry
+  abbrev pub IsAsked : (old : Store F) → (name last at : List ℕ) → Type 0
+  IsAsked old name last at = (at ≡ name)
+      ⊎ ((at ≡ last) × (honest → AreLogEntries (reflog_at means old name) []))
+
+  -- a log that is asked for is not read: its path is prohibited, or by a fault that was counted; or its entries are shown, newest first
+  abbrev pub ShowsLog : (old new : Store F) → (name last : List ℕ) → (count : Option ℕ) →
+      Answer → Type 0
+  ShowsLog old new name last count answer =
+      ((at : List ℕ) × (error : LogError) × IsAsked old name last at
+      × IsNoReflog old at error
+      × (faults (files_of new) ≡ count_by error (faults (files_of old)))
+      × IsUnreadLog at error answer)
       ⊎ ((text : List ℕ) × Says text 0 answer × (honest → (entries : List LogLine)
       × AreShown old name last entries × (text ≡ entry_lines name 0 (newest count entries))))
 
   -- what is answered where the following of the name ends so
-  abbrev pub ShowsByEnd : (old : Store F) → NameEnd → (name : List ℕ) → (count : Option ℕ) →
+  abbrev pub ShowsByEnd : (old new : Store F) → NameEnd → (name : List ℕ) → (count : Option ℕ) →
       Answer → Type 0
-  ShowsByEnd old (Reached last id) name count answer = ShowsLog old name last count answer
-  ShowsByEnd old end name count answer = Fails (codes "ambiguous argument '" ++ (name
+  ShowsByEnd old new (Reached last id) name count answer = ShowsLog old new name last count answer
+  ShowsByEnd old new end name count answer = Fails (codes "ambiguous argument '" ++ (name
       ++ codes "': unknown revision or path not in the working tree.")) answer
 
   -- `reflog show`: the name is no full one; or it cannot be followed; or what is answered by where it leads
-  abbrev pub ShowAnswer : {R : Type 0} (G : Ghosts R) (faults : F → FaultCounts) → (old : Store F) →
+  abbrev pub ShowAnswer : {R : Type 0} (G : Ghosts R) → (old new : Store F) →
       (name : List ℕ) → (count : Option ℕ) → Answer → Type 0
-  ShowAnswer G faults old name count answer = ((is_none (full_error name) ≡ false)
+  ShowAnswer G old new name count answer = ((is_none (full_error name) ≡ false)
       × Fails (codes "invalid ref format: " ++ name) answer)
       ⊎ ((is_none (full_error name) ≡ true)
       × ((IsUnread G honest means faults old name
       × Fails (codes "cannot follow '" ++ (name ++ codes "'")) answer)
-      ⊎ ((end : NameEnd) × (honest → (records : List Record) → AreRecordsIn means old records →
-      end ≡ resolved (targets_in means old records) 5 name)
-      × ShowsByEnd old end name count answer)))
+      ⊎ ((end : NameEnd) × FollowsTo honest means old name end
+      × ShowsByEnd old new end name count answer)))

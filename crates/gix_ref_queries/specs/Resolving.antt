@@ -64,6 +64,13 @@ ReadsAs read names.Absent = read ≡ None
 ReadsAs read (names.Unread error) = Unit {0}
 ReadsAs read names.Memory = Unit {0}
 
+-- this holds where a lookup did not fail, and there was memory
+abbrev pub IfRead : NameRead → Type 0 → Type 0
+IfRead (names.Is target) P = P
+IfRead names.Absent P = P
+IfRead (names.Unread error) P = Unit {0}
+IfRead names.Memory P = Unit {0}
+
 -- the result of following the first name, by the last one; a name that was not read is on the way
 abbrev pub EndsBy : TargetsByName → (first last : List ℕ) → End → Type 0
 EndsBy find first last (ends.Object id) = resolved find 5 first ≡ Reached last id
@@ -74,6 +81,18 @@ EndsBy find first last ends.Memory = Unit {0}
 
 abbrev pub EndsAs : TargetsByName → (first : List ℕ) → Followed → Type 0
 EndsAs find first followed = EndsBy find first (full_bytes followed.name) followed.end
+
+-- this holds where a following ended by no lookup that failed, and not for want of memory
+abbrev pub IfFollowed : End → Type 0 → Type 0
+IfFollowed (ends.Unread error) P = Unit {0}
+IfFollowed ends.Memory P = Unit {0}
+IfFollowed end P = P
+
+-- the following of a name in a store ends so; that is said where the files are honest and `packed-refs` is well formed or missing
+abbrev pub FollowsTo : {F : Type 0} (honest : Type 0) (means : F → Meaning) → Store F →
+    (name : List ℕ) → NameEnd → Type 0
+FollowsTo honest means store name end = honest → (records : List Record) →
+    AreRecordsIn means store records → end ≡ resolved (targets_in means store records) 5 name
 
 module _ {F R : Type 0} (G : Ghosts R) (honest : Type 0) (means : F → Meaning)
     (faults : F → FaultCounts) where

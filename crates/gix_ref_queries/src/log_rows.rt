@@ -7,7 +7,9 @@ ghost use Rattle.std.specs.Result.{result_ok};
 ghost use Rattle.gix_ref_name.specs.Names.{full_ref_bytes};
 ghost use Rattle.gix_ref_log.specs.LogForward.{ForwardStep};
 ghost use Rattle.gix_ref_log.specs.LogLines.{line_ref_parts};
+ghost use Rattle.gix_ref_lookup.specs.Reflogs.{count_log};
 ghost use Rattle.gix_ref_store.specs.Lookup.{LooksUp};
+ghost use Rattle.gix_ref_store.specs.Store.{files_of};
 ghost use Rattle.gix_ref_store.specs.Reflogs.{reflog_at, IsNoReflog};
 ghost use Rattle.gix_ref_queries.specs.LogRows.{IsShownOf, IsShownOfRun, entry_line, entry_lines, entry_parts, newest};
 
@@ -120,6 +122,8 @@ pub(crate) fn shown_log<F: Files>(
     ensures shows { F.honest → IfOk result
         (IsShownOf (reflog_at F.means store.old (full_ref_bytes of.entry)) name.now count) }
     ensures failed { IfErr result (IsNoReflog store.old (full_ref_bytes of.entry)) }
+    ensures count { F.faults (files_of store.new)
+        ≡ count_log result (F.faults (files_of store.old)) }
     ensures unchanged { LooksUp F.honest F.means store.old store.new }
 {
     let mut buf = Vec::new(alloc);

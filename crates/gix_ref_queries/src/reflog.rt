@@ -1,10 +1,8 @@
 //! `reflog exists` and `reflog show`.
-ghost use Rattle.std.specs.Prelude.{◌≡◌, ◌⊎◌, ◌++◌, [], IfOk, codes, if◌then◌else◌};
-ghost use Rattle.gix_ref_files.specs.Tree.{is_file};
+ghost use Rattle.std.specs.Prelude.{◌++◌, IfOk, codes};
 ghost use Rattle.gix_ref_store.specs.Lookup.{LooksUp};
-ghost use Rattle.gix_ref_store.specs.Reflogs.{reflog_at};
 ghost use Rattle.gix_ref_name.specs.Names.{full_ref_bytes};
-ghost use Rattle.gix_ref_queries.specs.Answers.{Says, Fails, ExistsAs};
+ghost use Rattle.gix_ref_queries.specs.Answers.{Fails, ExistsAs};
 ghost use Rattle.gix_ref_queries.specs.LogRows.{IsUnreadLog, ShowAnswer, ShowsLog};
 
 use crate::answer::{Answer, fatal, said};
@@ -57,8 +55,8 @@ fn show_either<F: Files>(
     last: FullNameRef<'_>,
     count: Option<usize>,
 ) -> Result<Answer, AllocError>
-    ensures answers { IfOk result (ShowsLog F.honest F.means store.old (full_ref_bytes name.entry)
-        (full_ref_bytes last.entry) count) }
+    ensures answers { IfOk result (ShowsLog F.honest F.means F.faults store.old store.new
+        (full_ref_bytes name.entry) (full_ref_bytes last.entry) count) }
     ensures unchanged { LooksUp F.honest F.means store.old store.new }
 {
     match shown_log(alloc, store, name, name.to_path(), count) {
@@ -98,7 +96,7 @@ pub fn show_log<F: Files>(
     count: Option<usize>,
 ) -> Result<Answer, AllocError>
     ensures answers { IfOk result
-        (ShowAnswer F.honest F.means F.Reader.ReadAt F.faults store.old name.now count) }
+        (ShowAnswer F.honest F.means F.faults F.Reader.ReadAt store.old store.new name.now count) }
     ensures unchanged { LooksUp F.honest F.means store.old store.new }
 {
     let Ok(full) = FullNameRef::try_from(name) else {

@@ -1,9 +1,10 @@
 //! Following a reference from name to name, as Git resolves it: each name is looked up as it is.
-ghost use Rattle.std.specs.Prelude.{◌≡◌, List, ℕ, true};
+ghost use Rattle.std.specs.Prelude.{◌≡◌, List};
 ghost use Rattle.gix_ref_name.specs.Names.{full_bytes, full_ref_bytes};
 ghost use Rattle.gix_ref_target.specs.PackedRecords.{Record};
 ghost use Rattle.gix_ref_store.specs.Lookup.{AreRecordsIn, LooksUp};
-ghost use Rattle.gix_ref_queries.specs.Resolving.{targets_in, ReadsAs, ReadFails, EndsAs, EndFails};
+ghost use Rattle.gix_ref_store.specs.Store.{files_of};
+ghost use Rattle.gix_ref_queries.specs.Resolving.{targets_in, ReadsAs, ReadFails, EndsAs, EndFails, IfFollowed, IfRead};
 
 use gix_ref_files::files::Files;
 use gix_ref_hash::hash::ObjectId;
@@ -35,6 +36,8 @@ pub fn read_name<F: Files>(alloc: Global, store: &mut Store<F>, name: FullNameRe
         ReadsAs (targets_in F.means store.old records (full_ref_bytes name.entry)) result }
     ensures failed { ReadFails F.Reader.ReadAt F.honest F.means F.faults store.old
         (full_ref_bytes name.entry) result }
+    ensures no_fault { IfRead result (F.faults (files_of store.new)
+        ≡ F.faults (files_of store.old)) }
     ensures unchanged { LooksUp F.honest F.means store.old store.new }
 {
     match store.find_full(alloc, name) {
@@ -73,6 +76,8 @@ pub fn follow<F: Files>(alloc: Global, store: &mut Store<F>, name: FullName) -> 
         EndsAs (targets_in F.means store.old records) (full_bytes name) result }
     ensures failed { EndFails F.Reader.ReadAt F.honest F.means F.faults store.old
         (full_bytes result.name) result.end }
+    ensures no_fault { IfFollowed result.end (F.faults (files_of store.new)
+        ≡ F.faults (files_of store.old)) }
     ensures unchanged { LooksUp F.honest F.means store.old store.new }
 {
     let mut last = name;

@@ -1,11 +1,9 @@
 //! `show-ref --verify` and `symbolic-ref`.
-ghost use Rattle.std.specs.Prelude.{◌≡◌, ◌⊎◌, ◌++◌, List, ℕ, IfOk, IfErr, MatchOption, MatchResult, Option, Some, None, codes, true, false};
-ghost use Rattle.gix_ref_name.specs.Names.{full_bytes, full_ref_bytes};
-ghost use Rattle.gix_ref_target.specs.PackedRecords.{Record};
-ghost use Rattle.gix_ref_queries.specs.Resolving.{IsUnread, resolved, targets_in};
-ghost use Rattle.gix_ref_queries.specs.Shortening.{IsAskedFor, IsNoShort, IsUnshort};
-ghost use Rattle.gix_ref_store.specs.Lookup.{AreRecordsIn, LooksUp};
-ghost use Rattle.gix_ref_queries.specs.Answers.{Says, Fails, VerifyAnswer, SymbolicAnswer, LastName, is_verifiable, IsUnshown, VerifiesAs, SymbolicAs, EndVerified, NotValid, NoSuchRef, shown_as};
+ghost use Rattle.std.specs.Prelude.{◌≡◌, ◌++◌, IfOk, IfErr, MatchOption, Option, Some, None, codes, true, false};
+ghost use Rattle.gix_ref_name.specs.Names.{full_ref_bytes};
+ghost use Rattle.gix_ref_queries.specs.Shortening.{IsAskedFor, IsNoShort};
+ghost use Rattle.gix_ref_store.specs.Lookup.{LooksUp};
+ghost use Rattle.gix_ref_queries.specs.Answers.{Says, LastName, is_verifiable, VerifiesAs, VerifiesFull, SymbolicAs, SymbolicFull, ShowsLast, IsShownAs, EndVerified, NotValid, NoSuchRef};
 ghost use Rattle.hex.specs.Hex.{encode_lower};
 ghost use Rattle.gix_ref_hash.specs.Ids.{id_bytes};
 
@@ -69,12 +67,8 @@ fn verify_full<F: Files>(
     store: &mut Store<F>,
     name: FullNameRef<'_>,
 ) -> Result<Answer, AllocError>
-    ensures answers { F.honest → (records : List Record) → AreRecordsIn F.means store.old records →
-        IfOk result (λ answer. VerifyAnswer
-        (resolved (targets_in F.means store.old records) 5 (full_ref_bytes name.entry))
-        (full_ref_bytes name.entry) answer
-        ⊎ (IsUnread F.Reader.ReadAt F.honest F.means F.faults store.old
-        (full_ref_bytes name.entry) × NotValid (full_ref_bytes name.entry) answer)) }
+    ensures answers { IfOk result (VerifiesFull F.Reader.ReadAt F.honest F.means F.faults store.old
+        (full_ref_bytes name.entry)) }
     ensures unchanged { LooksUp F.honest F.means store.old store.new }
 {
     let owned = name.to_owned(alloc)?;
@@ -91,10 +85,8 @@ pub fn verify<F: Files>(
     store: &mut Store<F>,
     name: &[u8],
 ) -> Result<Answer, AllocError>
-    ensures answers { F.honest → (records : List Record) → AreRecordsIn F.means store.old records →
-        IfOk result (λ answer. VerifiesAs (targets_in F.means store.old records) name.now answer
-        ⊎ (IsUnread F.Reader.ReadAt F.honest F.means F.faults store.old name.now
-        × NotValid name.now answer)) }
+    ensures answers { IfOk result
+        (VerifiesAs F.Reader.ReadAt F.honest F.means F.faults store.old name.now) }
     ensures unchanged { LooksUp F.honest F.means store.old store.new }
 {
     let answer = match verifiable(name) {
@@ -130,9 +122,8 @@ fn shown_as<'n, F: Files>(
     short: bool,
     name: &'n [u8],
 ) -> Result<&'n [u8], ShortError>
-    ensures shown { F.honest → (records : List Record) → AreRecordsIn F.means store.old records →
-        IfOk result (λ shown. shown.now
-        ≡ shown_as (targets_in F.means store.old records) short name.now) }
+    ensures shown { IfOk result (λ shown. IsShownAs F.honest F.means store.old
+        short name.now shown.now) }
     ensures failed { IfErr result (IsNoShort F.Reader.ReadAt F.honest F.means F.faults
         (IsAskedFor false name.now) store.old) }
     ensures asked { IfErr result (λ error. short ≡ true) }
@@ -153,12 +144,8 @@ fn shown_last<F: Files>(
     name: FullNameRef<'_>,
     last: FullNameRef<'_>,
 ) -> Result<Answer, AllocError>
-    ensures answers { F.honest → (records : List Record) → AreRecordsIn F.means store.old records →
-        IfOk result (λ answer. LastName (full_ref_bytes last.entry)
-        (shown_as (targets_in F.means store.old records) short (full_ref_bytes last.entry))
-        (full_ref_bytes name.entry) answer
-        ⊎ ((short ≡ true) × IsUnshort F.Reader.ReadAt F.honest F.means F.faults false store.old
-        (full_ref_bytes last.entry) × NoSuchRef (full_ref_bytes name.entry) answer)) }
+    ensures answers { IfOk result (ShowsLast F.Reader.ReadAt F.honest F.means F.faults store.old
+        short (full_ref_bytes last.entry) (full_ref_bytes name.entry)) }
     ensures unchanged { LooksUp F.honest F.means store.old store.new }
 {
     match shown_as(alloc, store, short, last.to_path()) {
@@ -175,14 +162,8 @@ fn symbolic_full<F: Files>(
     short: bool,
     name: FullNameRef<'_>,
 ) -> Result<Answer, AllocError>
-    ensures answers { F.honest → (records : List Record) → AreRecordsIn F.means store.old records →
-        IfOk result (λ answer. SymbolicAnswer
-        (shown_as (targets_in F.means store.old records) short)
-        (resolved (targets_in F.means store.old records) 5 (full_ref_bytes name.entry))
-        (full_ref_bytes name.entry) answer
-        ⊎ (IsUnshown F.Reader.ReadAt F.honest F.means F.faults store.old
-        (targets_in F.means store.old records) short (full_ref_bytes name.entry)
-        × NoSuchRef (full_ref_bytes name.entry) answer)) }
+    ensures answers { IfOk result (SymbolicFull F.Reader.ReadAt F.honest F.means F.faults store.old
+        short (full_ref_bytes name.entry)) }
     ensures unchanged { LooksUp F.honest F.means store.old store.new }
 {
     let owned = name.to_owned(alloc)?;
@@ -207,12 +188,8 @@ pub fn symbolic<F: Files>(
     short: bool,
     name: &[u8],
 ) -> Result<Answer, AllocError>
-    ensures answers { F.honest → (records : List Record) → AreRecordsIn F.means store.old records →
-        IfOk result (λ answer. SymbolicAs (targets_in F.means store.old records) short
-        name.now answer
-        ⊎ (IsUnshown F.Reader.ReadAt F.honest F.means F.faults store.old
-        (targets_in F.means store.old records) short name.now
-        × NoSuchRef name.now answer)) }
+    ensures answers { IfOk result
+        (SymbolicAs F.Reader.ReadAt F.honest F.means F.faults store.old short name.now) }
     ensures unchanged { LooksUp F.honest F.means store.old store.new }
 {
     let answer = match FullNameRef::from_path(name) {

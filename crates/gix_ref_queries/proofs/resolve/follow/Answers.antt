@@ -62,6 +62,7 @@ loop-preserved g c =
           (way_on find mid (4 - c.loop.counter) last (full_ref_bytes c.as_ref.result) next name (same_finds F.honest F.means c.args.store.now c.loop.store records looked h) c.as_ref.ensures
           (rw c.in-Is-Symbolic.field-0-is at (c.in-Is-Symbolic.ensures.reads h records (same_records F.honest F.means c.args.store.now c.loop.store records looked h are)))
           (subst (λ (n : ℕ). IsOnWay find n next name) (sym less) way)));
+      no_fault = rw c.in-Is-Symbolic.is at c.read_name.ensures.no_fault ∙ c.loop.invariant.no_fault;
       unchanged = looks_up F.honest F.means c.args.store.now c.loop.store c.read_name.new.store looked c.read_name.ensures.unchanged;
     }
 

@@ -19,5 +19,6 @@ returns-in-Err g c = record {
     fails = c.in-Err.ensures.failed;
     told = search rules;
   };
+  no_fault = _;
   unchanged = c.find_full.ensures.unchanged;
 }
