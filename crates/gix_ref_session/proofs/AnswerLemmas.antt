@@ -1,9 +1,7 @@
 -- Answers that are written one after the other, and what is gathered meanwhile.
 use Rattle.std.proofs.Common.{ℕ, List, [], ◌++◌, Option, Some, None, Result, Ok, Err, IfErr, refl, sym, ◌∙◌, ap, append_assoc, append-nil}
 use Rattle.std.specs.Io.KnownBytes.{Appends, Keeps}
-use Rattle.gix_ref_session.specs.Gathering.{IsStopped, IsUnsaid, Stays, as_gathering}
-use Rattle.gix_ref_session.specs.declared.fatal.Fatal.{Fatal}
-use Rattle.gix_ref_session.specs.declared.fatal.Fatal.TheVariants as fatals
+use Rattle.gix_ref_session.specs.Gathering.{Stays, as_gathering}
 use Rattle.gix_ref_session.specs.declared.gather.Gathered.{Gathered}
 
 pub append_none : (a : Option (List ℕ)) → Appends a a []
@@ -26,18 +24,3 @@ all_errors (Err e) P all = all e
 
 pub stays_same : (input rest output : Option (List ℕ)) (gathered : Gathered) → Stays (as_gathering input output gathered) (as_gathering rest output gathered)
 stays_same input rest output gathered = record { edits = refl; started = refl; output = refl }
-
-pub unsaid_stopped : (fatal : Fatal) → IsUnsaid fatal → IsStopped fatal
-unsaid_stopped (fatals.Io e) is = tt
-unsaid_stopped fatals.Memory is = absurd is
-unsaid_stopped fatals.Folder is = absurd is
-unsaid_stopped (fatals.Malformed t) is = absurd is
-unsaid_stopped (fatals.Name e) is = absurd is
-unsaid_stopped fatals.Closed is = absurd is
-unsaid_stopped fatals.Restarted is = absurd is
-unsaid_stopped fatals.Prepared is = absurd is
-unsaid_stopped fatals.Deref is = absurd is
-unsaid_stopped (fatals.Find e) is = absurd is
-unsaid_stopped (fatals.List e) is = absurd is
-unsaid_stopped (fatals.Clash n) is = absurd is
-unsaid_stopped (fatals.Update e) is = absurd is

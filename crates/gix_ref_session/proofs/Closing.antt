@@ -12,7 +12,7 @@ use Rattle.gix_ref_session.specs.declared.fatal.Fatal.{Fatal}
 use Rattle.gix_ref_session.specs.declared.gather.Closing.{Closing}
 use Rattle.gix_ref_session.specs.declared.gather.Closing.TheVariants as closings
 use Rattle.gix_ref_session.specs.declared.session.Session.{Session}
-use Rattle.gix_ref_session.proofs.AnswerLemmas.{append_more, keeps_same, unsaid_stopped}
+use Rattle.gix_ref_session.proofs.AnswerLemmas.{append_more, keeps_same}
 
 commit_not_end : closings.Commit ≡ closings.End → ⊥
 commit_not_end is = cc
@@ -62,7 +62,7 @@ module _ {F R : Type 0} (G : Ghosts R) (honest : Type 0) (means : F → Meaning)
     closed closings.Commit (Err fatal) heard (inr unsaid) = inr (inr (prepare_not_end, unsaid.0, unsaid.1, heard.0))
     closed closings.Abort (Ok true) heard done = inr (done.0, heard.0, append_more out mid now (codes "prepare: ok\n") (codes "abort: ok\n") heard.1 done.1)
     closed closings.Abort (Ok false) heard done = absurd done
-    closed closings.Abort (Err fatal) heard done = inr (inl (refl, done.1, inr (inl (unsaid_stopped fatal done.0)), inl done.0))
+    closed closings.Abort (Err fatal) heard done = inr (inl (refl, done.1, inr (done.0, heard.0)))
     closed closings.End (Ok true) heard done = absurd done
     closed closings.End (Ok false) heard done = (done.0, heard.0, prepared_only heard.1 done.1)
     closed closings.End (Err fatal) heard done = absurd done

@@ -32,8 +32,8 @@ module _ (session : Session) (needs_start : Bool) (input output : Option (List �
     were = done_more (Gathers session needs_start) b.heards heard (nothing_gathered input output) g h b.were gathers;
   }
 
-  pub falls_short : (g : Gathering) (now : Option (List ℕ)) (fatal : Fatal) → SoFar session needs_start input output g → CannotGoOn session needs_start g fatal → IsUnsaid fatal ⊎ Appends g.output now [] → StopsShort session needs_start input output now fatal
-  falls_short g now fatal b why said = record { heards = b.heards; gathered = g; were = b.were; why = why; said = said }
+  pub falls_short : (g : Gathering) (rest now : Option (List ℕ)) (fatal : Fatal) → SoFar session needs_start input output g → CannotGoOn session needs_start g rest fatal → IsUnsaid fatal ⊎ Appends g.output now [] → StopsShort session needs_start input rest output now fatal
+  falls_short g rest now fatal b why said = record { heards = b.heards; gathered = g; were = b.were; why = why; said = said }
 
   pub closes : (g h : Gathering) (closing : Closing) (now rest : Option (List ℕ)) (gathered : Gathered) → SoFar session needs_start input output g → GathersOrCloses session needs_start (Some closing) g (as_gathering rest now gathered) → IsGathered session needs_start closing input output rest now gathered
   closes g h closing now rest gathered b (hears, stays, begun) = record {
@@ -125,6 +125,6 @@ heard session needs_start h (Ok (Some closing)) input rest out now old new hears
 heard session needs_start h (Err fatal) input rest out now old new hears begun takes = tt
 
 -- a command is read, and not done
-pub not_done : (session : Session) (needs_start : Bool) (h : Heard) (r : Result (Option Closing) Fatal) (g : Gathering) (rest : Option (List ℕ)) → Hears session.format session.object_hash h g.input rest → IfErr r (IsNotDone needs_start h g) → IfErr r (CannotGoOn session needs_start g)
+pub not_done : (session : Session) (needs_start : Bool) (h : Heard) (r : Result (Option Closing) Fatal) (g : Gathering) (rest : Option (List ℕ)) → Hears session.format session.object_hash h g.input rest → IfErr r (IsNotDone needs_start h g) → IfErr r (CannotGoOn session needs_start g rest)
 not_done session needs_start h (Ok v) g rest hears not = tt
-not_done session needs_start h (Err fatal) g rest hears not = inr (h, rest, hears, not)
+not_done session needs_start h (Err fatal) g rest hears not = inr (h, hears, not)

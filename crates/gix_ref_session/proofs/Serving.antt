@@ -89,7 +89,7 @@ module _ {F R : Type 0} (G : Ghosts R) (honest : Type 0) (means : F → Meaning)
       lost = λ h good rests. subst (λ (es : List RefEdit). Loses (means (files_of old)) (means (files_of new)) (λ T. IsKept means (files_of old) T ⊎ IsTransactionLoss honest means faults session.committer (HasReadFault G.faults) es old T)) g.stays.edits (lost h good rests);
     })
 
-  pub not_heard : (needs_start : Bool) (input output rest now : Option (List ℕ)) (store : Store F) (fatal : Fatal) → StopsShort session needs_start input output now fatal →
+  pub not_heard : (needs_start : Bool) (input output rest now : Option (List ℕ)) (store : Store F) (fatal : Fatal) → StopsShort session needs_start input rest output now fatal →
       TurnComes G honest means faults session (way_on needs_start input output store) (way_on true rest now store) (Err fatal)
   not_heard needs_start input output rest now store fatal short = inr (fatal, refl, record { store = refl; short = short })
 

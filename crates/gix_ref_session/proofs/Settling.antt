@@ -15,7 +15,7 @@ use Rattle.gix_ref_store.specs.declared.file.store.Store.{Store}
 use Rattle.gix_ref_program.specs.declared.update.UpdateError.TheVariants as errors
 use Rattle.gix_ref_program.proofs.Writing.{keeps_all}
 use Rattle.gix_ref_session.specs.Clashes.{IsLookFailure}
-use Rattle.gix_ref_session.specs.Sessions.{IsUnclosed, MakeEnds, PreparedEnds, Settles, TryEnds, Way, way}
+use Rattle.gix_ref_session.specs.Sessions.{IsGivenUp, MakeEnds, PreparedEnds, Settles, TryEnds, Way, way}
 use Rattle.gix_ref_session.specs.Transactions.{IsLocked, IsRefused, IsTransactionLoss, IsTransactionStop, IsTried, IsTryLoss, IsTryStop}
 use Rattle.gix_ref_session.specs.Waiting.{HasWaited, IsLessAfter, NoneIsLeft, meets_lock, meets_packed, times_met}
 use Rattle.gix_ref_session.specs.declared.fatal.Fatal.{Fatal}
@@ -34,24 +34,26 @@ err_is : {T E : Type 0} (e f : E) → ◌≡◌ {A = Result T E} (Err e) (Err f)
 err_is e f is = cc
 
 module _ {F R : Type 0} (G : Ghosts R) (honest : Type 0) (means : F → Meaning) (faults : F → FaultCounts) (session : Session) where
-  no_closing : (cause : Cause) (input : Option (List ℕ)) → IsUnclosed session input (fatals.Update (errors.Prepare cause)) → ⊥
-  no_closing cause input (inl (is, hears)) = cc
-  no_closing cause input (inr (inl stopped)) = stopped
-  no_closing cause input (inr (inr hears)) = hears.3.0
+  no_closing : (cause : Cause) (s t : Way F) → IsGivenUp G honest means faults session s t (fatals.Update (errors.Prepare cause)) → ⊥
+  no_closing cause s t (inl (inl unsaid)) = unsaid.0
+  no_closing cause s t (inl (inr (inl (is, hears), said))) = cc
+  no_closing cause s t (inl (inr (inr (inl stopped), said))) = stopped
+  no_closing cause s t (inl (inr (inr (inr hears), said))) = hears.2.0
+  no_closing cause s t (inr unsaid) = unsaid.0
 
   -- prepared edits do not end so
   not_prepared : (closing : Closing) (s t : Way F) (edits : List RefEdit) (cause : Cause) → PreparedEnds G honest means faults session closing s t edits (Err (fatals.Update (errors.Prepare cause))) → ⊥
   not_prepared closings.Prepare s t edits cause (inl failed) = failed.0
-  not_prepared closings.Prepare s t edits cause (inr (inl given)) = no_closing cause s.input given.2
+  not_prepared closings.Prepare s t edits cause (inr (inl given)) = no_closing cause s t given.2
   not_prepared closings.Prepare s t edits cause (inr (inr unsaid)) = unsaid.1
   not_prepared closings.Commit s t edits cause (inl failed) = failed.0
-  not_prepared closings.Commit s t edits cause (inr (inl given)) = no_closing cause s.input given.2
+  not_prepared closings.Commit s t edits cause (inr (inl given)) = no_closing cause s t given.2
   not_prepared closings.Commit s t edits cause (inr (inr unsaid)) = unsaid.1
   not_prepared closings.Abort s t edits cause (inl failed) = failed.0
-  not_prepared closings.Abort s t edits cause (inr (inl given)) = no_closing cause s.input given.2
+  not_prepared closings.Abort s t edits cause (inr (inl given)) = no_closing cause s t given.2
   not_prepared closings.Abort s t edits cause (inr (inr unsaid)) = unsaid.1
   not_prepared closings.End s t edits cause (inl failed) = failed.0
-  not_prepared closings.End s t edits cause (inr (inl given)) = no_closing cause s.input given.2
+  not_prepared closings.End s t edits cause (inr (inl given)) = no_closing cause s t given.2
   not_prepared closings.End s t edits cause (inr (inr unsaid)) = unsaid.1
 
   refused : (closing : Closing) (s t : Way F) (edits : List RefEdit) (cause : Cause) → MakeEnds G honest means faults session closing edits s t (Err (fatals.Update (errors.Prepare cause))) →

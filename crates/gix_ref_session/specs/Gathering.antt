@@ -15,12 +15,12 @@ use Rattle.gix_ref_session.specs.declared.session.Session.{Session}
 
 -- the writer failed
 abbrev pub IsUnsaid : Fatal → Type 0
-IsUnsaid (fatals.Io error) = Unit {0}
+IsUnsaid (fatals.Write error) = Unit {0}
 IsUnsaid fatal = ⊥
 
--- the reader or the writer failed, or there was no memory
+-- the reader failed, or there was no memory
 abbrev pub IsStopped : Fatal → Type 0
-IsStopped (fatals.Io error) = Unit {0}
+IsStopped (fatals.Read error) = Unit {0}
 IsStopped fatals.Memory = Unit {0}
 IsStopped fatal = ⊥
 
@@ -36,13 +36,13 @@ IsMalformed session text fatal = IsReportOf text fatal
     IsNoCommand session.format session.object_hash words)
 
 -- a text is read that is no command
-abbrev pub HearsNone : Session → Fatal → (old : Option (List ℕ)) → Type 0
-HearsNone session fatal old = (text : List ℕ) × (rest : Option (List ℕ))
-    × HearsText session.format old rest text × IsMalformed session text fatal
+abbrev pub HearsNone : Session → Fatal → (old new : Option (List ℕ)) → Type 0
+HearsNone session fatal old new = (text : List ℕ)
+    × HearsText session.format old new text × IsMalformed session text fatal
 
--- why no command is read
-abbrev pub IsUnheard : Session → (input : Option (List ℕ)) → Fatal → Type 0
-IsUnheard session input fatal = IsStopped fatal ⊎ HearsNone session fatal input
+-- why no command is read, and what is left of the input
+abbrev pub IsUnheard : Session → (input rest : Option (List ℕ)) → Fatal → Type 0
+IsUnheard session input rest fatal = IsStopped fatal ⊎ HearsNone session fatal input rest
 
 -- A transaction on its way: the bytes that are left of the input and those that were written, where they are known; its edits;
 -- whether `start` came, and whether the next edit follows symbolic references.
@@ -114,16 +114,20 @@ abbrev pub GivesNoEdit : Heard → Gathering → Fatal → Type 0
 GivesNoEdit (Edit name ask) s fatal = IsNoEdit s.deref name ask fatal
 GivesNoEdit heard s fatal = ⊥
 
+-- the answer to a first `start` is not written
+abbrev pub IsStartUnsaid : Heard → Gathering → Fatal → Type 0
+IsStartUnsaid heard s fatal = (heard ≡ Start) × (s.started ≡ false) × IsUnsaid fatal
+
 -- why a command is not done
 abbrev pub IsNotDone : (needs_start : Bool) → Heard → Gathering → Fatal → Type 0
-IsNotDone needs_start heard s fatal = IsStopped fatal
+IsNotDone needs_start heard s fatal = ((fatal ≡ fatals.Memory) ⊎ IsStartUnsaid heard s fatal)
     ⊎ (IsOutOfPlace needs_start heard s fatal ⊎ GivesNoEdit heard s fatal)
 
--- why the next one is not: none is read, or it is not done
-abbrev pub CannotGoOn : Session → (needs_start : Bool) → Gathering → Fatal → Type 0
-CannotGoOn session needs_start s fatal = IsUnheard session s.input fatal
-    ⊎ ((heard : Heard) × (rest : Option (List ℕ))
-    × Hears session.format session.object_hash heard s.input rest
+-- why the next one is not: none is read, or it is not done; and what is left of the input
+abbrev pub CannotGoOn : Session → (needs_start : Bool) → Gathering → (rest : Option (List ℕ)) →
+    Fatal → Type 0
+CannotGoOn session needs_start s rest fatal = IsUnheard session s.input rest fatal
+    ⊎ ((heard : Heard) × Hears session.format session.object_hash heard s.input rest
     × IsNotDone needs_start heard s fatal)
 
 -- what was gathered so far, with what is known of the input and the output
@@ -158,12 +162,12 @@ GathersOrCloses session needs_start (Some closing) s t =
     × (needs_start ≡ true → (s.started ≡ true) ⊎ (closing ≡ closings.End))
 
 -- the commands of a transaction were not heard to their end: some were, and their answers written
-pub record StopsShort (session : Session) (needs_start : Bool) (input output now : Option (List ℕ))
-    (fatal : Fatal) : Type 0 where
+pub record StopsShort (session : Session) (needs_start : Bool)
+    (input rest output now : Option (List ℕ)) (fatal : Fatal) : Type 0 where
   pub heards : List Heard
   pub gathered : Gathering
   pub were : AreDone (Gathers session needs_start) heards (nothing_gathered input output) gathered
-  pub why : CannotGoOn session needs_start gathered fatal
+  pub why : CannotGoOn session needs_start gathered rest fatal
   pub said : IsUnsaid fatal ⊎ Appends gathered.output now []
 
 -- they were

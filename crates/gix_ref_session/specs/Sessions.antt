@@ -76,18 +76,19 @@ IsOther Abort = ⊥
 IsOther heard = Unit {0}
 
 -- another command than `commit` and `abort` is read
-abbrev pub HearsOther : Session → (input : Option (List ℕ)) → Type 0
-HearsOther session input = (heard : Heard) × (rest : Option (List ℕ)) × IsOther heard
+abbrev pub HearsOther : Session → (input rest : Option (List ℕ)) → Type 0
+HearsOther session input rest = (heard : Heard) × IsOther heard
     × Hears session.format session.object_hash heard input rest
 
 -- why what is prepared is not closed: another command is read, or none
-abbrev pub IsUnclosed : Session → (input : Option (List ℕ)) → Fatal → Type 0
-IsUnclosed session input fatal =
-    ((fatal ≡ fatals.Prepared) × HearsOther session input) ⊎ IsUnheard session input fatal
+abbrev pub IsUnclosed : Session → (input rest : Option (List ℕ)) → Fatal → Type 0
+IsUnclosed session input rest fatal = ((fatal ≡ fatals.Prepared) × HearsOther session input rest)
+    ⊎ IsUnheard session input rest fatal
 
--- that it is prepared was said, and no more; or the writer failed
-abbrev pub IsPreparedSaid : Fatal → (out now : Option (List ℕ)) → Type 0
-IsPreparedSaid fatal out now = IsUnsaid fatal ⊎ Appends out now (codes "prepare: ok\n")
+-- the writer failed before anything was read; or it was said that all is prepared, and no more, and then nothing was read that closes it
+abbrev pub StaysUnclosed : Session → (input rest out now : Option (List ℕ)) → Fatal → Type 0
+StaysUnclosed session input rest out now fatal = (IsUnsaid fatal × Keeps input rest)
+    ⊎ (IsUnclosed session input rest fatal × Appends out now (codes "prepare: ok\n"))
 
 -- what is heard after `prepare: ok`
 abbrev pub HeardClosing : Session → (input rest out now : Option (List ℕ)) →
@@ -102,7 +103,7 @@ HeardClosing session input rest out now (Ok closings.End) =
     IsAtEnd input × Appends out now (codes "prepare: ok\n")
 HeardClosing session input rest out now (Ok closings.Prepare) = ⊥
 HeardClosing session input rest out now (Err fatal) =
-    IsUnclosed session input fatal × IsPreparedSaid fatal out now
+    StaysUnclosed session input rest out now fatal
 
 -- `commit` is heard: it is what closes the edits, or after `prepare: ok` it is read; at the end of the input nothing is
 abbrev pub IsCommitHeard : Session → Closing → (input rest : Option (List ℕ)) → Type 0
@@ -135,6 +136,11 @@ module _ {F R : Type 0} (G : Ghosts R) (honest : Type 0) (means : F → Meaning)
       IsRolledBack honest means faults old new edits × Appends out now []
   ClosedBy heard old new edits out now result = ⊥
 
+  -- how prepared edits came to be given up: nothing was read that closes them; or `abort` was, and its answer not written
+  abbrev pub IsGivenUp : (s t : Way F) → Fatal → Type 0
+  IsGivenUp s t fatal = StaysUnclosed session s.input t.input s.output t.output fatal
+      ⊎ (IsUnsaid fatal × Hears session.format session.object_hash Abort s.input t.input)
+
   -- How edits that were prepared from a store end, after this command. With `true` the session goes on: they were committed, before
   -- that was answered; or, after `prepare`, given up by `abort`. With `false` the input has ended: without `start` they were
   -- committed, and after `prepare` given up.
@@ -156,14 +162,14 @@ module _ {F R : Type 0} (G : Ghosts R) (honest : Type 0) (means : F → Meaning)
   PreparedEnds closings.Prepare s t edits (Ok false) =
       IsRolledBack honest means faults s.store t.store edits
       × IsAtEnd s.input × Appends s.output t.output (codes "prepare: ok\n")
-  -- their commit failed; or after `prepare` they were not closed, and given up; or the writer failed after they were committed, where
-  -- that is answered
+  -- their commit failed; or after `prepare` they were not closed, and given up; or `abort` was read, they were given up, and the writer
+  -- failed; or it did after they were committed, where that is answered
   PreparedEnds closing s t edits (Err fatal) =
       (CommitFailed honest means faults session.committer (HasReadFault G.faults) fatal s.store t.store edits
       × IsCommitHeard session closing s.input t.input
       × Appends s.output t.output (said_before closing))
       ⊎ (((closing ≡ closings.Prepare) × IsRolledBack honest means faults s.store t.store edits
-      × IsUnclosed session s.input fatal × IsPreparedSaid fatal s.output t.output)
+      × IsGivenUp s t fatal)
       ⊎ ((closing ≢ closings.End) × IsUnsaid fatal
       × IsCommitted honest means faults session.committer s.store t.store edits
       × IsCommitHeard session closing s.input t.input))
@@ -215,7 +221,8 @@ module _ {F R : Type 0} (G : Ghosts R) (honest : Type 0) (means : F → Meaning)
       Result Bool Fatal → Type 0
   Closes closings.Abort edits gives_up s t (Ok true) =
       (t.store ≡ s.store) × Keeps s.input t.input × Appends s.output t.output (codes "abort: ok\n")
-  Closes closings.Abort edits gives_up s t (Err fatal) = (t.store ≡ s.store) × IsUnsaid fatal
+  Closes closings.Abort edits gives_up s t (Err fatal) =
+      (t.store ≡ s.store) × Keeps s.input t.input × IsUnsaid fatal
   Closes closings.Abort edits gives_up s t (Ok false) = ⊥
   Closes closings.End edits true s t (Ok false) =
       (t.store ≡ s.store) × Keeps s.input t.input × Appends s.output t.output []
@@ -258,7 +265,7 @@ module _ {F R : Type 0} (G : Ghosts R) (honest : Type 0) (means : F → Meaning)
   -- the commands of one were not heard to their end: nothing changes
   pub record NotHeard (s t : Way F) (fatal : Fatal) : Type 0 where
     pub store : t.store ≡ s.store
-    pub short : StopsShort session s.needs_start s.input s.output t.output fatal
+    pub short : StopsShort session s.needs_start s.input t.input s.output t.output fatal
 
   -- how a step of a session comes out: a transaction, or the commands of none
   abbrev pub TurnComes : (s t : Way F) → Result Bool Fatal → Type 0

@@ -14,9 +14,12 @@ use thiserror::Error;
 /// Why a session ends.
 #[derive(Debug, Drop, Error)]
 pub enum Fatal {
-    /// The reader or the writer failed.
-    #[error("cannot read or write: {0}")]
-    Io(io::Error),
+    /// The reader failed.
+    #[error("cannot read: {0}")]
+    Read(io::Error),
+    /// The writer failed.
+    #[error("cannot write: {0}")]
+    Write(io::Error),
     /// An allocation was refused.
     #[error("out of memory")]
     Memory,
@@ -98,12 +101,12 @@ impl fmt::Display for Text {
 
 impl From<io::Error> for Fatal {
     ghost use Rattle.std.specs.Prelude.{◌≡◌};
-    ghost use Rattle.gix_ref_session.specs.declared.fatal.Fatal.TheVariants.{Io};
+    ghost use Rattle.gix_ref_session.specs.declared.fatal.Fatal.TheVariants.{Read};
 
-    ghost from_gives = { λ error fatal. fatal ≡ Io error };
+    ghost from_gives = { λ error fatal. fatal ≡ Read error };
 
     fn from(error: io::Error) -> Fatal {
-        Fatal::Io(error)
+        Fatal::Read(error)
     }
 }
 

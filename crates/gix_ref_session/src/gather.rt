@@ -7,6 +7,7 @@ ghost use Rattle.gix_ref_session.specs.Edits.{IsEditOf, IsNoEdit};
 ghost use Rattle.gix_ref_edits.specs.declared.transaction.RefEdit.{RefEdit as AnEdit};
 ghost use Rattle.gix_ref_session.specs.Gathering.{CannotGoOn, GathersOrCloses, IsGathered, IsMalformed, IsNotDone, IsStopped, IsReportOf, IsUnheard, IsUnsaid, StopsShort, TakesOrCloses, as_gathering};
 ghost use Rattle.gix_ref_session.specs.Input.{AreWords, Hears};
+ghost use Rattle.gix_ref_session.specs.declared.fatal.Fatal.TheVariants.{Memory};
 
 use crate::command::{Asked, Command, Malformed, parse, words_of};
 use crate::edit::edit_of;
@@ -49,14 +50,18 @@ pub(crate) struct Gathered {
     pub(crate) deref: bool,
 }
 
-/// Writes an answer.
+/// Writes an answer, and hands it on at once.
 pub(crate) fn say<W: Write>(out: &mut W, answer: &[u8]) -> Result<(), Fatal>
     ensures said { OnOk result (Appends (W.contents out.old) (W.contents out.new) answer.now) }
     ensures unsaid { IfErr result IsUnsaid }
 {
     match out.write_all(answer) {
+        Ok(()) => (),
+        Err(error) => return Err(Fatal::Write(error)),
+    }
+    match out.flush() {
         Ok(()) => Ok(()),
-        Err(error) => Err(Fatal::Io(error)),
+        Err(error) => Err(Fatal::Write(error)),
     }
 }
 
@@ -170,7 +175,8 @@ pub(crate) fn next_command<'t, R: BufRead>(
         × Keeps (R.remaining input.old) (R.remaining input.new))
         (λ command. Hears session.now.format session.now.object_hash (heard_of command)
         (R.remaining input.old) (R.remaining input.new))) }
-    ensures fails { IfErr result (IsUnheard session.now (R.remaining input.old)) }
+    ensures fails { IfErr result
+        (IsUnheard session.now (R.remaining input.old) (R.remaining input.new)) }
 {
     let Texts { text, field, plain } = texts;
     if !read_command(input, session.format, field, text)? {
@@ -201,7 +207,7 @@ fn add(
         × IsEditOf session.now gathered.old.deref name.now (ask_of asked.entry) edit
         × (gathered.new.edits.items ≡ gathered.old.edits.items ++ edit ∷ [])
         × (gathered.new.is_started ≡ gathered.old.is_started) × (gathered.new.deref ≡ true)) }
-    ensures fails { IfErr result (λ fatal. IsStopped fatal
+    ensures fails { IfErr result (λ fatal. (fatal ≡ Memory)
         ⊎ IsNoEdit gathered.old.deref name.now (ask_of asked.entry) fatal) }
 {
     let edit = edit_of(alloc, session, gathered.deref, name, asked)?;
@@ -286,7 +292,8 @@ fn hear<R: BufRead, W: Write>(
     ensures unsaid { IfErr result
         (λ fatal. IsUnsaid fatal ⊎ Appends (W.contents out.old) (W.contents out.new) []) }
     ensures fails { IfErr result (CannotGoOn session.now needs_start
-        (as_gathering (R.remaining input.old) (W.contents out.old) gathered.old)) }
+        (as_gathering (R.remaining input.old) (W.contents out.old) gathered.old)
+        (R.remaining input.new)) }
 {
     match next_command(alloc, session, input, texts) {
         Err(fatal) => Err(fatal),
@@ -313,7 +320,7 @@ pub(crate) fn gather<R: BufRead, W: Write>(
         (R.remaining input.old) (W.contents out.old) (R.remaining input.new) (W.contents out.new)
         r.0) }
     ensures fails { IfErr result (StopsShort session.now needs_start (R.remaining input.old)
-        (W.contents out.old) (W.contents out.new)) }
+        (R.remaining input.new) (W.contents out.old) (W.contents out.new)) }
 {
     let mut gathered = Gathered {
         edits: Vec::new(alloc),

@@ -188,7 +188,7 @@ fn transaction<F: Files, C: Clock, R: BufRead, W: Write>(
 /// tried again each millisecond, as long as the session says. What `start` began is given up at the end of the input; commands without
 /// it are committed. (`git update-ref --stdin`)
 ///
-/// The error is that of the reader or the writer (`Io`); of a command that is none, out of place, or of a name that breaks a rule; of a
+/// The error is that of the reader or the writer (`Read`, `Write`); of a command that is none, out of place, or of a name that breaks a rule; of a
 /// lookup that failed, or names in one another's way; or of a transaction that was refused, or whose commit failed (`Update`). No command is
 /// done after it. A transaction costs what `prepare` and `commit` do, and two lookups more for each of its edits.
 pub fn serve<F: Files, C: Clock, R: BufRead, W: Write>(

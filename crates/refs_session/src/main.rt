@@ -89,7 +89,9 @@ fn answer_words(rt: &HostRuntime, parsed: &Parsed<'_, '_>) -> Result<u8, Fatal> 
         return Ok(129);
     };
     let mut out = io::writer(rt);
-    out.write_all(&answer.text)?;
+    if let Err(error) = out.write_all(&answer.text) {
+        return Err(Fatal::Write(error));
+    }
     let _ = eprint!(rt; "{}", answer.errors.as_slice().as_bstr());
     Ok(answer.status)
 }

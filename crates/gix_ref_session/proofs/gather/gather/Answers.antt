@@ -5,7 +5,7 @@ use Rattle.gix_ref_session.proofs.gather.gather.Goals as goal
 pub returns-in-Err-clause-fails : goal.returns-in-Err-clause-fails
 returns-in-Err-clause-fails g c =
     falls_short c.args.session.now c.args.needs_start (g.R.Read.remaining c.args.input.now) (g.W.Write.contents c.args.out.now) (as_gathering (g.R.Read.remaining c.commands.input) (g.W.Write.contents c.commands.out) c.commands.gathered)
-    (g.W.Write.contents c.hear.new.out) c.in-Err.fatal c.commands.invariant c.in-Err.ensures.fails c.in-Err.ensures.unsaid
+    (g.R.Read.remaining c.hear.new.input) (g.W.Write.contents c.hear.new.out) c.in-Err.fatal c.commands.invariant c.in-Err.ensures.fails c.in-Err.ensures.unsaid
 
 pub returns-in-Ok-Some-clause-gathered : goal.returns-in-Ok-Some-clause-gathered
 returns-in-Ok-Some-clause-gathered g c =

@@ -9,7 +9,7 @@ returns-in-Ok-clause-ends g c old edits from =
     c.in-Ok.heard c.close_by.result c.in-Ok.ensures (c.close_by.ensures.ends old edits from)
 
 pub returns-in-Err-clause-ends : goal.returns-in-Err-clause-ends
-returns-in-Err-clause-ends g c old edits from = inr (inl (refl, c.give_up.ensures.ends old edits from, c.in-Err.ensures.0, c.in-Err.ensures.1))
+returns-in-Err-clause-ends g c old edits from = inr (inl (refl, c.give_up.ensures.ends old edits from, inl c.in-Err.ensures))
 
 pub returns-in-Err-clause-leaves : goal.returns-in-Err-clause-leaves
 returns-in-Err-clause-leaves g c old edits from = c.give_up.ensures.leaves c.args.session.now.committer old edits from
