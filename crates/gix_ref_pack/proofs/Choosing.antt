@@ -1,10 +1,11 @@
 -- What is chosen, one loose reference after the other.
-use Rattle.std.proofs.Common.{◌≡◌, ℕ, Bool, true, false, List, [], ◌∷◌, ◌++◌, refl, sym, ◌∙◌, ap, subst, Option, Some, None, Result, cond, append-nil, append_assoc}
-use Rattle.std.specs.Prelude.{bytes_eq}
+use Rattle.std.proofs.Common.{◌≡◌, inl, inr, take, drop, length, IfErr, Ok, Err, ℕ, Bool, true, false, List, [], ◌∷◌, ◌++◌, refl, sym, ◌∙◌, ap, subst, Option, Some, None, Result, cond, append-nil, append_assoc}
+use Rattle.std.specs.Prelude.{IsErrAnd, bytes_eq}
 use Rattle.std.specs.Cmp.Lexicographic.{bytes_decides}
 use Rattle.std.specs.Option.{option_copied}
 use denote.Ref.{Bor}
 use Rattle.std.specs.List.{cons_option, filter, filter_map}
+use Rattle.std.proofs.lemmas.List.{take-append-drop}
 use Rattle.std.proofs.lemmas.List.Elements.{filter-append, filter_map-append}
 use Rattle.gix_ref_files.specs.Tree.{Content, bytes_of, is_file}
 use Rattle.gix_ref_files.specs.Tree.Content.{File, Folder}
@@ -23,13 +24,23 @@ use Rattle.gix_ref_listing.specs.declared.error.Error.{Error}
 use Rattle.gix_ref_store.specs.Lookup.{AreHeld}
 use Rattle.gix_ref_pack.specs.KeptObjects.{AreKeptFor, KeepsObject}
 use Rattle.gix_ref_pack.specs.LooseObjects.{fault_in, faults_among}
+use Rattle.gix_ref_pack.specs.Packings.{ArePicked, IsAskError}
 use Rattle.gix_ref_pack.specs.declared.pack.Loose.{Loose}
+use Rattle.gix_ref_pack.specs.declared.pack.PackError.{PackError}
+use Rattle.gix_ref_pack.specs.declared.pack.PackError.TheVariants.{Memory, Open, Find, Prepare, Commit}
 
 -- one more that a filter keeps
 pub filter_more : {A : Type 0} (test : A → Bool) (xs kept : List A) (x : A) → kept ≡ filter test xs → test x ≡ true → kept ++ x ∷ [] ≡ filter test (xs ++ x ∷ [])
 filter_more {A = A} test xs kept x so_far is =
     ap (λ (ks : List A). ks ++ x ∷ []) so_far
     ∙ (ap (λ b. filter test xs ++ cond b (x ∷ []) []) (sym is) ∙ sym (filter-append test xs (x ∷ [])))
+
+-- and one more that it does not
+pub filter_less : {A : Type 0} (test : A → Bool) (xs kept : List A) (x : A) → kept ≡ filter test xs → test x ≡ false → kept ≡ filter test (xs ++ x ∷ [])
+filter_less {A = A} test xs kept x so_far is =
+    so_far
+    ∙ (sym (append-nil (filter test xs))
+    ∙ (ap (λ b. filter test xs ++ cond b (x ∷ []) []) (sym is) ∙ sym (filter-append test xs (x ∷ []))))
 
 -- one more of which something is given, or nothing
 pub map_more : {A B : Type 0} (h : A → Option B) (xs : List A) (given after : List B) (x : A) (y : B) → after ≡ given ++ y ∷ [] → given ≡ filter_map h xs → h x ≡ Some y → after ≡ filter_map h (xs ++ x ∷ [])
@@ -100,3 +111,39 @@ held_now kind content records (Some b) (Some lent) are opens value = subst (λ (
     holds None are a_file opened = absurd (cc)
 held_now kind content records None (Some lent) are opens value = absurd (cc)
 held_now kind content records (Some b) None are opens value = absurd (cc)
+
+-- one more that is picked, and one that is not
+pub picked_more : (P N : Loose → Type 0) (found picked : List Loose) (l : Loose) → ArePicked P N found picked → P l → ArePicked P N (found ++ l ∷ []) (picked ++ l ∷ [])
+picked_more P N [] picked l are is = inr ([], ap (λ (ls : List Loose). ls ++ l ∷ []) are, is, refl)
+picked_more P N (m ∷ found) picked l (inl (not, are)) is = inl (not, picked_more P N found picked l are is)
+picked_more P N (m ∷ found) picked l (inr (more, same, first, are)) is = inr (more ++ l ∷ [], ap (λ (ls : List Loose). ls ++ l ∷ []) same, first, picked_more P N found more l are is)
+
+pub picked_but : (P N : Loose → Type 0) (found picked : List Loose) (l : Loose) → ArePicked P N found picked → N l → ArePicked P N (found ++ l ∷ []) picked
+picked_but P N [] picked l are not = inl (not, are)
+picked_but P N (m ∷ found) picked l (inl (first, are)) not = inl (first, picked_but P N found picked l are not)
+picked_but P N (m ∷ found) picked l (inr (more, same, first, are)) not = inr (more, same, first, picked_but P N found more l are not)
+
+-- the error is handed on, for a wider reason
+pub told_ask : {T : Type 0} (r : Result T PackError) (error : PackError) (P Q : Type 0) → IsErrAnd r (λ e. e ≡ error) → (P → Q) → IsAskError P error → IfErr r (IsAskError Q)
+told_ask (Ok v) error P Q fails so why = absurd fails
+told_ask (Err e) error P Q fails so why = subst (IsAskError Q) (sym fails) (wider error why)
+  where
+    wider : (error : PackError) → IsAskError P error → IsAskError Q error
+    wider Memory why = tt
+    wider (Find e) why = so why
+    wider (Open e) why = absurd why
+    wider (Prepare e) why = absurd why
+    wider (Commit e) why = absurd why
+
+-- the faults among the first items are the first among all
+pub first_faults : (before broken : List Error) (seen items : List (Result Reference Error)) → broken ≡ before ++ faults_among seen → seen ≡ take (length seen) items → broken ++ faults_among (drop (length seen) items) ≡ before ++ faults_among items
+first_faults before broken seen items is first =
+    ap (λ (bs : List Error). bs ++ faults_among (drop (length seen) items)) is
+    ∙ (append_assoc before (faults_among seen) (faults_among (drop (length seen) items))
+    ∙ ap (λ (fs : List Error). before ++ fs)
+    (ap (λ (xs : List (Result Reference Error)). faults_among xs ++ faults_among (drop (length seen) items)) first
+    ∙ (sym (filter_map-append fault_in (take (length seen) items) (drop (length seen) items)) ∙ ap faults_among (take-append-drop (length seen) items))))
+
+pub every_error : {T E : Type 0} (r : Result T E) (P : Type 0) → P → IfErr r (λ e. P)
+every_error (Ok v) P is = tt
+every_error (Err e) P is = is

@@ -1,6 +1,7 @@
 //! Packing of loose references (`git pack-refs`).
-ghost use Rattle.std.specs.Prelude.{◌≡◌, ◌++◌, ◌||◌, List, true, IfErr, IfOk, OnOk, is_some};
-ghost use Rattle.std.specs.List.{filter};
+ghost use Rattle.std.specs.Prelude.{◌≡◌, ◌⊎◌, ◌++◌, ◌||◌, List, [], true, false, IfErr, IfOk, OnOk, is_some};
+ghost use Rattle.std.specs.List.{Any, filter};
+ghost use Rattle.gix_ref_listing.specs.declared.error.Error.{Error as ItemError};
 ghost use Rattle.gix_ref_files.specs.Files.{LossesLeave, StopsLeave};
 ghost use Rattle.gix_ref_hash.specs.declared.hash.ObjectId.{ObjectId as Id};
 ghost use Rattle.gix_ref_packed.specs.Buffers.{HoldsRecords, buffer_kind, buffer_text};
@@ -14,7 +15,7 @@ ghost use Rattle.gix_ref_transaction.specs.OwnLocks.{paths_of};
 ghost use Rattle.gix_ref_pack.specs.KeptObjects.{AreKeptFor, KeepsObject};
 ghost use Rattle.gix_ref_pack.specs.KnownObjects.{end_in, is_known};
 ghost use Rattle.gix_ref_pack.specs.LooseObjects.{end_with_branches, faults_among, is_branch, is_shared, is_tag, IsKeyName, key_for, loose_among, loose_to, packable};
-ghost use Rattle.gix_ref_pack.specs.Packings.{Chooses, ChoosesAmong, EachReadsAsItDid, IsAskError, Packs, PlanComes, PutEnds, TellsChosen, uses_of};
+ghost use Rattle.gix_ref_pack.specs.Packings.{ArePicked, Chooses, ChoosesAmong, EachReadsAsItDid, HasKey, HidesKey, IsAskError, IsNoTag, IsOfLent, IsTagOr, Packs, PlanComes, PutEnds, TellsChosen, uses_of};
 
 use crate::objects::Objects;
 use gix_ref_edits::transaction::{Change, LogChange, PreviousValue, RefEdit};
@@ -117,6 +118,8 @@ fn loose_objects(
 ) -> Result<Vec<Loose>, AllocError>
     ensures found { IfOk result (λ found. found.items ≡ loose_among items.items) }
     ensures broken { OnOk result (broken.new.items ≡ broken.old.items ++ faults_among items.items) }
+    ensures some { IfErr result (λ _. (more : List ItemError)
+        × (broken.new.items ++ more ≡ broken.old.items ++ faults_among items.items)) }
 {
     let mut found = Vec::new(alloc);
     for item in items {
@@ -176,7 +179,10 @@ fn has_record(
     ensures chosen { (rs : List Record) → HoldsRecords (buffer_kind records.now) rs
         (buffer_text records.now) → TellsChosen result
         (is_some (record_named (key_for namespace.now name.now) rs)) }
-    ensures errors { IfErr result IsAskError }
+    ensures line { IfOk result (λ there. there ≡ true →
+        HasKey (key_for namespace.now name.now) records.now) }
+    ensures errors { IfErr result
+        (IsAskError (HidesKey (key_for namespace.now name.now) records.now)) }
 {
     match key_of(alloc, namespace, name)? {
         Some(key) => match records.try_find_key(key.as_ref()) {
@@ -196,7 +202,11 @@ fn is_packed_again(
 ) -> Result<bool, PackError>
     ensures chosen { (rs : List Record) → AreHeld records.entry rs → TellsChosen result
         (is_tag name.now || is_some (record_named (key_for namespace.now name.now) rs)) }
-    ensures errors { IfErr result IsAskError }
+    ensures line { IfOk result (λ again. again ≡ true → (is_tag name.now ≡ true)
+        ⊎ IsOfLent (HasKey (key_for namespace.now name.now)) records.entry) }
+    ensures tag { IfOk result (λ again. again ≡ false → is_tag name.now ≡ false) }
+    ensures errors { IfErr result (IsAskError
+        (IsOfLent (HidesKey (key_for namespace.now name.now)) records.entry)) }
 {
     if tags(name) {
         return Ok(true);
@@ -216,7 +226,11 @@ fn chosen_among(
 ) -> Result<Vec<Loose>, PackError>
     ensures chosen { (rs : List Record) → AreHeld records.entry rs → ChoosesAmong namespace.now rs
         found.items result }
-    ensures errors { IfErr result IsAskError }
+    ensures picked { IfOk result (λ chosen. ArePicked
+        (IsTagOr (λ key. IsOfLent (HasKey key) records.entry) namespace.now) IsNoTag
+        found.items chosen.items) }
+    ensures errors { IfErr result (IsAskError (Any (λ l.
+        IsOfLent (HidesKey (key_for namespace.now l.name)) records.entry) found.items)) }
 {
     let mut chosen = Vec::new(alloc);
     for loose in found {
@@ -234,7 +248,8 @@ fn choose<F: Files>(
     is_all: bool,
     found: Vec<Loose>,
 ) -> Result<Vec<Loose>, PackError>
-    ensures chooses { Chooses F.honest F.means is_all store.old found.items result }
+    ensures chooses { Chooses F.honest F.means F.faults is_all found.items store.old store.new
+        result }
     ensures looks { LooksUp F.honest F.means store.old store.new }
 {
     if is_all {
@@ -300,8 +315,9 @@ fn planned<F: Files>(
     mut objects: Objects,
     broken: &mut Vec<loose_then_packed::Error>,
 ) -> Result<Plan, PackError>
-    ensures plans { PlanComes F.honest F.means F.faults is_all objects store.old
-        broken.old.items broken.new.items result }
+    requires { broken.now.items ≡ [] }
+    ensures plans { PlanComes F.honest F.means F.faults is_all objects store.old store.new
+        result broken.new.items }
     ensures looks { LooksUp F.honest F.means store.old store.new }
 {
     let items = match list_loose(alloc, store) {

@@ -1,9 +1,7 @@
-use Rattle.std.proofs.Common.{◌≡◌, ◌++◌, ◌∙◌, inl, inr, List, [], ap, refl, sym, subst, Ok, Err, arith, eqb-true, length, vec_len}
-use Rattle.gix_ref_listing.specs.declared.error.Error.{Error}
+use Rattle.std.proofs.Common.{◌≡◌, ◌∙◌, inl, inr, [], ap, refl, sym, Ok, Err, arith, eqb-true, length, vec_len}
 use Rattle.gix_ref_packed.specs.OpenFiles.{HasReadFault}
 use Rattle.gix_ref_store.specs.Store.{files_of}
 use Rattle.gix_ref_transaction.specs.OwnLocks.{paths_of}
-use Rattle.gix_ref_pack.specs.Packings.{IsPlanned}
 use Rattle.gix_ref_pack.proofs.PackedStores.{no_items, packs_are_lost, packs_leave, packs_stop}
 use Rattle.gix_ref_pack.proofs.pack.pack_refs.Goals as goal
 
@@ -16,8 +14,7 @@ returns-then-is_empty-clause-packs g c =
     inl (record {
       mid = c.planned.new.store;
       plan = c.in-Ok.plan;
-      planned = subst (λ (b : List Error). IsPlanned F.honest F.means F.faults c.args.is_all c.args.objects c.args.store.now c.in-Ok.plan b) (sym (plans.1 ∙ ap (λ (b : List Error). b ++ plans.0) c.new-broken.ensures.items)) plans.2;
-      looked = c.planned.ensures.looks;
+      planned = plans;
       ends = inr (none, refl, refl, ap paths_of c.new.ensures.items);
     })
 
@@ -35,9 +32,7 @@ returns-else-is_empty-clause-packs g c =
     inl (record {
       mid = c.planned.new.store;
       plan = c.in-Ok.plan;
-      planned = rw c.put.ensures.broken
-          (subst (λ (b : List Error). IsPlanned F.honest F.means F.faults c.args.is_all c.args.objects c.args.store.now c.in-Ok.plan b) (sym (plans.1 ∙ ap (λ (b : List Error). b ++ plans.0) c.new-broken.ensures.items)) plans.2);
-      looked = c.planned.ensures.looks;
+      planned = rw c.put.ensures.broken plans;
       ends = inl c.put.ensures.ends;
     })
 
