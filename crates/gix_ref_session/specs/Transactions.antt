@@ -97,20 +97,17 @@ module _ {F : Type 0} (honest : Type 0) (means : F → Meaning) (faults : F → 
       ⊎ ((begun : IsBegun honest means faults uses old edits)
       × RemovesLocks (held_locks begun.packed begun.held) (tree_of means begun.mid) T)
 
-  -- What a stop leaves from the store in which edits were prepared up to the one in which they are closed, for all edits of which these
-  -- locks are held; and what a loss of power leaves.
-  abbrev pub ClosingStops : Option SignatureRef → (mid new : Store F) → Option Path → List Edit →
-      Type 0
-  ClosingStops committer mid new packed held = (old : Store F) (edits : List RefEdit) →
-      Prepares old mid edits packed held → honest →
-      Leaves (means (files_of old)) (means (files_of new)) (IsEditStop committer old edits)
-
-  abbrev pub ClosingLosses : Option SignatureRef → (mid new : Store F) → Option Path → List Edit →
-      Type 0
-  ClosingLosses committer mid new packed held = (old : Store F) (edits : List RefEdit) →
-      Prepares old mid edits packed held → honest → HasGoodRecords means old →
-      IsAtRest means old → Loses (means (files_of old)) (means (files_of new))
-      (IsLossOf honest means faults uses old committer edits)
+  -- What a stop and what a loss of power leave, from the store in which edits were prepared up to the one in which they are closed, for
+  -- all edits of which these locks are held.
+  pub record ClosesSafely (committer : Option SignatureRef) (mid new : Store F)
+      (packed : Option Path) (held : List Edit) : Type 0 where
+    pub leaves : (old : Store F) (edits : List RefEdit) → Prepares old mid edits packed held →
+        honest → Leaves (means (files_of old)) (means (files_of new))
+        (IsEditStop committer old edits)
+    pub lost : (old : Store F) (edits : List RefEdit) → Prepares old mid edits packed held →
+        honest → HasGoodRecords means old → IsAtRest means old →
+        Loses (means (files_of old)) (means (files_of new))
+        (IsLossOf honest means faults uses old committer edits)
 
   -- References were looked up, which changes nothing: no name is in the way of another, and symbolic references lead these edits to
   -- others, which end so.

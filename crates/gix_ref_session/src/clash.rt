@@ -174,8 +174,8 @@ fn is_folder_taken<F: Files>(
     }
 }
 
-/// The number of bytes that a name begins with as another does. A folder that ends before is one of both.
-fn shared(name: &[u8], other: &[u8]) -> usize
+/// How many bytes two names have in common at their front. A folder of the one that ends before that is one of the other.
+fn common_prefix_len(name: &[u8], other: &[u8]) -> usize
     ensures { (folder : List ℕ) → IsFolderOf folder name.now → length folder < result →
         IsFolderOf folder other.now }
 {
@@ -301,7 +301,7 @@ fn is_in_the_way<F: Files>(
         (full_bytes name.now)) }
 {
     let path = name.to_path();
-    if is_below_one(alloc, store, path, shared(path, last), edited)? {
+    if is_below_one(alloc, store, path, common_prefix_len(path, last), edited)? {
         return Ok(true);
     }
     let prefix = prefix_below(alloc, name)?;

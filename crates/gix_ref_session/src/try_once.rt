@@ -10,7 +10,7 @@ ghost use Rattle.gix_ref_store.specs.PreparedFields.{held_edits, held_packed};
 ghost use Rattle.gix_ref_store.specs.Store.{files_of};
 ghost use Rattle.gix_ref_store.specs.declared.file.store.Store.{Store as AStore};
 ghost use Rattle.gix_ref_session.specs.Sessions.{AnswersAbort, AnswersCommit, ClosedBy, HeardClosing, MakeEnds, PreparedEnds, TryEnds, way};
-ghost use Rattle.gix_ref_session.specs.Transactions.{ClosingLosses, ClosingStops, CommitEnds, IsCommitResult, IsEditStop, IsRolledBack, IsTryLoss, IsTryStop, Prepares, uses};
+ghost use Rattle.gix_ref_session.specs.Transactions.{ClosesSafely, CommitEnds, IsCommitResult, IsEditStop, IsRolledBack, IsTryLoss, IsTryStop, Prepares, uses};
 
 use crate::command::Command;
 use crate::fatal::Fatal;
@@ -45,10 +45,7 @@ fn commit<F: Files>(
         prepared.entry.store.now edits (held_packed prepared.entry.plan)
         (held_edits prepared.entry.plan) → CommitEnds F.honest F.means F.faults
         session.now.committer (HasReadFault F.Reader.faults) old prepared.exit.0.now edits result }
-    ensures leaves { ClosingStops F.honest F.means F.faults session.now.committer
-        prepared.entry.store.now prepared.exit.0.now (held_packed prepared.entry.plan)
-        (held_edits prepared.entry.plan) }
-    ensures lost { ClosingLosses F.honest F.means F.faults session.now.committer
+    ensures safe { ClosesSafely F.honest F.means F.faults session.now.committer
         prepared.entry.store.now prepared.exit.0.now (held_packed prepared.entry.plan)
         (held_edits prepared.entry.plan) }
 {
@@ -61,10 +58,7 @@ fn give_up<F: Files>(prepared: Prepared<'_, F>)
         prepared.entry.store.now edits (held_packed prepared.entry.plan)
         (held_edits prepared.entry.plan) →
         IsRolledBack F.honest F.means F.faults old prepared.exit.0.now edits }
-    ensures leaves { (committer : Option SignatureRef) → ClosingStops F.honest F.means F.faults
-        committer prepared.entry.store.now prepared.exit.0.now (held_packed prepared.entry.plan)
-        (held_edits prepared.entry.plan) }
-    ensures lost { (committer : Option SignatureRef) → ClosingLosses F.honest F.means F.faults
+    ensures safe { (committer : Option SignatureRef) → ClosesSafely F.honest F.means F.faults
         committer prepared.entry.store.now prepared.exit.0.now (held_packed prepared.entry.plan)
         (held_edits prepared.entry.plan) }
 {
@@ -108,10 +102,7 @@ fn close_by<F: Files, W: Write>(
         (held_edits prepared.entry.plan) → ClosedBy F.Reader.ReadAt F.honest F.means
         F.faults session.now heard old prepared.exit.0.now edits
         (W.contents out.old) (W.contents out.new) result }
-    ensures leaves { ClosingStops F.honest F.means F.faults session.now.committer
-        prepared.entry.store.now prepared.exit.0.now (held_packed prepared.entry.plan)
-        (held_edits prepared.entry.plan) }
-    ensures lost { ClosingLosses F.honest F.means F.faults session.now.committer
+    ensures safe { ClosesSafely F.honest F.means F.faults session.now.committer
         prepared.entry.store.now prepared.exit.0.now (held_packed prepared.entry.plan)
         (held_edits prepared.entry.plan) }
 {
@@ -171,10 +162,7 @@ fn close<F: Files, R: BufRead, W: Write>(
         F.means F.faults session.now Closing.Prepare
         (way (R.remaining input.old) (W.contents out.old) old)
         (way (R.remaining input.new) (W.contents out.new) prepared.exit.0.now) edits result }
-    ensures leaves { ClosingStops F.honest F.means F.faults session.now.committer
-        prepared.entry.store.now prepared.exit.0.now (held_packed prepared.entry.plan)
-        (held_edits prepared.entry.plan) }
-    ensures lost { ClosingLosses F.honest F.means F.faults session.now.committer
+    ensures safe { ClosesSafely F.honest F.means F.faults session.now.committer
         prepared.entry.store.now prepared.exit.0.now (held_packed prepared.entry.plan)
         (held_edits prepared.entry.plan) }
 {
@@ -198,10 +186,7 @@ fn commit_at_end<F: Files>(
         (held_packed prepared.entry.plan) (held_edits prepared.entry.plan) →
         PreparedEnds F.Reader.ReadAt F.honest F.means F.faults session.now Closing.End
         (way input out old) (way input out prepared.exit.0.now) edits result }
-    ensures leaves { ClosingStops F.honest F.means F.faults session.now.committer
-        prepared.entry.store.now prepared.exit.0.now (held_packed prepared.entry.plan)
-        (held_edits prepared.entry.plan) }
-    ensures lost { ClosingLosses F.honest F.means F.faults session.now.committer
+    ensures safe { ClosesSafely F.honest F.means F.faults session.now.committer
         prepared.entry.store.now prepared.exit.0.now (held_packed prepared.entry.plan)
         (held_edits prepared.entry.plan) }
 {
@@ -224,10 +209,7 @@ fn commit_and_answer<F: Files, W: Write>(
         PreparedEnds F.Reader.ReadAt F.honest F.means F.faults session.now Closing.Commit
         (way input (W.contents out.old) old) (way input (W.contents out.new) prepared.exit.0.now)
         edits result }
-    ensures leaves { ClosingStops F.honest F.means F.faults session.now.committer
-        prepared.entry.store.now prepared.exit.0.now (held_packed prepared.entry.plan)
-        (held_edits prepared.entry.plan) }
-    ensures lost { ClosingLosses F.honest F.means F.faults session.now.committer
+    ensures safe { ClosesSafely F.honest F.means F.faults session.now.committer
         prepared.entry.store.now prepared.exit.0.now (held_packed prepared.entry.plan)
         (held_edits prepared.entry.plan) }
 {
@@ -252,10 +234,7 @@ fn finish<F: Files, R: BufRead, W: Write>(
         PreparedEnds F.Reader.ReadAt F.honest F.means F.faults session.now closing
         (way (R.remaining input.old) (W.contents out.old) old)
         (way (R.remaining input.new) (W.contents out.new) prepared.exit.0.now) edits result }
-    ensures leaves { ClosingStops F.honest F.means F.faults session.now.committer
-        prepared.entry.store.now prepared.exit.0.now (held_packed prepared.entry.plan)
-        (held_edits prepared.entry.plan) }
-    ensures lost { ClosingLosses F.honest F.means F.faults session.now.committer
+    ensures safe { ClosesSafely F.honest F.means F.faults session.now.committer
         prepared.entry.store.now prepared.exit.0.now (held_packed prepared.entry.plan)
         (held_edits prepared.entry.plan) }
 {

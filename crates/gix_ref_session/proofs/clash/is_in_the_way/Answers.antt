@@ -30,7 +30,7 @@ returns-clause-clear g c h records are edits names free =
     let looked = c.is_below_one.ensures.unchanged in
     clear_found F.honest F.means old mid looked F.faults records edits (full_bytes c.args.name.now) c.has_below.result h
     (subst (λ (name : List ℕ). HasFreeFolders (targets_in F.means old records) edits name) c.to_path-path.ensures.bytes
-    (c.in_ok-is_below_one.ensures.free h records are edits names (λ folder of lt. free folder (c.shared.ensures folder of lt)) c.if-branch.false))
+    (c.in_ok-is_below_one.ensures.free h records are edits names (λ folder of lt. free folder (c.common_prefix_len.ensures folder of lt)) c.if-branch.false))
     (subst (λ (p : List ℕ). IfOk c.has_below.result (λ any. MatchBool any (ListsOne F.honest F.means F.faults mid records p) (ListsNone F.honest F.means mid records p))) (c.deref.ensures.value ∙ c.in_ok-prefix.ensures)
     (c.has_below.ensures.lists h records (same_records F.honest F.means old mid records looked h are)))
 

@@ -11,8 +11,5 @@ returns-in-Ok-clause-ends g c old edits from =
 pub returns-in-Err-clause-ends : goal.returns-in-Err-clause-ends
 returns-in-Err-clause-ends g c old edits from = inr (inl (refl, c.give_up.ensures.ends old edits from, inl c.in-Err.ensures))
 
-pub returns-in-Err-clause-leaves : goal.returns-in-Err-clause-leaves
-returns-in-Err-clause-leaves g c old edits from = c.give_up.ensures.leaves c.args.session.now.committer old edits from
-
-pub returns-in-Err-clause-lost : goal.returns-in-Err-clause-lost
-returns-in-Err-clause-lost g c old edits from = c.give_up.ensures.lost c.args.session.now.committer old edits from
+pub returns-in-Err-clause-safe : goal.returns-in-Err-clause-safe
+returns-in-Err-clause-safe g c = c.give_up.ensures.safe c.args.session.now.committer

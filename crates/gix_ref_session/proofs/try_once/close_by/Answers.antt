@@ -17,14 +17,8 @@ returns-in-Abort-clause-ends g c old edits from =
 pub returns-in-End-clause-ends : goal.returns-in-End-clause-ends
 returns-in-End-clause-ends g c old edits from = rw c.in-End.is (c.give_up-in-End.ensures.ends old edits from, append_none (g.W.Write.contents c.args.out.now))
 
-pub returns-in-Abort-clause-leaves : goal.returns-in-Abort-clause-leaves
-returns-in-Abort-clause-leaves g c old edits from = c.give_up.ensures.leaves c.args.session.now.committer old edits from
+pub returns-in-Abort-clause-safe : goal.returns-in-Abort-clause-safe
+returns-in-Abort-clause-safe g c = c.give_up.ensures.safe c.args.session.now.committer
 
-pub returns-in-End-clause-leaves : goal.returns-in-End-clause-leaves
-returns-in-End-clause-leaves g c old edits from = c.give_up-in-End.ensures.leaves c.args.session.now.committer old edits from
-
-pub returns-in-Abort-clause-lost : goal.returns-in-Abort-clause-lost
-returns-in-Abort-clause-lost g c old edits from = c.give_up.ensures.lost c.args.session.now.committer old edits from
-
-pub returns-in-End-clause-lost : goal.returns-in-End-clause-lost
-returns-in-End-clause-lost g c old edits from = c.give_up-in-End.ensures.lost c.args.session.now.committer old edits from
+pub returns-in-End-clause-safe : goal.returns-in-End-clause-safe
+returns-in-End-clause-safe g c = c.give_up-in-End.ensures.safe c.args.session.now.committer

@@ -9,14 +9,12 @@ returns-clause-ends g c old edits from =
     commit_ends F.honest F.means F.faults old c.args.prepared.store.now c.commit.new.self.0 edits c.args.prepared.plan.packed c.args.prepared.plan.edits.items from
     c.args.session.now.committer (HasReadFault g.F.Reader.ReadAt.faults) c.commit.result c.result_of.result c.result_of.ensures c.commit.ensures.committed c.commit.ensures.failed c.commit.ensures.safe c.commit.ensures.kept c.commit.ensures.same
 
-pub returns-clause-leaves : goal.returns-clause-leaves
-returns-clause-leaves g c old edits from h =
+pub returns-clause-safe : goal.returns-clause-safe
+returns-clause-safe g c =
     let F = g.F.Files in
-    commit_leaves F.honest F.means F.faults old c.args.prepared.store.now c.commit.new.self.0 edits c.args.prepared.plan.packed c.args.prepared.plan.edits.items from
-    c.args.session.now.committer (left_of c.commit.result) c.commit.ensures.safe h
-
-pub returns-clause-lost : goal.returns-clause-lost
-returns-clause-lost g c old edits from h good at_rest =
-    let F = g.F.Files in
-    commit_loses F.honest F.means F.faults old c.args.prepared.store.now c.commit.new.self.0 edits c.args.prepared.plan.packed c.args.prepared.plan.edits.items from
-    c.args.session.now.committer (left_of c.commit.result) c.commit.ensures.safe h good at_rest
+    record {
+      leaves = λ old edits from h. commit_leaves F.honest F.means F.faults old c.args.prepared.store.now c.commit.new.self.0 edits c.args.prepared.plan.packed c.args.prepared.plan.edits.items from
+          c.args.session.now.committer (left_of c.commit.result) c.commit.ensures.safe h;
+      lost = λ old edits from h good at_rest. commit_loses F.honest F.means F.faults old c.args.prepared.store.now c.commit.new.self.0 edits c.args.prepared.plan.packed c.args.prepared.plan.edits.items from
+          c.args.session.now.committer (left_of c.commit.result) c.commit.ensures.safe h good at_rest;
+    }

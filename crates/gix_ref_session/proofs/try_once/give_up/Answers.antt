@@ -8,14 +8,13 @@ returns-clause-ends g c old edits from =
     given_up F.honest F.means F.faults old c.args.prepared.store.now c.rollback-given_up.new.self.0 edits c.args.prepared.plan.packed c.args.prepared.plan.edits.items from
     (paths_of c.rollback-given_up.result.locks_left.items) c.rollback-given_up.ensures.rolled
 
-pub returns-clause-leaves : goal.returns-clause-leaves
-returns-clause-leaves g c committer old edits from h =
+pub returns-clause-safe : goal.returns-clause-safe
+returns-clause-safe g c committer =
     let F = g.F.Files in
-    given_up_leaves F.honest F.means F.faults old c.args.prepared.store.now c.rollback-given_up.new.self.0 edits c.args.prepared.plan.packed c.args.prepared.plan.edits.items from
-    committer (paths_of c.rollback-given_up.result.locks_left.items) c.rollback-given_up.ensures.rolled h
-
-pub returns-clause-lost : goal.returns-clause-lost
-returns-clause-lost g c committer old edits from h good at_rest =
-    let F = g.F.Files in
-    given_up_loses F.honest F.means F.faults old c.args.prepared.store.now c.rollback-given_up.new.self.0 edits c.args.prepared.plan.packed c.args.prepared.plan.edits.items from
-    committer (paths_of c.rollback-given_up.result.locks_left.items) c.rollback-given_up.ensures.rolled h
+    let left = paths_of c.rollback-given_up.result.locks_left.items in
+    record {
+      leaves = λ old edits from h. given_up_leaves F.honest F.means F.faults old c.args.prepared.store.now c.rollback-given_up.new.self.0 edits c.args.prepared.plan.packed c.args.prepared.plan.edits.items from
+          committer left c.rollback-given_up.ensures.rolled h;
+      lost = λ old edits from h good at_rest. given_up_loses F.honest F.means F.faults old c.args.prepared.store.now c.rollback-given_up.new.self.0 edits c.args.prepared.plan.packed c.args.prepared.plan.edits.items from
+          committer left c.rollback-given_up.ensures.rolled h;
+    }

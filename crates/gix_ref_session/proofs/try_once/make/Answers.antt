@@ -32,7 +32,7 @@ returns-in-Ok-clause-leaves g c =
     let edits = c.args.led.items in
     let from : Prepares F.honest F.means F.faults old mid edits c.in-Ok.prepared.plan.packed c.in-Ok.prepared.plan.edits.items = rw (c.transaction_with.ensures.packed_refs, c.transaction_with.ensures.value) at c.in-Ok.ensures.prepared in
     at_same (λ now. F.honest → Leaves (F.means (files_of old)) (F.means (files_of now)) (IsEditStop F.honest F.means F.faults c.args.session.now.committer old edits))
-    {x = c.store-in-Ok-1.given.0} {y = c.finish.new.prepared.0} (search rules) (c.finish.ensures.leaves old edits from)
+    {x = c.store-in-Ok-1.given.0} {y = c.finish.new.prepared.0} (search rules) (c.finish.ensures.safe.leaves old edits from)
 
 pub returns-in-Err-clause-ends : goal.returns-in-Err-clause-ends
 returns-in-Err-clause-ends g c =
@@ -74,7 +74,7 @@ returns-in-Ok-clause-lost g c =
     let edits = c.args.led.items in
     let from : Prepares F.honest F.means F.faults old mid edits c.in-Ok.prepared.plan.packed c.in-Ok.prepared.plan.edits.items = rw (c.transaction_with.ensures.packed_refs, c.transaction_with.ensures.value) at c.in-Ok.ensures.prepared in
     at_same (λ now. F.honest → HasGoodRecords F.means old → IsAtRest F.means old → Loses (F.means (files_of old)) (F.means (files_of now)) (IsLossOf F.honest F.means F.faults uses old c.args.session.now.committer edits))
-    {x = c.store-in-Ok-1.given.0} {y = c.finish.new.prepared.0} (search rules) (c.finish.ensures.lost old edits from)
+    {x = c.store-in-Ok-1.given.0} {y = c.finish.new.prepared.0} (search rules) (c.finish.ensures.safe.lost old edits from)
 
 pub returns-in-Err-clause-lost : goal.returns-in-Err-clause-lost
 returns-in-Err-clause-lost g c =

@@ -1,6 +1,6 @@
 use Rattle.std.proofs.Common.{arith}
 use Rattle.gix_ref_session.proofs.FolderLemmas.{shared_folder}
-use Rattle.gix_ref_session.proofs.clash.shared.Goals as goal
+use Rattle.gix_ref_session.proofs.clash.common_prefix_len.Goals as goal
 
 pub returns-then-at-other : goal.returns-then-at-other
 returns-then-at-other c folder of lt =
