@@ -1,6 +1,7 @@
 -- Why nothing is found on any text of `packed-refs`.
 use Rattle.std.proofs.Common.{◌≡◌, inl, inr, ⊎_elim, ℕ, List, Option, Some, None, false, Result, Ok, Err, refl, sym, subst, IfOk, IfNone}
 use Rattle.gix_ref_hash.specs.declared.hash.Kind.{Kind}
+use Rattle.gix_ref_target.specs.PackedRecords.{Record}
 use Rattle.gix_ref_files.specs.Tree.{Tree, Content, is_file, file_of}
 use Rattle.gix_ref_files.specs.Tree.Content.{File, Folder}
 use Rattle.gix_ref_files.specs.declared.files.ReadAt.{Ghosts}
@@ -10,7 +11,7 @@ use Rattle.gix_ref_packed_text.specs.declared.packed.window.Found.{Found}
 use Rattle.gix_ref_packed.specs.declared.packed.sorted_file.FindError.{FindError}
 use Rattle.gix_ref_packed.specs.Buffers.{buffer_kind, buffer_text}
 use Rattle.gix_ref_packed.specs.OpenFiles.{packed_file_kind, packed_file_text}
-use Rattle.gix_ref_lookup.specs.Lookups.{FindsNone, IsMissing, IsOpenable, IsOpenedText, IsReady, IsSearched, SearchesNone, as_found}
+use Rattle.gix_ref_lookup.specs.Lookups.{AreAsked, FindsNone, IsMissing, IsOpenable, IsOpenedText, IsReady, IsSearched, SearchesNone, as_found}
 use Rattle.gix_ref_lookup.specs.declared.settings.Settings.{Settings}
 use Rattle.gix_ref_lookup.specs.declared.find.records.Records.{Records as Asked}
 use Rattle.gix_ref_lookup.specs.declared.find.records.Records.TheVariants as sources
@@ -38,6 +39,18 @@ any_file f f' sources.None ready none = tt
 any_file f f' (sources.Held buffer) ready none = absurd none
 any_file f f' sources.Unopened ready none = absurd ready
 any_file f f' (sources.Open packed) ready none = absurd none
+
+pub any_asked : {R : Type 0} {G : Ghosts R} (kind : Kind) (f f' : Option (List ℕ)) (r : Asked R G) (rs : List Record) → IsReady r → AreAsked kind f r rs → AreAsked kind f' r rs
+any_asked kind f f' sources.None rs ready are = are
+any_asked kind f f' (sources.Held buffer) rs ready are = are
+any_asked kind f f' sources.Unopened rs ready are = absurd ready
+any_asked kind f f' (sources.Open packed) rs ready are = are
+
+pub any_searched : {R : Type 0} {G : Ghosts R} (kind : Kind) (f f' : Option (List ℕ)) (r : Asked R G) (k : Kind) (text : List ℕ) → IsReady r → IsSearched kind f r k text → IsSearched kind f' r k text
+any_searched kind f f' sources.None k text ready is = absurd is
+any_searched kind f f' (sources.Held buffer) k text ready is = is
+any_searched kind f f' sources.Unopened k text ready is = absurd ready
+any_searched kind f f' (sources.Open packed) k text ready is = is
 
 -- `packed-refs` can be opened where it is open
 of_text : (kind : Kind) (file : Option (List ℕ)) (k : Kind) (text : List ℕ) → IsOpenedText kind file k text → IsOpenable kind file

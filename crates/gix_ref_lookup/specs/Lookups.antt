@@ -262,6 +262,30 @@ HasNoKey s name = (key : List ℕ) → s.key name ≡ Some key → IsFullName ke
 abbrev pub OfKey : Store → List ℕ → (List ℕ → Type 0) → Type 0
 OfKey s name P = (key : List ℕ) × (s.key name ≡ Some key) × P key
 
+-- on any text of `packed-refs`: a name has no key, or no record is found
+abbrev pub HasNoRecord : {R : Type 0} {G : Ghosts R} → Settings → View → Records R G → List ℕ → Type 0
+HasNoRecord settings view records name =
+    let s = meaning_in settings in
+    HasNoKey s name ⊎ FindsNone settings.kind (view s.packed_path) records
+
+-- and the reference is that of a record of its key
+abbrev pub IsRecordHit : {R : Type 0} {G : Ghosts R} → Settings → View → Records R G → List ℕ →
+    Reference → Type 0
+IsRecordHit settings view records name r =
+    let s = meaning_in settings in
+    OfKey s name (λ key. IsHitOfKey settings.kind (view s.packed_path) records
+    (namespace_text settings.namespace.now) key r)
+
+-- why no record of a name is found: a fault; a text that is refused, or that cannot be read where the record is sought; no memory
+abbrev pub RecordFails : {R : Type 0} {G : Ghosts R} → (honest : Type 0) → Settings → Tree →
+    Records R G → (before now : FaultCounts) → List ℕ → Error → Type 0
+RecordFails {R} {G} honest settings T records before now name =
+    let s = meaning_in settings in
+    IsNotPacked (honest × AreHonest records) (IsFaultOf G.faults before now)
+    (OfKey s name (λ key. OfSearched settings.kind (view_of T s.packed_path) records
+    (λ k text. CannotRead k text key)))
+    (IsRefusedFile settings.kind (T s.packed_path))
+
 -- a candidate as a result: nothing where it reads nothing, else its name, its target and its peeled id
 abbrev pub IsCandidate : Store → View → List Record → List ℕ → Option Reference → Type 0
 IsCandidate s view records name None = reading_among s view records name ≡ Absent
@@ -274,8 +298,7 @@ IsCandidate s view records name (Some r) =
 pub record IsMissing {R : Type 0} {G : Ghosts R} (settings : Settings) (view : View)
     (records : Records R G) (name : List ℕ) : Type 0 where
   pub loose : view ((meaning_in settings).place name) ≡ None
-  pub packed : HasNoKey (meaning_in settings) name
-      ⊎ FindsNone settings.kind (view (meaning_in settings).packed_path) records
+  pub packed : HasNoRecord settings view records name
 
 -- and so is each candidate of a partial name; and the head of a remote has no loose file
 pub record AreMissing {R : Type 0} {G : Ghosts R} (settings : Settings) (view : View)
@@ -299,21 +322,16 @@ IsHit settings view records name r =
     let s = meaning_in settings in
     ((full_bytes r.name ≡ name) × IsLooseTarget s (view (s.place name)) (Some r.target)
     × (r.peeled ≡ None))
-    ⊎ ((view (s.place name) ≡ None)
-    × OfKey s name (λ key. IsHitOfKey settings.kind (view s.packed_path) records
-    (namespace_text settings.namespace.now) key r))
+    ⊎ ((view (s.place name) ≡ None) × IsRecordHit settings view records name r)
 
 -- Why a candidate fails: its loose file gives no target; or it has none, and no record is found for a reason.
 abbrev pub CandidateFails : {R : Type 0} {G : Ghosts R} → (honest : Type 0) → Settings → Tree →
     Records R G → (before now : FaultCounts) → List ℕ → Error → Type 0
-CandidateFails {R} {G} honest settings T records before now name error =
+CandidateFails honest settings T records before now name error =
     let s = meaning_in settings in
     IsNotRead honest settings.kind s (view_of T) before now name error
     ⊎ ((honest → view_of T (s.place name) ≡ None)
-    × IsNotPacked (honest × AreHonest records) (IsFaultOf G.faults before now)
-    (OfKey s name (λ key. OfSearched settings.kind (view_of T s.packed_path) records
-    (λ k text. CannotRead k text key)))
-    (IsRefusedFile settings.kind (T s.packed_path)) error)
+    × RecordFails honest settings T records before now name error)
 
 -- what is said where the records are well formed: no text is refused, and none is found unreadable
 abbrev pub IsSound : Error → Type 0

@@ -1,5 +1,5 @@
 //! One candidate of a lookup: its loose file, or else its record in `packed-refs`.
-ghost use Rattle.std.specs.Prelude.{◌≡◌, ◌⊎◌, false, ℕ, List, Option, None, IfOk, IfErr, IfNone, IfSome, OnOk};
+ghost use Rattle.std.specs.Prelude.{◌≡◌, false, ℕ, List, Option, None, IfOk, IfErr, IfNone, IfSome, OnOk};
 ghost use Rattle.gix_ref_hash.specs.declared.hash.Kind.{Kind};
 ghost use Rattle.gix_ref_name.specs.Names.{full_bytes, full_ref_bytes};
 ghost use Rattle.gix_ref_name.specs.Namespaces.{stripped};
@@ -9,9 +9,8 @@ ghost use Rattle.gix_ref_target.specs.Targets.TargetValue.{object_id};
 ghost use Rattle.gix_ref_theory.specs.OnRealTrees.{contents};
 ghost use Rattle.gix_ref_lookup.specs.StoreLayout.{namespace_text};
 ghost use Rattle.gix_ref_packed_text.specs.Positions.{CannotRead};
-ghost use Rattle.gix_ref_packed.specs.Buffers.{IsRefusedFile};
 ghost use Rattle.gix_ref_packed.specs.OpenFiles.{HasReadFault};
-ghost use Rattle.gix_ref_lookup.specs.Lookups.{AreAsked, AreAskedWith, AreHonest, CandidateFails, FindsNone, HasKey, HasNoKey, IsByRecord, IsCandidate, IsFaultOf, IsFaultOrMemory, IsHit, IsHitOfKey, IsLooseTarget, IsMissing, IsNotPacked, IsNotRead, IsNotReadAt, IsOfKey, IsReady, IsSearched, IsSearchedWith, IsSound, OfKey, OfSearched, SearchesNone, meaning_in, packed_refs_in};
+ghost use Rattle.gix_ref_lookup.specs.Lookups.{AreAsked, AreAskedWith, AreHonest, AreStillAsked, AreStillAskedWith, CandidateFails, FindsNone, HasKey, HasNoRecord, IsByRecord, IsCandidate, IsFaultOrMemory, IsHit, IsHitOfKey, IsLooseTarget, IsMissing, IsNotPacked, IsNotRead, IsNotReadAt, IsOfKey, IsReady, IsRecordHit, IsSound, OfSearched, RecordFails, meaning_in, packed_refs_in};
 ghost use Rattle.gix_ref_files.specs.ReadOnly.{OnlyReads};
 
 use crate::find::loose::{Loose, loose_at};
@@ -134,12 +133,7 @@ fn find_key<R: ReadAt + Drop>(
         None records.old (λ k text. CannotRead k text (full_ref_bytes key.entry))) (λ error. ⊥)) }
     ensures none { AreHonest records.old → (kind : Kind) →
         IfOk result (λ r. IfNone r (FindsNone kind None records.old)) }
-    ensures honest { AreHonest records.old → AreHonest records.new }
-    ensures searched { (kind k : Kind) (text : List ℕ) → IsSearched kind None records.new k text →
-        IsSearched kind None records.old k text }
-    ensures still_none { SearchesNone None records.new → SearchesNone None records.old }
-    ensures asked { (kind : Kind) (rs : List Record) → AreAsked kind None records.old rs →
-        AreAsked kind None records.new rs }
+    ensures still { (kind : Kind) → AreStillAsked kind None records.old records.new }
     ensures ready { IsReady records.new }
 {
     match records.find(key) {
@@ -165,28 +159,17 @@ fn find_at_key<F: Files>(
         records.old rs → IfErr result IsFaultOrMemory }
     ensures hit { F.honest → AreHonest records.old → (name : List ℕ) →
         HasKey (meaning_in settings.entry) name (full_ref_bytes key.entry) →
-        IfOk result (λ r. IfSome r (λ r. OfKey (meaning_in settings.entry) name
-        (λ key. IsHitOfKey settings.entry.kind (packed_refs_in settings.entry (F.means files.old))
-        records.old (namespace_text settings.entry.namespace.now) key r))) }
+        IfOk result (λ r. IfSome r (IsRecordHit settings.entry (contents F.means files.old)
+        records.old name)) }
     ensures none { F.honest → AreHonest records.old →
         IfOk result (λ r. IfNone r (FindsNone settings.entry.kind
         (packed_refs_in settings.entry (F.means files.old)) records.old)) }
     ensures failed { (name : List ℕ) → HasKey
         (meaning_in settings.entry) name (full_ref_bytes key.entry) →
-        IfErr result (IsNotPacked (F.honest × AreHonest records.old)
-        (IsFaultOf F.Reader.faults (F.faults files.old) (F.faults files.new))
-        (OfKey (meaning_in settings.entry) name
-        (λ key. OfSearched settings.entry.kind (packed_refs_in settings.entry (F.means files.old))
-        records.old (λ k text. CannotRead k text key))) (IsRefusedFile settings.entry.kind
-        ((F.means files.old).tree (meaning_in settings.entry).packed_path))) }
-    ensures asked { F.honest → (rs : List Record) → AreAskedWith settings.entry (F.means files.old)
-        records.old rs → AreAskedWith settings.entry (F.means files.old) records.new rs }
-    ensures honest { F.honest → AreHonest records.old → AreHonest records.new }
-    ensures searched { F.honest → (kind : Kind) (text : List ℕ) → IsSearchedWith settings.entry
-        (F.means files.old) records.new kind text → IsSearchedWith settings.entry
-        (F.means files.old) records.old kind text }
-    ensures still_none { F.honest → SearchesNone (packed_refs_in settings.entry (F.means files.old))
-        records.new → SearchesNone (packed_refs_in settings.entry (F.means files.old)) records.old }
+        IfErr result (RecordFails F.honest settings.entry (F.means files.old).tree records.old
+        (F.faults files.old) (F.faults files.new) name) }
+    ensures still { F.honest → AreStillAskedWith settings.entry (F.means files.old)
+        records.old records.new }
     ensures no_fault { OnOk result (F.faults files.new ≡ F.faults files.old) }
     ensures reads { OnlyReads F.honest F.means F.faults files.old files.new }
 {
@@ -209,28 +192,16 @@ fn find_packed<F: Files>(
         (full_ref_bytes name.entry)) }
     ensures sound { F.honest → (rs : List Record) → AreAskedWith settings.entry (F.means files.old)
         records.old rs → IfErr result IsFaultOrMemory }
-    ensures hit { F.honest → AreHonest records.old → IfOk result
-        (λ r. IfSome r (λ r. OfKey (meaning_in settings.entry) (full_ref_bytes name.entry)
-        (λ key. IsHitOfKey settings.entry.kind (packed_refs_in settings.entry (F.means files.old))
-        records.old (namespace_text settings.entry.namespace.now) key r))) }
+    ensures hit { F.honest → AreHonest records.old → IfOk result (λ r. IfSome r
+        (IsRecordHit settings.entry (contents F.means files.old) records.old
+        (full_ref_bytes name.entry))) }
     ensures none { F.honest → AreHonest records.old → IfOk result (λ r. IfNone r
-        (HasNoKey (meaning_in settings.entry) (full_ref_bytes name.entry)
-        ⊎ FindsNone settings.entry.kind (packed_refs_in settings.entry (F.means files.old))
-        records.old)) }
-    ensures failed { IfErr result (IsNotPacked (F.honest × AreHonest records.old)
-        (IsFaultOf F.Reader.faults (F.faults files.old) (F.faults files.new))
-        (OfKey (meaning_in settings.entry) (full_ref_bytes name.entry)
-        (λ key. OfSearched settings.entry.kind (packed_refs_in settings.entry (F.means files.old))
-        records.old (λ k text. CannotRead k text key))) (IsRefusedFile settings.entry.kind
-        ((F.means files.old).tree (meaning_in settings.entry).packed_path))) }
-    ensures asked { F.honest → (rs : List Record) → AreAskedWith settings.entry (F.means files.old)
-        records.old rs → AreAskedWith settings.entry (F.means files.old) records.new rs }
-    ensures honest { F.honest → AreHonest records.old → AreHonest records.new }
-    ensures searched { F.honest → (kind : Kind) (text : List ℕ) → IsSearchedWith settings.entry
-        (F.means files.old) records.new kind text → IsSearchedWith settings.entry
-        (F.means files.old) records.old kind text }
-    ensures still_none { F.honest → SearchesNone (packed_refs_in settings.entry (F.means files.old))
-        records.new → SearchesNone (packed_refs_in settings.entry (F.means files.old)) records.old }
+        (HasNoRecord settings.entry (contents F.means files.old) records.old
+        (full_ref_bytes name.entry))) }
+    ensures failed { IfErr result (RecordFails F.honest settings.entry (F.means files.old).tree
+        records.old (F.faults files.old) (F.faults files.new) (full_ref_bytes name.entry)) }
+    ensures still { F.honest → AreStillAskedWith settings.entry (F.means files.old)
+        records.old records.new }
     ensures no_fault { OnOk result (F.faults files.new ≡ F.faults files.old) }
     ensures reads { OnlyReads F.honest F.means F.faults files.old files.new }
 {
@@ -266,14 +237,8 @@ pub fn find_candidate<F: Files>(
         records.old (full_ref_bytes name.entry))) }
     ensures failed { IfErr result (CandidateFails F.honest settings.entry (F.means files.old).tree
         records.old (F.faults files.old) (F.faults files.new) (full_ref_bytes name.entry)) }
-    ensures asked { F.honest → (rs : List Record) → AreAskedWith settings.entry (F.means files.old)
-        records.old rs → AreAskedWith settings.entry (F.means files.old) records.new rs }
-    ensures honest { F.honest → AreHonest records.old → AreHonest records.new }
-    ensures searched { F.honest → (kind : Kind) (text : List ℕ) → IsSearchedWith settings.entry
-        (F.means files.old) records.new kind text → IsSearchedWith settings.entry
-        (F.means files.old) records.old kind text }
-    ensures still_none { F.honest → SearchesNone (packed_refs_in settings.entry (F.means files.old))
-        records.new → SearchesNone (packed_refs_in settings.entry (F.means files.old)) records.old }
+    ensures still { F.honest → AreStillAskedWith settings.entry (F.means files.old)
+        records.old records.new }
     ensures no_fault { OnOk result (F.faults files.new ≡ F.faults files.old) }
     ensures reads { OnlyReads F.honest F.means F.faults files.old files.new }
 {

@@ -127,7 +127,7 @@ impl<R: ReadAt + Drop> Records<'_, R> {
     ghost use Rattle.gix_ref_packed.specs.Buffers.{IsRefusedFile};
     ghost use Rattle.gix_ref_packed_text.specs.Windows.{AreFound, HitsRecord};
     ghost use Rattle.gix_ref_packed.specs.OpenFiles.{HasReadFault};
-    ghost use Rattle.gix_ref_lookup.specs.Lookups.{AreAsked, AreAskedWith, AreHonest, ArePackedRecordsWith, FindsNone, IsFaultOf, IsFaultOrMemory, IsNotPacked, IsReady, IsSearched, IsSearchedWith, OfSearched, SearchesNone, meaning_in, packed_refs_in};
+    ghost use Rattle.gix_ref_lookup.specs.Lookups.{AreAsked, AreAskedWith, AreHonest, ArePackedRecordsWith, AreStillAsked, FindsNone, IsFaultOf, IsFaultOrMemory, IsNotPacked, IsReady, IsSearched, IsSearchedWith, OfSearched, SearchesNone, meaning_in, packed_refs_in};
 
     /// Opens `packed-refs`, if it is asked for the first time. `PackedOpen` where it cannot be opened, and `Memory`.
     pub fn open<F: Files<Reader = R>>(
@@ -184,12 +184,7 @@ impl<R: ReadAt + Drop> Records<'_, R> {
             (λ k text. CannotRead k text (full_ref_bytes key.entry))) (λ error. ⊥)) }
         ensures none { AreHonest self.old → (kind : Kind) →
             IfOk result (λ found. IfNone found (FindsNone kind None self.old)) }
-        ensures honest { AreHonest self.old → AreHonest self.new }
-        ensures still_none { SearchesNone None self.new → SearchesNone None self.old }
-        ensures asked { (kind : Kind) (records : List Record) →
-            AreAsked kind None self.old records → AreAsked kind None self.new records }
-        ensures searched { (kind : Kind) (k : Kind) (text : List ℕ) →
-            IsSearched kind None self.new k text → IsSearched kind None self.old k text }
+        ensures still { (kind : Kind) → AreStillAsked kind None self.old self.new }
         ensures ready { IsReady self.new }
     {
         match self {

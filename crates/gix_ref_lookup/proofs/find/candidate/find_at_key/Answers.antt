@@ -7,7 +7,7 @@ use Rattle.gix_ref_packed.specs.OpenFiles.{HasReadFault}
 use Rattle.gix_ref_packed.specs.Buffers.{IsRefusedFile}
 use Rattle.gix_ref_lookup.proofs.NamedRecords.{of_key}
 use Rattle.gix_ref_lookup.proofs.Opening.{if_ok, if_some, if_err, hit_wider, searched_wider, not_packed_wider}
-use Rattle.gix_ref_lookup.proofs.Missing.{any_file, if_none, none_wider}
+use Rattle.gix_ref_lookup.proofs.Missing.{any_asked, any_file, any_searched, if_none, none_wider}
 use Rattle.gix_ref_lookup.proofs.find.candidate.find_at_key.Goals as goal
 
 pub returns-in-Ok-clause-found : goal.returns-in-Ok-clause-found
@@ -30,9 +30,18 @@ returns-in-Ok-clause-none g c h honest =
     (λ found. if_none found (none_wider settings.kind None (packed_refs_in settings (g.F.Files.means c.args.files.now)) c.open.new.self c.args.records.now (c.in-Ok.ensures.none h) (c.in-Ok.ensures.searched h)))
     (c.find_key.ensures.none (c.in-Ok.ensures.honest h honest) settings.kind)
 
-pub returns-in-Ok-clause-still_none : goal.returns-in-Ok-clause-still_none
-returns-in-Ok-clause-still_none g c h none =
-    c.in-Ok.ensures.none h (c.find_key.ensures.still_none (any_file _ None c.find_key.new.records c.find_key.ensures.ready none))
+pub returns-in-Ok-clause-still : goal.returns-in-Ok-clause-still
+returns-in-Ok-clause-still g c h =
+    let kind = c.args.settings.kind in
+    let file = packed_refs_in c.args.settings (g.F.Files.means c.args.files.now) in
+    let opened = c.in-Ok.ensures in
+    let found = c.find_key.ensures.still kind in
+    record {
+      asked = λ rs are. any_asked kind None file c.find_key.new.records rs c.find_key.ensures.ready (found.asked rs (opened.asked h rs are));
+      readers = λ honest. found.readers (opened.honest h honest);
+      searched = λ k text is. opened.searched h k text (found.searched k text (any_searched kind file None c.find_key.new.records k text c.find_key.ensures.ready is));
+      none = λ none. opened.none h (found.none (any_file file None c.find_key.new.records c.find_key.ensures.ready none));
+    }
 
 pub returns-in-Ok-clause-failed : goal.returns-in-Ok-clause-failed
 returns-in-Ok-clause-failed g c name keyed =

@@ -115,12 +115,12 @@ loop-front-preserved g c =
     let absent : g.F.Files.honest → (rs : List Record) → AreAsked settings.kind (packed_refs_at settings first.tree) c.args.records.now rs → reading_among s view rs n ≡ Absent =
     λ h rs are. subst (λ (m : List ℕ). IsCandidate s view rs m None) named (subst (λ (T : Tree). IsCandidate s (view_of T) rs (full_ref_bytes c.as_ref.result) None) (same h) (rw c.in-Ok-None.field-0-is at (e.found h rs (asked h rs are)))) in
     record {
-      asked = λ h rs are. subst (λ (T : Tree). AreAsked settings.kind (packed_refs_at settings T) c.find_candidate.new.records rs) (same h) (e.asked h rs (asked h rs are));
-      readers = λ h a. e.honest h (x.readers h a);
+      asked = λ h rs are. subst (λ (T : Tree). AreAsked settings.kind (packed_refs_at settings T) c.find_candidate.new.records rs) (same h) ((e.still h).asked rs (asked h rs are));
+      readers = λ h a. (e.still h).readers (x.readers h a);
       searched = λ h k text is. x.searched h k text (subst (λ (T : Tree). IsSearched settings.kind (packed_refs_at settings T) c.loop-front.records k text) (same h)
-          (e.searched h k text (subst (λ (T : Tree). IsSearched settings.kind (packed_refs_at settings T) c.find_candidate.new.records k text) (sym (same h)) is)));
+          ((e.still h).searched k text (subst (λ (T : Tree). IsSearched settings.kind (packed_refs_at settings T) c.find_candidate.new.records k text) (sym (same h)) is)));
       none = λ h is. x.none h (subst (λ (T : Tree). SearchesNone (packed_refs_at settings T) c.loop-front.records) (same h)
-          (e.still_none h (subst (λ (T : Tree). SearchesNone (packed_refs_at settings T) c.find_candidate.new.records) (sym (same h)) is)));
+          ((e.still h).none (subst (λ (T : Tree). SearchesNone (packed_refs_at settings T) c.find_candidate.new.records) (sym (same h)) is)));
       missing = λ h honest later. x.missing h honest (subst (AllByRecursion Missing) next (
         subst Missing named
             (missing_from settings first.tree mid.tree c.args.records.now c.loop-front.records (same h) (x.none h) (x.searched h) (full_ref_bytes c.as_ref.result) (rw c.in-Ok-None.field-0-is at (e.missing h (x.readers h honest)))),
@@ -143,7 +143,7 @@ returns-in-Ok-Some-clause-asked g c h =
     still_asked {R = g.row.F-Reader.Denot} {G = g.F.Reader.ReadAt} settings.kind (packed_refs_at settings first.tree) (packed_refs_at settings mid.tree) c.args.records.now c.loop-front.records c.find_candidate.new.records
     (ap (packed_refs_at settings) (x.reads.leaves h).tree)
     (record { asked = x.asked h; readers = x.readers h; searched = x.searched h; none = x.none h })
-    (record { asked = e.asked h; readers = e.honest h; searched = e.searched h; none = e.still_none h })
+    (e.still h)
 
 pub returns-clause-asked : goal.returns-clause-asked
 returns-clause-asked g c h =
