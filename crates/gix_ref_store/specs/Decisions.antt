@@ -28,17 +28,17 @@ use Rattle.gix_ref_store.specs.CommitResult.{IsFaultBetween, IsPackedEmpty, Repa
 use Rattle.gix_ref_store.specs.Prepared.{disk_in, tree_of}
 use Rattle.gix_ref_store.specs.Store.{files_of, kind_of, meaning_of}
 use Rattle.gix_ref_store.specs.declared.file.store.Store.{Store}
-use Rattle.gix_ref_store.specs.declared.file.transaction.commit.carry_out.EndedEarly.{EndedEarly}
 use Rattle.gix_ref_store.specs.declared.file.transaction.commit.decide.Decisions.{Decisions}
 use Rattle.gix_ref_packed_text.specs.declared.outcome.Rewrite.{Rewrite}
 use Rattle.gix_ref_files.specs.Tree.{Path}
 use Rattle.gix_ref_transaction.specs.OwnLocks.{paths_of}
+use Rattle.gix_ref_transaction.specs.declared.release.Failure.{Failure}
 use Rattle.gix_ref_transaction.specs.declared.release.Remains.{Remains}
 
 -- the locks that are named by a commit
-abbrev pub left_in : Result Remains EndedEarly → List Path
+abbrev pub left_in : Result Remains (Failure Error) → List Path
 left_in (Ok remains) = paths_of remains.left.items
-left_in (Err ended) = paths_of ended.left.items
+left_in (Err ended) = paths_of ended.locks_left.items
 
 module _ {F : Type 0} (honest : Type 0) (means : F → Meaning) (faults : F → FaultCounts) where
   -- A due line was refused; a call of files failed, with a rise of their count, where a folder in the way of a line or of a rename

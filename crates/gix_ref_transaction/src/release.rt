@@ -18,6 +18,13 @@ use gix_ref_files::files::Files;
 use gix_ref_files::lock::LockFile;
 use std::alloc::{AllocError, Global};
 
+/// Why a transaction ended early, and the paths of the locks that it could not remove again.
+#[derive(Drop)]
+pub struct Failure<E: Drop> {
+    pub error: E,
+    pub locks_left: Vec<Vec<u8>>,
+}
+
 /// What is left of a transaction once its locks are released. It is reserved before the first lock, so that the end of a transaction
 /// takes no memory.
 #[derive(Drop)]

@@ -15,7 +15,6 @@ pub mod packed_refs;
 pub mod prepare;
 
 use crate::file::store::Store;
-use crate::file::transaction::commit::carry_out::EndedEarly;
 pub use crate::file::transaction::outcome::{Done, Failed, Refused, RolledBack};
 pub use crate::file::transaction::packed_refs::PackedRefs;
 use gix_ref_edits::transaction::RefEdit;
@@ -25,8 +24,8 @@ use gix_ref_log::actor::SignatureRef;
 use gix_ref_object::object::{Find, Never};
 use gix_ref_transaction::edit::Edit;
 use gix_ref_transaction::prepare::carry::record_old_values;
-use gix_ref_transaction::prepare::hold::{HeldLocks, LockFailure};
-use gix_ref_transaction::release::{Remains, release_all};
+use gix_ref_transaction::prepare::hold::HeldLocks;
+use gix_ref_transaction::release::{Failure, Remains, release_all};
 use std::alloc::{AllocError, Global};
 use std::fmt;
 
@@ -170,7 +169,7 @@ impl<'s, F: Files, T: Find> Transaction<'s, F, PackedRefs<T>> {
         let Transaction { store, packed_refs } = self;
         match store.lock_or_hand_back(alloc, &packed_refs, edits) {
             Err((failure, edits)) => {
-                let LockFailure { error, locks_left } = failure;
+                let Failure { error, locks_left } = failure;
                 Err(Refused {
                     error,
                     edits,
@@ -291,11 +290,11 @@ impl<F: Files, T: Find> Prepared<'_, F, Plan<T>> {
         } = plan;
         let remains = match store.carry_out(alloc, committer, edits, packed, remains) {
             Ok(remains) => remains,
-            Err(EndedEarly { error, left }) => {
+            Err(Failure { error, locks_left }) => {
                 return Err(Failed {
                     error,
                     packed_refs,
-                    locks_left: left,
+                    locks_left,
                 });
             }
         };

@@ -26,19 +26,12 @@ use crate::prepare::peel::peel_edits;
 use crate::prepare::records::find_records;
 use crate::prepare::split::SplitEdits;
 use crate::prepare::take::take_locks;
-use crate::release::{Remains, release_locks, release_packed};
+use crate::release::{Failure, Remains, release_locks, release_packed};
 use gix_ref_files::files::Files;
 use gix_ref_files::lock::LockFile;
 use gix_ref_lookup::settings::Settings;
 use gix_ref_object::object::Find;
 use std::alloc::{AllocError, Global};
-
-/// Why no lock is held, and the locks that could not be removed again.
-#[derive(Drop)]
-pub struct LockFailure {
-    pub error: Error,
-    pub locks_left: Vec<Vec<u8>>,
-}
 
 /// Edits whose locks are held, and room for what remains of them.
 #[derive(Drop)]
@@ -89,7 +82,7 @@ fn lock_all_or_none<F: Files>(
     packing: Packing,
     mut edits: Vec<Edit>,
     remains: Remains,
-) -> Result<HeldEdits, LockFailure>
+) -> Result<HeldEdits, Failure<Error>>
     requires ready { AreReady (setting_of settings.now) settings.now.kind edits.items }
     requires room { HasRoom edits remains }
     ensures held { IfOk result (λ held. HoldAllLocks F.honest (ids_in edits.items
@@ -116,7 +109,7 @@ fn lock_all_or_none<F: Files>(
         Err(error) => {
             edits.truncate(taken);
             let remains = release_locks(files, 0, edits, remains);
-            Err(LockFailure {
+            Err(Failure {
                 error,
                 locks_left: remains.left,
             })
@@ -168,7 +161,7 @@ fn find_and_lock<F: Files, T: Find>(
     known_missing: bool,
     mut edits: Vec<Edit>,
     remains: Remains,
-) -> Result<HeldEdits, LockFailure>
+) -> Result<HeldEdits, Failure<Error>>
     requires absent { F.honest → known_missing ≡ true →
         packed_refs_in settings.now (F.means files.old) ≡ None }
     requires ready { AreReady (setting_of settings.now) settings.now.kind edits.items }
@@ -216,7 +209,7 @@ fn find_and_lock<F: Files, T: Find>(
             edits,
             remains,
         ),
-        Err(error) => Err(LockFailure {
+        Err(error) => Err(Failure {
             error,
             locks_left: remains.left,
         }),
@@ -232,7 +225,7 @@ pub fn lock_edits<F: Files, T: Find>(
     packed_refs: &PackedRefs<T>,
     edits: Vec<Edit>,
     remains: Remains,
-) -> Result<HeldLocks, LockFailure>
+) -> Result<HeldLocks, Failure<Error>>
     requires ready { AreReady (setting_of settings.now) settings.now.kind edits.items }
     requires room { HasRoom edits remains }
     ensures held { IfOk result (λ held. HoldAllLocks
@@ -266,7 +259,7 @@ pub fn lock_edits<F: Files, T: Find>(
     let packed = match take_packed(alloc, files, settings, packed_refs.packing(), &edits) {
         Ok(packed) => packed,
         Err(error) => {
-            return Err(LockFailure {
+            return Err(Failure {
                 error,
                 locks_left: remains.left,
             });

@@ -15,17 +15,8 @@ use gix_ref_files::files::Files;
 use gix_ref_files::lock::LockFile;
 use gix_ref_log::actor::SignatureRef;
 use gix_ref_transaction::edit::Edit;
-use gix_ref_transaction::release::{Remains, release_all};
+use gix_ref_transaction::release::{Failure, Remains, release_all};
 use std::alloc::Global;
-
-/// A commit that ended early.
-#[derive(Drop)]
-pub(crate) struct EndedEarly {
-    /// Why it ended.
-    pub error: Error,
-    /// The paths of locks that could not be removed.
-    pub left: Vec<Vec<u8>>,
-}
 
 impl<F: Files> Store<F> {
     /// Decides what becomes of logs and of `packed-refs`, and which folders are in the way, and runs the steps. Then, whether the run failed
@@ -37,7 +28,7 @@ impl<F: Files> Store<F> {
         mut edits: Vec<Edit>,
         packed: Option<LockFile>,
         remains: Remains,
-    ) -> Result<Remains, EndedEarly>
+    ) -> Result<Remains, Failure<Error>>
         requires room { HasRoom edits remains }
         ensures committed { IfOk result (λ r. HasSucceeded F.honest F.means F.faults self.old
             self.new committer.entry packed edits.items r.edits.items (paths_of r.left.items)) }
@@ -58,9 +49,9 @@ impl<F: Files> Store<F> {
             Ok(decided) => decided,
             Err(error) => {
                 let remains = release_all(&mut self.files, 0, packed, edits, remains);
-                return Err(EndedEarly {
+                return Err(Failure {
                     error,
-                    left: remains.left,
+                    locks_left: remains.left,
                 });
             }
         };
@@ -74,9 +65,9 @@ impl<F: Files> Store<F> {
                 log,
             } = release_all(&mut self.files, done, packed, edits, remains);
             remove_empty_folders(&mut self.files, &self.dirs, unfinished.tried(&removed));
-            return Err(EndedEarly {
+            return Err(Failure {
                 error: failure(edits, place, log, path, unfinished),
-                left,
+                locks_left: left,
             });
         }
         let done = edits.len();

@@ -25,17 +25,17 @@ use gix_ref_transaction::edit::Edit;
 use gix_ref_transaction::packing::PackedRefs;
 use gix_ref_transaction::prepare::Error;
 use gix_ref_transaction::prepare::check::{check_edits, check_names};
-use gix_ref_transaction::prepare::hold::{HeldLocks, LockFailure, edits_at, lock_edits};
+use gix_ref_transaction::prepare::hold::{HeldLocks, edits_at, lock_edits};
 use gix_ref_transaction::prepare::split::{SplitEdits, split_edits};
-use gix_ref_transaction::release::Remains;
+use gix_ref_transaction::release::{Failure, Remains};
 use std::alloc::{AllocError, Global};
 
 /// A refusal before any lock was tried.
-fn refused_before_locks(alloc: Global, error: Error) -> LockFailure
+fn refused_before_locks(alloc: Global, error: Error) -> Failure<Error>
     ensures error { result.error ≡ error }
     ensures none { result.locks_left.items ≡ [] }
 {
-    LockFailure {
+    Failure {
         error,
         locks_left: Vec::new(alloc),
     }
@@ -67,7 +67,7 @@ impl<F: Files> Store<F> {
         alloc: Global,
         packed_refs: &PackedRefs<T>,
         split: SplitEdits,
-    ) -> Result<HeldLocks, LockFailure>
+    ) -> Result<HeldLocks, Failure<Error>>
         requires valid { AllValid (meaning_of self.old) (kind_of self.old) [] split.edits.items }
         requires len { vec_len split.parents ≡ vec_len split.edits }
         ensures refused { IfErr result
@@ -134,7 +134,7 @@ impl<F: Files> Store<F> {
         alloc: Global,
         packed_refs: &PackedRefs<T>,
         edits: Vec<RefEdit>,
-    ) -> Result<HeldLocks, LockFailure>
+    ) -> Result<HeldLocks, Failure<Error>>
         ensures refused { IfErr result
             (λ failure. RefusesFrom F.honest (HasReadFault F.Reader.faults) F.means F.faults
             (OfFinder T.claims packed_refs.now)
@@ -163,7 +163,7 @@ impl<F: Files> Store<F> {
         alloc: Global,
         packed_refs: &PackedRefs<T>,
         edits: Vec<RefEdit>,
-    ) -> Result<HeldLocks, LockFailure>
+    ) -> Result<HeldLocks, Failure<Error>>
         ensures refused { IfErr result
             (λ failure. RefusesGiven F.honest (HasReadFault F.Reader.faults) F.means F.faults
             (OfFinder T.claims packed_refs.now)
@@ -187,7 +187,7 @@ impl<F: Files> Store<F> {
         alloc: Global,
         packed_refs: &PackedRefs<T>,
         edits: Vec<RefEdit>,
-    ) -> Result<HeldLocks, (LockFailure, Vec<RefEdit>)>
+    ) -> Result<HeldLocks, (Failure<Error>, Vec<RefEdit>)>
         ensures refused { IfErr result
             (λ r. RefusesGiven F.honest (HasReadFault F.Reader.faults) F.means F.faults
             (OfFinder T.claims packed_refs.now)

@@ -13,7 +13,8 @@ use Rattle.gix_ref_transaction.specs.Peels.{ArePut, CanPeelAll, IsPeelCause}
 use Rattle.gix_ref_transaction.specs.PrepareSteps.{setting_of, all_asked, all_given, ids_in, packed_ids, places_of, updates, AreLockable, AreSettled, AreWholeLocks}
 use Rattle.gix_ref_transaction.specs.declared.edit.Edit.{Edit}
 use Rattle.gix_ref_transaction.specs.declared.prepare.hold.HeldEdits.{HeldEdits}
-use Rattle.gix_ref_transaction.specs.declared.prepare.hold.LockFailure.{LockFailure}
+use Rattle.gix_ref_transaction.specs.declared.prepare.error.Error.{Error}
+use Rattle.gix_ref_transaction.specs.declared.release.Failure.{Failure}
 use Rattle.gix_ref_transaction.proofs.PackedLemmas.{asked_ids, asked_over, counted_later, if_err, if_ok, not_packed, places_alike, settled_alike, updates_alike}
 use Rattle.gix_ref_transaction.proofs.Adds.{clash}
 use Rattle.gix_ref_transaction.proofs.Faults.{risen_by_before, risen_by_none_left}
@@ -100,7 +101,7 @@ returns-in-Ok-clause-refused g c =
     let a = F.faults c.args.files.now in
     let b = F.faults c.find_and_peel.new.files in
     let d = F.faults c.lock_all_or_none.new.files in
-    if_err c.lock_all_or_none.result (λ (failure : LockFailure) (why : IsTakingFault F.honest F.means F.faults s kind now c.find_and_peel.new.files c.lock_all_or_none.new.files failure.error). record {
+    if_err c.lock_all_or_none.result (λ (failure : Failure Error) (why : IsTakingFault F.honest F.means F.faults s kind now c.find_and_peel.new.files c.lock_all_or_none.new.files failure.error). record {
       cause = λ h good. inr (inr (
         (λ hold. subst (λ (u : List RefEdit). CanPeelAll s mode kind meaning [] u) (sym (ap updates over) ∙ U) (all_peel claims meaning s mode kind [] found c.in-Ok.ensures.put hold)),
         subst (λ (u : List RefEdit). IsFirstCause s kind old.tree [] u failure.error) U
@@ -127,7 +128,7 @@ returns-in-Ok-clause-removed g c =
     let last = F.means c.lock_all_or_none.new.files in
     let same : F.honest → mid.tree ≡ old.tree = λ h. (c.find_and_peel.ensures.reads.leaves h).tree in
     let all = locks_of s (updates now) in
-    if_err c.lock_all_or_none.result (λ (failure : LockFailure) (is : AreRemovedAgain F.honest F.means F.faults all all failure.locks_left c.find_and_peel.new.files c.lock_all_or_none.new.files). record {
+    if_err c.lock_all_or_none.result (λ (failure : Failure Error) (is : AreRemovedAgain F.honest F.means F.faults all all failure.locks_left c.find_and_peel.new.files c.lock_all_or_none.new.files). record {
       as_before = λ h. subst (λ (u : List RefEdit). AddsLocks (paths_of failure.locks_left.items) (locks_of s u) old.tree last.tree) U
           (subst (λ (T : Tree). AddsLocks (paths_of failure.locks_left.items) all T last.tree) (same h) (is.as_before h));
       named = record {

@@ -6,7 +6,8 @@ use Rattle.gix_ref_transaction.specs.OwnLocks.{paths_of}
 use Rattle.gix_ref_transaction.specs.Packing.{OfFinder, ends_of, mode_in}
 use Rattle.gix_ref_transaction.specs.Splits.{IsSplitCause}
 use Rattle.gix_ref_transaction.specs.declared.prepare.hold.HeldLocks.{HeldLocks}
-use Rattle.gix_ref_transaction.specs.declared.prepare.hold.LockFailure.{LockFailure}
+use Rattle.gix_ref_transaction.specs.declared.prepare.error.Error.{Error}
+use Rattle.gix_ref_transaction.specs.declared.release.Failure.{Failure}
 use Rattle.gix_ref_transaction.proofs.PackedLemmas.{if_err, if_ok}
 use Rattle.gix_ref_store.specs.Prepared.{HoldsSplit, LosesNothing, RefusesFrom, RefusesSplit, SplitsFrom, tree_of}
 use Rattle.gix_ref_store.specs.Store.{files_of, kind_of, meaning_of}
@@ -36,7 +37,7 @@ returns-in-Ok-clause-refused g c =
     let new = c.lock_split.new.self in
     let read = HasReadFault g.F.Reader.ReadAt.faults in
     let same = c.in-Ok.ensures.same in
-    if_err c.lock_split.result (λ (failure : LockFailure) refused.
+    if_err c.lock_split.result (λ (failure : Failure Error) refused.
     let left = paths_of failure.locks_left.items in
     refused_on F.honest F.means F.faults (mode_in c.args.packed_refs.now) old (files_of c.split.new.self) c.in-Ok.ensures.reads read (OfFinder g.T.Find.claims c.args.packed_refs.now) (ends_of g.T.Find.meaning c.args.packed_refs.now) new c.args.edits.items split failure.error left c.in-Ok.ensures.splits
     (subst (λ (st : Store g.row.F.Denot). RefusesSplit F.honest read F.means F.faults (OfFinder g.T.Find.claims c.args.packed_refs.now) (ends_of g.T.Find.meaning c.args.packed_refs.now) (mode_in c.args.packed_refs.now) st new split failure.error left) same refused)
