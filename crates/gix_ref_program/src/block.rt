@@ -7,8 +7,8 @@ use std::alloc::AllocError;
 use std::io;
 use std::io::Write;
 
-/// From how many bytes on the text is written.
-const BLOCK: usize = 8192;
+/// From how many bytes on the text is written: 64 KB.
+const BLOCK: usize = 65536;
 
 /// Adds the line of a fault.
 pub(crate) fn push_fault(text: &mut Vec<u8>, variant: &str) -> Result<(), AllocError>

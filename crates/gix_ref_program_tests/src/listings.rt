@@ -48,8 +48,9 @@ pub fn memory_of(rt: &impl Abort, alloc: Global, files: &[File]) -> Memory {
 fn a_writer_that_fails(rt: HostRuntime) {
     let alloc = rt.alloc();
     let mut memory = memory_of(&rt, alloc, FILES);
-    for number in 0..400u32 {
-        let path = format!(in alloc; "r/refs/heads/n{number:03}").expect(&rt, "memory");
+    // A line of each has 253 bytes, and a block some 260 lines.
+    for number in 0..600u32 {
+        let path = format!(in alloc; "r/refs/heads/{number:0200}").expect(&rt, "memory");
         let done = memory.put(path.as_bytes(), TWO.as_bytes());
         assert!(&rt; done.expect(&rt, "memory"), "{path}");
     }
@@ -60,7 +61,7 @@ fn a_writer_that_fails(rt: HostRuntime) {
         words.push(word).expect(&rt, "memory");
     }
     let mut out = Full {
-        room: 10_000,
+        room: 70_000,
         kept: 0,
     };
     let ran = run(alloc, memory, PackedRefs::default(), &words, &mut out);
@@ -71,7 +72,7 @@ fn a_writer_that_fails(rt: HostRuntime) {
     let mut memory = ran.files;
     // The second block fails, so the files of the third are not read.
     assert!(&rt;
-        out.kept > 8_000 && memory.calls() < calls.saturating_add(400),
+        out.kept > 65_000 && memory.calls() < calls.saturating_add(580),
         "it ends there"
     );
     assert!(&rt;
