@@ -7,7 +7,8 @@
 //! - `object`: objects, and finders of objects.
 //! - `files`: the file system that a store is over, with `Disk` for the disk and `Memory` for tests; `lock`: lock files.
 //! - `pack`: packing of loose references.
-//! - `layout`: where a name is kept; `theorems`: what is proved of definitions alone.
+//! - `layout`: where a name is kept; `theorems`: what is proved of definitions alone, and `theorems::read_back`: what a store reads
+//!   after a transaction.
 #![tactic(auto)]
 
 pub mod file;

@@ -10,6 +10,7 @@ use gix_ref_hash::hash::ObjectId;
 use gix_ref_object::object::{Data, Find, FindError, Kind};
 use std::alloc::{AllocError, Global};
 use std::collections::BTreeMap;
+use thiserror::Error;
 
 /// A finder of objects by a table. Of a tag it has the object that the tag leads to; any other object of the table it takes for a commit,
 /// which is as good for peeling.
@@ -20,11 +21,13 @@ pub struct Objects {
 }
 
 /// Why a table is not read.
-#[derive(Debug, Drop)]
+#[derive(Debug, Drop, Error)]
 pub enum TableError {
     /// This line, counted from 1, does not begin with an id, or has something else than an id after its first blank.
+    #[error("line {0} is no object")]
     Line(usize),
     /// There was no memory.
+    #[error("out of memory")]
     Memory,
 }
 

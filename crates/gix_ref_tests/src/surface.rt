@@ -147,6 +147,8 @@ fn types_of_files_and_the_store() {
     named::<transaction::SplitError<files::FileError>>();
     edits::<transaction::RefEdit, Vec<transaction::RefEdit>>();
     named::<file::log::create_or_update::Error>();
+    named::<file::locks::Error>();
+    named::<file::locks::RemoveError>();
 }
 
 #[test]
