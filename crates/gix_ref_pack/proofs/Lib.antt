@@ -1,4 +1,5 @@
 pub mod Choosing
 pub mod KeptReadings
+pub mod PackWordLemmas
 pub mod PackedStores
 pub mod TableLines

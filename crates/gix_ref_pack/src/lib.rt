@@ -7,11 +7,15 @@
 //!   else the tags and those that have a record, as far as their object is in the table or is that of a branch among them: in one
 //!   transaction, each of whose edits gives a reference the object that it expects there: `pack::pack_refs`, clause `packs` (`IsPlanned`,
 //!   `IsPut` in `Packings.antt`, `LooseObjects.antt`, `KeptObjects.antt`)
-//! - that each reference reads as it did, whatever becomes of the call, and at each stop and after each loss of power meanwhile, where
-//!   `packed-refs` was well formed or missing: the same, clauses `stays`, `stops`, `losses` (`EachReadsAsItDid`)
-//! - the objects of a table, and the number of the first line that is none: `objects::Objects::read` (`TableRows.antt`,
+//! - that each reference reads as it did, whatever becomes of the call, and at each stop and after each loss of power meanwhile: the same,
+//!   clauses `stays`, `stops`, `losses` (`EachReadsAsItDid`). `packed-refs` was well formed or missing; in a store that composes names
+//!   those of its files are composed (`AreComposed`); and for losses of power the store was at rest (`IsAtRest`)
+//! - the objects of a table, and the number of the first line that is no row of one: `objects::Objects::read` (`TableRows.antt`,
 //!   `KnownObjects.antt`); so each record has the object at the end of its tags, as the table says (`ArePut` of the transaction)
+//! - what the words of `git pack-refs` ask for, and that they are refused only where they have no reading: `words::parse`
+//!   (`AsksToPack` in `PackWords.antt`)
 #![tactic(auto)]
 
 pub mod objects;
 pub mod pack;
+pub mod words;

@@ -1,3 +1,5 @@
+pub mod AskLemmas
+pub mod Digits
 pub mod Ends
 pub mod Globs
 pub mod Lines

@@ -1,4 +1,6 @@
 pub mod Answers
+pub mod Arguments
+pub mod Asks
 pub mod Formats
 pub mod LogRows
 pub mod Patterns

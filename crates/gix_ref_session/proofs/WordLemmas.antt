@@ -1,22 +1,14 @@
 -- Words of the program.
-use Rattle.std.proofs.Common.{◌≡◌, ℕ, suc, Bool, true, false, List, [], ◌∷◌, length, Option, Some, None, inl, inr, refl, sym, ◌∙◌, ap, subst, arith}
-use Rattle.std.specs.Str.{IsAscii}
-use Rattle.std.specs.Str.Parse.{AllDigits}
-use Rattle.std.proofs.lemmas.Str.Ascii.{IsAscii-nil, IsAscii-cons}
-use Rattle.std.proofs.lemmas.Str.Parse.{digit_from_value}
+use Rattle.std.proofs.Common.{◌≡◌, ℕ, suc, Bool, true, false, List, [], ◌∷◌, length, Option, Some, None, inl, inr, refl, sym, ◌∙◌, ap, subst}
 use Rattle.gix_ref_log.specs.Signatures.{Who}
 use Rattle.gix_ref_log.proofs.SignatureLemmas.{one_who}
+use Rattle.gix_ref_queries.specs.Arguments.{is_option}
 use Rattle.gix_ref_session.specs.Commands.{texts}
-use Rattle.gix_ref_session.specs.Words.{AreOptions, IsFlag, IsRead, IsUnreadable, IsValued, Options, TakesValue, flag_of, is_option, no_options, options_in, valued_of, with_flag}
+use Rattle.gix_ref_session.specs.Words.{AreOptions, IsFlag, IsRead, IsUnreadable, IsValued, Options, TakesValue, flag_of, no_options, options_in, valued_of, with_flag}
 use Rattle.gix_ref_session.specs.declared.words.Flag.{Flag}
 use Rattle.gix_ref_session.specs.declared.words.Parsed.{Parsed}
 use Rattle.gix_ref_session.specs.declared.words.Valued.{Valued}
 use Rattle.gix_ref_session.specs.declared.words.Valued.TheVariants as valued
-
--- digits are text
-pub digits_ascii : (digits : List ℕ) → AllDigits 10 digits → IsAscii digits
-digits_ascii [] all = IsAscii-nil
-digits_ascii (c ∷ digits) all = let r = digit_from_value c all.0 in IsAscii-cons c digits (omega arith) (digits_ascii digits all.1)
 
 some_same : {A : Type 0} (o : Option A) (a b : A) → o ≡ Some a → o ≡ Some b → a ≡ b
 some_same {A = A} o a b one two = let both : ◌≡◌ {A = Option A} (Some a) (Some b) = sym one ∙ two in cc

@@ -1,11 +1,11 @@
 -- The words of `refs-session` after its name: the git folder, options, and the words of a command.
-use Rattle.std.specs.Prelude.{◌≡◌, ◌⊎◌, ◌==◌, ◌<◌, ◌^◌, ℕ, List, [], ◌∷◌, Bool, true, false, codes, Option, Some, None, bytes_eq, if◌then◌else◌}
+use Rattle.std.specs.Prelude.{◌≡◌, ◌⊎◌, ℕ, List, [], ◌∷◌, Bool, true, false, codes, Option, Some, None, bytes_eq, if◌then◌else◌}
 use Rattle.std.specs.Option.{option_map}
-use Rattle.std.specs.Str.Parse.{IsNumeral, digits_value}
 use denote.Ref.{Bor}
 use Rattle.gix_ref_hash.specs.declared.hash.Kind.{Kind}
 use Rattle.gix_ref_hash.specs.declared.hash.Kind.TheVariants.{Sha1, Sha256}
 use Rattle.gix_ref_log.specs.Signatures.{Who, IsSignature, signature_ref_who}
+use Rattle.gix_ref_queries.specs.Arguments.{IsCount, is_option}
 use Rattle.gix_ref_session.specs.Commands.{texts}
 use Rattle.gix_ref_session.specs.declared.input.Format.{Format}
 use Rattle.gix_ref_session.specs.declared.input.Format.TheVariants as formats
@@ -56,11 +56,6 @@ options_in line = record {
   packed_lock_timeout = line.session.packed_lock_timeout;
 }
 
--- a word begins with `-`
-abbrev pub is_option : (word : List ℕ) → Bool
-is_option [] = false
-is_option (first ∷ word) = first == 45
-
 -- the option without a value that a word is
 abbrev pub flag_of : (word : List ℕ) → Option Flag
 flag_of word = if bytes_eq word (codes "-z") then Some flags.Nul
@@ -83,10 +78,6 @@ valued_of word = if bytes_eq word (codes "--namespace") then Some valued.Namespa
     else (if bytes_eq word (codes "--lock-timeout") then Some valued.LockTimeout
     else (if bytes_eq word (codes "--packed-lock-timeout") then Some valued.PackedLockTimeout
     else None)))))
-
--- decimal digits of a number of 32 bits
-abbrev pub IsCount : (text : List ℕ) → ℕ → Type 0
-IsCount text n = IsNumeral 10 text × (digits_value 10 text < 2 ^ 32) × (n ≡ digits_value 10 text)
 
 -- an option with this value
 abbrev pub TakesValue : Valued → (value : List ℕ) → (old new : Options) → Type 0

@@ -8,7 +8,10 @@
 //! - the edit of each command (`Edits.antt`), and the reference that it is made of, by what lookups find (`Leading.antt`)
 //! - that edits are refused where the name of a reference that they make is in the way of another, and only there (`Clashes.antt`)
 //! - transactions one after the other, with an answer to each command; `commit: ok` after a commit that was done, and only then, unless
-//!   the writer fails; what each stop and each loss of power leaves: `session::serve`, `run::run` (`Sessions.antt`, `Runs.antt`)
+//!   the writer fails; what is committed at the end of the input is not answered: `session::serve`, `run::run` (`Serves` in
+//!   `Sessions.antt`, `Runs.antt`)
+//! - what each stop leaves, and each loss of power where the store was at rest and `packed-refs` was well formed or missing: the same,
+//!   clauses `leaves`, `lost`
 //! - that the lock of another is given up on only after a try for each millisecond that is given (`Waiting.antt`)
 //! - what the words of the program mean: `words::parse` (`Words.antt`)
 #![tactic(auto)]

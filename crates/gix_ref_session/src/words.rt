@@ -1,13 +1,14 @@
 //! The words of the program: `GITDIR [-z] [--sha256] [--namespace NAME] [--as SIGNATURE] [-m MESSAGE] [--create-reflog]
 //! [--without-syncs] [--lock-timeout MS] [--packed-lock-timeout MS]`, in any order after GITDIR.
-ghost use Rattle.std.specs.Prelude.{◌≡◌, ℕ, List, None, true, false, MatchOption, IfSome};
+ghost use Rattle.std.specs.Prelude.{◌≡◌, None, true, false, MatchOption};
 ghost use Rattle.gix_ref_session.specs.Commands.{texts};
-ghost use Rattle.gix_ref_session.specs.Words.{AreOptions, IsCount, IsFlag, IsRead, IsUnreadable, IsValued, Options, TakesValue, flag_of, is_option, no_options, options_in, valued_of, with_flag};
+ghost use Rattle.gix_ref_session.specs.Words.{IsFlag, IsRead, IsUnreadable, IsValued, Options, TakesValue, flag_of, options_in, valued_of, with_flag};
 
 use crate::input::Format;
 use crate::session::Session;
 use gix_ref_hash::hash::Kind;
 use gix_ref_log::actor::SignatureRef;
+use gix_ref_queries::argument::{count, is_option};
 
 /// The words of the program.
 #[derive(Clone, Copy)]
@@ -62,29 +63,6 @@ const LOCK_TIMEOUT: u32 = 100;
 
 /// How long that of `packed-refs` is (`core.packedRefsTimeout`).
 const PACKED_LOCK_TIMEOUT: u32 = 1000;
-
-/// A number in decimal digits; `None` for other bytes, and for one that does not fit.
-pub fn count(digits: &[u8]) -> Option<u32>
-    ensures { MatchOption result ((n : ℕ) → IsCount digits.now n → ⊥) (IsCount digits.now) }
-{
-    if digits.first() == Some(&b'+') {
-        return None;
-    }
-    match str::from_utf8(digits) {
-        Ok(text) => text.parse::<u32>().ok(),
-        Err(_) => None,
-    }
-}
-
-/// Whether a word is an option.
-fn is_option(word: &[u8]) -> bool
-    ensures { result ≡ is_option word.now }
-{
-    match word.split_first() {
-        Some((first, _)) => *first == b'-',
-        None => false,
-    }
-}
 
 /// The option without a value that a word is.
 fn flag_of(word: &[u8]) -> Option<Flag>

@@ -4,14 +4,14 @@
 //! words; of a COMMAND that of Git.
 #![tactic(auto)]
 
-mod ask;
 mod pack;
 
-use ask::answer_to;
 use bstr::ByteSlice;
 use gix_ref_files::disk::Disk;
+use gix_ref_pack::words::parse as parse_packing;
 use gix_ref_program::open::lent_words;
 use gix_ref_queries::answer::Answer;
+use gix_ref_queries::ask::answer_to;
 use gix_ref_session::fatal::Fatal;
 use gix_ref_session::run::{open, run};
 use gix_ref_session::words::{Line, Parsed, parse};
@@ -62,7 +62,7 @@ fn answer_of(rt: &HostRuntime, parsed: &Parsed<'_, '_>) -> Result<Option<Answer>
     let mut files = disk(rt, &parsed.line)?;
     let packing = match packing_words(parsed.rest) {
         Some(words) => {
-            let Some(asked) = pack::parse(words) else {
+            let Some(asked) = parse_packing(words) else {
                 return Ok(None);
             };
             match pack::read_objects(alloc, &mut files, &asked)? {

@@ -1,58 +1,13 @@
-//! `pack-refs [--all] [--no-prune] [--peeled FILE]`: packs loose references.
+//! `pack-refs [--all] [--no-prune|--prune] [--peeled FILE]`: packs loose references.
 
 use bstr::ByteSlice;
 use gix_ref_files::files::{FileError, Files, Node};
 use gix_ref_pack::objects::{Objects, TableError};
 use gix_ref_pack::pack::{Packed, pack_refs};
+use gix_ref_pack::words::Asked;
 use gix_ref_queries::answer::Answer;
 use gix_ref_store::file::Store;
 use std::alloc::{AllocError, Global};
-
-/// What the words after `pack-refs` ask for.
-#[derive(Clone, Copy)]
-pub struct Asked<'w> {
-    /// All loose references, and not only tags and what has a record.
-    is_all: bool,
-    /// Loose files are removed.
-    prune: bool,
-    /// The path of the table of objects.
-    peeled: Option<&'w [u8]>,
-}
-
-/// Takes an option without a value; false for another word.
-fn take_flag(asked: &mut Asked<'_>, word: &[u8]) -> bool {
-    if word == b"--all".as_slice() {
-        asked.is_all = true;
-    } else if word == b"--prune".as_slice() {
-        asked.prune = true;
-    } else if word == b"--no-prune".as_slice() {
-        asked.prune = false;
-    } else {
-        return false;
-    }
-    true
-}
-
-/// What these words ask for; `None` where they are wrong.
-pub fn parse<'w>(words: &[&'w [u8]]) -> Option<Asked<'w>> {
-    let mut asked = Asked {
-        is_all: false,
-        prune: true,
-        peeled: None,
-    };
-    let mut wants_path = false;
-    for word in words {
-        if wants_path {
-            asked.peeled = Some(*word);
-            wants_path = false;
-        } else if *word == b"--peeled".as_slice() {
-            wants_path = true;
-        } else if !take_flag(&mut asked, word) {
-            return None;
-        }
-    }
-    if wants_path { None } else { Some(asked) }
-}
 
 /// An error in Git's form.
 fn fatal(alloc: Global, message: String) -> Result<Answer, AllocError> {
