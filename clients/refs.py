@@ -154,8 +154,8 @@ class Transaction:
 class Session:
     """Transactions on one repository, one after the other. For one thread at a time; each thread may have one of its own.
 
-    `committer`, `name <email> seconds +hhmm`, writes reflogs; `message` is that of their lines. Without `syncs` a loss of power may
-    undo what was committed, as with git's default.
+    `committer`, `name <email> seconds +hhmm`, writes reflogs; `message` is that of their lines. After a loss of
+    power without `syncs` a reference may be missing or damaged, as with git's default.
     """
 
     def __init__(self, git_dir, committer=None, message=None, sha256=False, namespace=None, syncs=True):

@@ -12,8 +12,8 @@
 //!   `run::run_plan` (`RunsOnly`, `StopsEarly` in `Unfinished.antt`)
 //! - before each step that writes a file either no folder is removed, and a folder at its path holds a file or a folder of the
 //!   store, unless it was seen before that none is there; or the folder at the path is removed and each one below it, each before
-//!   the one that it lies in, and none of them holds a file or leads to a folder of the store: `folders::all_in_way`,
-//!   `decide::decide_folders` (`AreInWay` in `Cleared.antt`)
+//!   the one that it lies in, and none of them holds a file or leads to a folder of the store:
+//!   `folders::find_empty_dirs_in_the_way`, `decide::decide_folders` (`AreInWay` in `Cleared.antt`)
 //! - above what is deleted only empty folders go, below `logs` or a second component of `refs`, and none that leads to a folder
 //!   of the store; then no loss of power leaves a file that none could leave before: `tidy::remove_empty_folders` (`FoldersGo`,
 //!   `LosesNoMore`)

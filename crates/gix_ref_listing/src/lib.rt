@@ -32,8 +32,8 @@
 //!
 //! Where names are composed, a file whose name on disk is not composed is listed under its composed name; that it is listed is
 //! only tested. Over a `packed-refs` that is not well formed the end of a listing is proved, that it changes nothing, that an
-//! item in which a fault of files is counted is a fault, and that it lacks no name in silence (the last line of the table). Which
-//! line a fault is about, and what comes after the first one, is tested.
+//! item in which a fault of files is counted is a fault, and that it lacks no name in silence (the point before this). That its other
+//! items are right, which line a fault is about, and what comes after the first one, is tested.
 #![tactic(auto)]
 
 pub mod error;

@@ -6,9 +6,10 @@
 //! - header and records are read exactly where the text has them, and a refusal leaves the input: `packed::decode::header`,
 //!   `reference`
 //! - where the record of a byte begins: `record_start_at_offset`, `record_at_offset`
-//! - the records of a text, computed: those of the grammar, and of no other text: `packed::laws::records_are_computed`
+//! - the records of a text, computed: those of the grammar, and of no other text:
+//!   `gix_ref_packed::packed::laws::records_are_computed`
 //! - written text is read back as the same records, and a text is that of one list of records at most; a failed append leaves the
-//!   text as it was: `packed::laws`, `packed::written`
+//!   text as it was: `packed::written`, `gix_ref_packed::packed::laws::written_text_reads_back`
 //! - references as values, and what a record makes of them: `raw::Reference`
 //! - of ascending records and edits of ascending keys: each key has what its edit makes of its record, names ascend, and the new
 //!   text is the written one of these records, which is read as them again and is well formed; the file is to be removed where no

@@ -24,7 +24,7 @@
 //! - where the lock is as `Lock::acquire` makes it, and the file and its folders were settled before: after every loss of power
 //!   inside it the file is the old one or that one, and every other file that was settled is as before, except for the lock; a
 //!   commit that succeeds leaves the file settled, so that no later loss undoes it: the same, clauses `lost`, `settled`
-//!   (`IsReadyOn`, `IsLostOf`, `SettlesFrom` in `PackedLosses.antt`)
+//!   (`IsReadyOn`, `IsLostOf`, `SettlesPackedRefs` in `PackedLosses.antt`)
 //! - it fails by a call of files that failed, by a folder at the place, by a line that is no record, or for want of memory, and
 //!   one that succeeds passed over no such line; a lock that is left is named, and only where a call of files failed: the same,
 //!   clauses `why`, `read`, `named`

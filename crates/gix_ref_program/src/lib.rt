@@ -10,8 +10,8 @@
 //!   the status is 1, and where a name is no full one nothing is begun: `run::run` (`WriteComes` in `Writes.antt`)
 //! - a script: its file is read once, before the first transaction; its lines are made one after the other, each over the store
 //!   that the one before it left; 0 is the status exactly where all were made; at the first that is refused, or fails, or is no
-//!   list of commands, it ends with 1, and none after it is begun; the outcomes are printed in their order: `run::run`
-//!   (`ScriptEnds` in `Scripts.antt`)
+//!   list of commands, it ends with 1, and none after it is begun; the outcomes are printed in their order; so unless the writer
+//!   fails: `run::run` (`ScriptEnds` in `Scripts.antt`)
 //! - at every stop of a script of any length, and after every loss of power in it, there are stores, each made of the one before
 //!   by the next line; and the files are as a stop or a loss in the transaction of the line that follows leaves them, or as the
 //!   last store has them, where none follows: `run::run` (`IsScriptStop`, `IsScriptLoss`); for any steps
@@ -27,8 +27,8 @@
 //!   fault; where the writer fails nothing is said of what was written: `run::run`, `log::print_items`
 //! - arguments are a command exactly where they have its form: `words::parse`
 //! - invalid arguments print `wrong words`, exit with 2 and change nothing, unless there is no memory for them, which is printed,
-//!   with 1; a valid command prints its result and any leftover locks, and exits with 0 or 1; at every stop the files are as a
-//!   stop in the command may leave them, and after every loss of power in one that writes: `run::run`
+//!   with 1; a valid command prints its result and any leftover locks, and exits with 0 or 1, or returns the writer's error; at
+//!   every stop the files are as a stop in the command may leave them, and after every loss of power in one that writes: `run::run`
 #![tactic(auto)]
 
 mod block;

@@ -4,7 +4,7 @@
 //!
 //! - where a name is kept: its loose file, its log and its key, by one table: `layout::RefLayout::loose`, `log`, `packed_key`,
 //!   `layout::packed_key`, `location_of`
-//! - targets lent and owned are the same value; `id` is asked only of an object: the calls of `Target` and `TargetRef`
+//! - targets lent and owned are the same value; `id` requires that it is an object: the calls of `Target` and `TargetRef`
 #![tactic(auto)]
 
 pub mod laws;
