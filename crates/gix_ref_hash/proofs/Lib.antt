@@ -6,4 +6,5 @@ pub mod HexRuns
 pub mod IdDigits
 pub mod IdEquality
 pub mod IdLemmas
+pub mod LowerDigits
 pub mod WrittenDigits

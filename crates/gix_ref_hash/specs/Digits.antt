@@ -1,5 +1,6 @@
--- Numbers of decimal digits, and pairs of hex digits.
-use Rattle.std.specs.Prelude.{◌≡◌, ℕ, ◌^◌, ◌<◌, true, List, Ok}
+-- Numbers of decimal digits, pairs of hex digits, and hex digits in lower case.
+use Rattle.std.specs.Prelude.{◌≡◌, ℕ, ◌^◌, ◌<◌, true, List, map, Ok}
+use Rattle.std.specs.Char.{to_ascii_lowercase}
 use Rattle.std.specs.Str.Parse.{IsNumeral, digits_value}
 use Rattle.hex.specs.Hex.{is_hex_digit, pair_value}
 
@@ -13,3 +14,7 @@ pub record IsNumber (text : List ℕ) (n : ℕ) : Type 0 where
 abbrev pub IsPair : ℕ → ℕ → ℕ → Type 0
 IsPair high low byte = is_hex_digit high ≡ true → is_hex_digit low ≡ true → (i : ℕ) →
     pair_value high low i ≡ Ok byte
+
+-- hex digits in lower case
+abbrev pub lower_hex : List ℕ → List ℕ
+lower_hex digits = map to_ascii_lowercase digits

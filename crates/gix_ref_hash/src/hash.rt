@@ -3,6 +3,7 @@ ghost use Rattle.std.specs.Prelude.{◌≡◌, ◌↔◌, ◌++◌, List, MatchO
 ghost use Rattle.std.specs.List.{list_all};
 ghost use Rattle.hex.specs.Hex.{encode_lower, is_hex_digit, IsBytes};
 ghost use Rattle.gix_ref_hash.specs.Bytes.{IsNewline};
+ghost use Rattle.gix_ref_hash.specs.Digits.{lower_hex};
 ghost use Rattle.gix_ref_hash.specs.declared.hash.ObjectId.{ObjectId};
 ghost use Rattle.gix_ref_hash.specs.Ids.{id_bytes, id_kind, kind_len, null_id, IsWhole, ReadsId, IsHexOf, IsHex, IsIdText, HexRun};
 
@@ -12,7 +13,7 @@ use std::fmt;
 
 mod digits;
 
-use digits::{digits_of_sha1, sha1_of_digits};
+use digits::{digits_of_sha1, lower_sha1_digits, sha1_of_digits};
 
 /// The hash functions whose ids are known (`git init --object-format`). As gix-hash's `Kind`.
 #[derive(Clone, Copy, Debug, PartialEq, Eq, PartialOrd, Ord, Hash)]
@@ -189,6 +190,20 @@ pub fn id_of_digits(digits: &[u8]) -> ObjectId
     match <&[u8; 40]>::try_from(digits) {
         Ok(digits) => ObjectId::Sha1(sha1_of_digits(digits)),
         Err(_) => ObjectId::from_hex(digits).unwrap(),
+    }
+}
+
+/// Adds the 40 or 64 hex digits of an id, of either case, to the text in lower case. The error reports that the text could not
+/// grow, and leaves it as it was. As `ObjectId::push_hex` of the id that they are, which is not made.
+#[inline(always)]
+pub fn push_lower_hex(digits: &[u8], text: &mut Vec<u8>) -> Result<(), AllocError>
+    requires { IsIdText digits.now }
+    ensures added { OnOk result (text.new.items ≡ text.old.items ++ lower_hex digits.now) }
+    ensures left { OnErr result (text.new.items ≡ text.old.items) }
+{
+    match <&[u8; 40]>::try_from(digits) {
+        Ok(digits) => text.extend_from_slice(&lower_sha1_digits(digits)),
+        Err(_) => id_of_digits(digits).push_hex(text),
     }
 }
 

@@ -1,6 +1,7 @@
 //! The order and the equality of ids, each stated by a short caller: what `==` and `cmp` return.
 ghost use Rattle.std.specs.Prelude.{◌≡◌, ◌↔◌, IsTrue, List, ℕ};
 ghost use Rattle.std.specs.Ordering.{nat_cmp};
+ghost use Rattle.gix_ref_hash.specs.Digits.{lower_hex};
 ghost use Rattle.gix_ref_hash.specs.Orders.{kind_rank, id_cmp};
 ghost use Rattle.hex.specs.Hex.{encode_lower};
 ghost use Rattle.gix_ref_hash.specs.declared.hash.ObjectId.{ObjectId};
@@ -38,10 +39,12 @@ pub fn same_ids(a: &ObjectId, b: &ObjectId) -> bool
 }
 
 /// An id and its hex digits determine one another: a text is the digits of one id at most, and the bytes of an id, in
-/// lower-case digits, are the digits of that id.
+/// lower-case digits, are the digits of that id. The digits of an id in lower case are those of its bytes.
 pub fn digits_of_ids()
     ensures one_id { (text : List ℕ) (a b : ObjectId) → ReadsId text a → ReadsId text b → a ≡ b }
     ensures written { (id : ObjectId) → IsWhole id → ReadsId (encode_lower (id_bytes id)) id }
     ensures read { (text : List ℕ) (id : ObjectId) → ReadsId text id → IsHexOf (id_kind id) text
         × IsWhole id }
+    ensures lower { (text : List ℕ) (id : ObjectId) → ReadsId text id → lower_hex text
+        ≡ encode_lower (id_bytes id) }
 {}

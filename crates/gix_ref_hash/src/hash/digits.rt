@@ -2,7 +2,7 @@
 ghost use Rattle.std.specs.Prelude.{◌≡◌, ◌+◌, ◌*◌, ◌<◌, ℕ, true, Ok, Some, length, slice_index, get_or};
 ghost use Rattle.std.specs.List.{list_all};
 ghost use Rattle.hex.specs.Hex.{decode_of, encode_lower, is_hex_digit, hex_digit_value, lower_digits};
-ghost use Rattle.gix_ref_hash.specs.Digits.{IsPair};
+ghost use Rattle.gix_ref_hash.specs.Digits.{IsPair, lower_hex};
 
 use std::simd::prelude::*;
 
@@ -79,6 +79,18 @@ pub fn sha1_of_digits(digits: &[u8; 40]) -> [u8; 20]
         bytes[i] = if i < 16 { front[i] } else { back[i - 4] };
     }
     bytes
+}
+
+/// These digits in lower case, made in vectors.
+#[inline(always)]
+pub fn lower_sha1_digits(digits: &[u8; 40]) -> [u8; 40]
+    ensures { result ≡ lower_hex digits.now }
+{
+    let mut lower = [0u8; 40];
+    for i in 0..40 {
+        lower[i] = digits[i].to_ascii_lowercase();
+    }
+    lower
 }
 
 /// The lower-case hex digit of a value below 16. A letter is 39 above the digit that would follow the nine.

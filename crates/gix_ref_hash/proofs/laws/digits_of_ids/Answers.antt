@@ -1,4 +1,5 @@
 use Rattle.gix_ref_hash.proofs.IdLemmas.{one_id, written_reads, reads_whole}
+use Rattle.gix_ref_hash.proofs.LowerDigits.{lower_is_written}
 use Rattle.gix_ref_hash.proofs.laws.digits_of_ids.Goals as goal
 
 pub returns-clause-one_id : goal.returns-clause-one_id
@@ -9,3 +10,6 @@ returns-clause-written c = written_reads
 
 pub returns-clause-read : goal.returns-clause-read
 returns-clause-read c = reads_whole
+
+pub returns-clause-lower : goal.returns-clause-lower
+returns-clause-lower c = lower_is_written
