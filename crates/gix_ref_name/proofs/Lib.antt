@@ -9,6 +9,7 @@ pub mod FrontLemmas
 pub mod OneCategory
 pub mod PartialNames
 pub mod PlainNames
+pub mod PlainPaths
 pub mod RoundTrip
 pub mod Rows
 pub mod Scans

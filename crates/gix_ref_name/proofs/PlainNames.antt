@@ -17,10 +17,10 @@ abbrev pub letter : ℕ → ℕ
 letter b = get_or LETTERS b 0
 
 -- a byte of this letter may follow one of that letter
-abbrev fits : ℕ → ℕ → Bool
+abbrev pub fits : ℕ → ℕ → Bool
 fits before here = bit_and here (before * 2 ^ 4 % 2 ^ 8) == 0
 
-abbrev ends : ℕ → Bool
+abbrev pub ends : ℕ → Bool
 ends before = bit_and before 7 == 0
 
 -- after a byte of this letter each byte of the text may be where it is, and so may the end
@@ -29,7 +29,7 @@ fits_on before [] = ends before
 fits_on before (b ∷ n) = fits before (letter b) && fits_on (letter b) n
 
 -- ---- the table, by computing
-abbrev all_below : (ℕ → Bool) → ℕ → Bool
+abbrev pub all_below : (ℕ → Bool) → ℕ → Bool
 all_below f zero = true
 all_below f (suc n) = f n && all_below f n
 
@@ -44,7 +44,7 @@ not_true : (v : Bool) → not v ≡ true → v ≡ false
 not_true true h = absurd (cc)
 not_true false h = refl
 
-at_below : (f : ℕ → Bool) (n : ℕ) → all_below f n ≡ true → (b : ℕ) → b < n → f b ≡ true
+pub at_below : (f : ℕ → Bool) (n : ℕ) → all_below f n ≡ true → (b : ℕ) → b < n → f b ≡ true
 at_below f zero h b lt = absurd (omega arith)
 at_below f (suc n) h b lt =
     let parts = both (f n) (all_below f n) h in

