@@ -1,5 +1,5 @@
 -- What the calls of this crate return: candidates, the records that they ask, and lookups (`gitrevisions`).
-use Rattle.std.specs.Prelude.{◌≡◌, ◌≢◌, ◌⊎◌, ℕ, List, [], ◌∷◌, ◌++◌, Bool, true, Option, Some, None, Result, Ok, Err, if◌then◌else◌, nat_eq, option_to_list}
+use Rattle.std.specs.Prelude.{◌≡◌, ◌≢◌, ◌⊎◌, ℕ, List, [], ◌∷◌, ◌++◌, Bool, true, Option, Some, None, IfOk, IfSome, Result, Ok, Err, if◌then◌else◌, nat_eq, option_to_list}
 use Rattle.std.specs.List.{AllByRecursion}
 use Rattle.std.specs.Option.{option_map}
 use Rattle.std.specs.Cmp.Lexicographic.{pointwise}
@@ -146,6 +146,11 @@ module _ (settings : Settings) (files : Meaning) where
   abbrev pub AreAskedWith : {R : Type 0} {G : Ghosts R} → Records R G → List Record → Type 0
   AreAskedWith asked records = AreAsked settings.kind (packed_refs_in settings files) asked records
 
+  -- this holds of the records that are asked, where `packed-refs` is well formed or missing
+  abbrev pub OfAsked : {R : Type 0} {G : Ghosts R} → (honest : Type 0) → Records R G →
+      (List Record → Type 0) → Type 0
+  OfAsked honest asked P = honest → (records : List Record) → AreAskedWith asked records → P records
+
   abbrev pub AreStillAskedWith : {R : Type 0} {G : Ghosts R} → (old new : Records R G) → Type 0
   AreStillAskedWith old new =
       AreStillAsked settings.kind (packed_refs_in settings files) old new
@@ -254,6 +259,10 @@ IsByRecord s records name (Some r) =
 abbrev pub HasKey : Store → List ℕ → (key : List ℕ) → Type 0
 HasKey s name key = s.key name ≡ Some key
 
+-- this holds of each name that has this key
+abbrev pub OfNames : Settings → (key : List ℕ) → (List ℕ → Type 0) → Type 0
+OfNames settings key P = (name : List ℕ) → HasKey (meaning_in settings) name key → P name
+
 -- the name has no key that is a full name
 abbrev pub HasNoKey : Store → List ℕ → Type 0
 HasNoKey s name = (key : List ℕ) → s.key name ≡ Some key → IsFullName key → ⊥
@@ -286,6 +295,12 @@ RecordFails {R} {G} honest settings T records before now name =
     (λ k text. CannotRead k text key)))
     (IsRefusedFile settings.kind (T s.packed_path))
 
+-- why `packed-refs` is not opened: a fault; a text that is refused; no memory
+abbrev pub IsNotOpened : (honest : Type 0) → (Fault : FileError → Type 0) → Settings → Tree → Error →
+    Type 0
+IsNotOpened honest Fault settings T =
+    IsNotPacked honest Fault ⊥ (IsRefusedFile settings.kind (T (meaning_in settings).packed_path))
+
 -- a candidate as a result: nothing where it reads nothing, else its name, its target and its peeled id
 abbrev pub IsCandidate : Store → View → List Record → List ℕ → Option Reference → Type 0
 IsCandidate s view records name None = reading_among s view records name ≡ Absent
@@ -313,6 +328,10 @@ ReturnsHit None None = Unit {0}
 ReturnsHit (Some hit) (Some r) = (full_bytes r.name ≡ hit.name)
     × (hit.reading ≡ Is (target_value r.target)) × (r.peeled ≡ hit.peeled)
 ReturnsHit found answer = ⊥
+
+-- a lookup that ends returns this
+abbrev pub Finds : Option Hit → Result (Option Reference) Error → Type 0
+Finds hit result = IfOk result (ReturnsHit hit)
 
 -- on any text of `packed-refs`: a candidate has a loose file with this target; or it has none, and a record of its key
 -- that begins a line
@@ -366,6 +385,16 @@ FailsAmong honest settings T asked before now names error =
     FailsAt (IsPassed honest settings T asked)
     (λ name. CandidateFails honest settings T asked before now name error) names
 
+-- what is found, if anything is, is a hit of one of these names
+abbrev pub IsHitAmong : {R : Type 0} {G : Ghosts R} → Settings → View → Records R G →
+    List (List ℕ) → Option Reference → Type 0
+IsHitAmong settings view records names found =
+    IfSome found (λ r. Among (λ n. IsHit settings view records n r) names)
+
+-- there was no memory, or this
+abbrev pub MemoryOr : (Error → Type 0) → Error → Type 0
+MemoryOr P error = (error ≡ Memory) ⊎ P error
+
 -- the names that a lookup of a partial name asks for: its candidates, and the head of a remote
 abbrev pub asked_names : List ℕ → List (List ℕ)
 asked_names p = candidates p ++ option_to_list (remote_head p)
@@ -381,12 +410,16 @@ name_given asked p name = if pointwise nat_eq asked p then name else decomposed 
 abbrev pub hit_given : (asked p : List ℕ) → Hit → Hit
 hit_given asked p found = record found { name = name_given asked p found.name }
 
+-- the lookup of a partial name as it is: its candidates, and else the head of a remote
+abbrev pub lookup_as : Store → View → List Record → List ℕ → Option Hit
+lookup_as s view records p = lookup s view records (candidates p) (remote_head p)
+
 -- What a lookup of a partial name finds in these files, among these records, where names are composed or not
 -- (`core.precomposeUnicode` of `git config`).
 abbrev pub lookup_of : (composes : Bool) → Store → View → List Record → List ℕ → Option Hit
 lookup_of composes s view records p =
     let asked = name_asked composes p in
-    option_map (hit_given asked p) (lookup s view records (candidates asked) (remote_head asked))
+    option_map (hit_given asked p) (lookup_as s view records asked)
 
 -- the same reference under another form of its name
 pub record IsNamed (form : List ℕ → List ℕ) (found given : Reference) : Type 0 where

@@ -10,7 +10,7 @@ ghost use Rattle.gix_ref_theory.specs.OnRealTrees.{contents};
 ghost use Rattle.gix_ref_lookup.specs.StoreLayout.{namespace_text};
 ghost use Rattle.gix_ref_packed_text.specs.Positions.{CannotRead};
 ghost use Rattle.gix_ref_packed.specs.OpenFiles.{HasReadFault};
-ghost use Rattle.gix_ref_lookup.specs.Lookups.{AreAsked, AreAskedWith, AreHonest, AreStillAsked, AreStillAskedWith, CandidateFails, FindsNone, HasKey, HasNoRecord, IsByRecord, IsCandidate, IsFaultOrMemory, IsHit, IsHitOfKey, IsLooseTarget, IsMissing, IsNotPacked, IsNotRead, IsNotReadAt, IsOfKey, IsReady, IsRecordHit, IsSound, OfSearched, RecordFails, meaning_in, packed_refs_in};
+ghost use Rattle.gix_ref_lookup.specs.Lookups.{AreAsked, AreHonest, AreStillAsked, AreStillAskedWith, CandidateFails, FindsNone, HasNoRecord, IsByRecord, IsCandidate, IsFaultOrMemory, IsHit, IsHitOfKey, IsLooseTarget, IsMissing, IsNotPacked, IsNotRead, IsNotReadAt, IsOfKey, IsReady, IsRecordHit, IsSound, OfAsked, OfNames, OfSearched, RecordFails, meaning_in, packed_refs_in};
 ghost use Rattle.gix_ref_files.specs.ReadOnly.{OnlyReads};
 
 use crate::find::loose::{Loose, loose_at};
@@ -152,22 +152,13 @@ fn find_at_key<F: Files>(
     key: FullNameRef<'_>,
     records: &mut Records<'_, F::Reader>,
 ) -> Result<Option<Reference>, Error>
-    ensures found { F.honest → (rs : List Record) → AreAskedWith settings.entry (F.means files.old)
-        records.old rs → (name : List ℕ) → HasKey (meaning_in settings.entry) name
-        (full_ref_bytes key.entry) → IfOk result (IsByRecord (meaning_in settings.entry) rs name) }
-    ensures sound { F.honest → (rs : List Record) → AreAskedWith settings.entry (F.means files.old)
-        records.old rs → IfErr result IsFaultOrMemory }
-    ensures hit { F.honest → AreHonest records.old → (name : List ℕ) →
-        HasKey (meaning_in settings.entry) name (full_ref_bytes key.entry) →
-        IfOk result (λ r. IfSome r (IsRecordHit settings.entry (contents F.means files.old)
-        records.old name)) }
+    ensures found { OfAsked settings.entry (F.means files.old) F.honest records.old (λ rs. OfNames settings.entry (full_ref_bytes key.entry) (λ name. IfOk result (IsByRecord (meaning_in settings.entry) rs name))) }
+    ensures sound { OfAsked settings.entry (F.means files.old) F.honest records.old (λ rs. IfErr result IsFaultOrMemory) }
+    ensures hit { F.honest → AreHonest records.old → OfNames settings.entry (full_ref_bytes key.entry) (λ name. IfOk result (λ r. IfSome r (IsRecordHit settings.entry (contents F.means files.old) records.old name))) }
     ensures none { F.honest → AreHonest records.old →
         IfOk result (λ r. IfNone r (FindsNone settings.entry.kind
         (packed_refs_in settings.entry (F.means files.old)) records.old)) }
-    ensures failed { (name : List ℕ) → HasKey
-        (meaning_in settings.entry) name (full_ref_bytes key.entry) →
-        IfErr result (RecordFails F.honest settings.entry (F.means files.old).tree records.old
-        (F.faults files.old) (F.faults files.new) name) }
+    ensures failed { OfNames settings.entry (full_ref_bytes key.entry) (λ name. IfErr result (RecordFails F.honest settings.entry (F.means files.old).tree records.old (F.faults files.old) (F.faults files.new) name)) }
     ensures still { F.honest → AreStillAskedWith settings.entry (F.means files.old)
         records.old records.new }
     ensures no_fault { OnOk result (F.faults files.new ≡ F.faults files.old) }
@@ -187,11 +178,8 @@ fn find_packed<F: Files>(
     name: FullNameRef<'_>,
     records: &mut Records<'_, F::Reader>,
 ) -> Result<Option<Reference>, Error>
-    ensures found { F.honest → (rs : List Record) → AreAskedWith settings.entry (F.means files.old)
-        records.old rs → IfOk result (IsByRecord (meaning_in settings.entry) rs
-        (full_ref_bytes name.entry)) }
-    ensures sound { F.honest → (rs : List Record) → AreAskedWith settings.entry (F.means files.old)
-        records.old rs → IfErr result IsFaultOrMemory }
+    ensures found { OfAsked settings.entry (F.means files.old) F.honest records.old (λ rs. IfOk result (IsByRecord (meaning_in settings.entry) rs (full_ref_bytes name.entry))) }
+    ensures sound { OfAsked settings.entry (F.means files.old) F.honest records.old (λ rs. IfErr result IsFaultOrMemory) }
     ensures hit { F.honest → AreHonest records.old → IfOk result (λ r. IfSome r
         (IsRecordHit settings.entry (contents F.means files.old) records.old
         (full_ref_bytes name.entry))) }
@@ -224,11 +212,8 @@ pub fn find_candidate<F: Files>(
     name: FullNameRef<'_>,
     records: &mut Records<'_, F::Reader>,
 ) -> Result<Option<Reference>, Error>
-    ensures found { F.honest → (rs : List Record) → AreAskedWith settings.entry (F.means files.old)
-        records.old rs → IfOk result (IsCandidate (meaning_in settings.entry)
-        (contents F.means files.old) rs (full_ref_bytes name.entry)) }
-    ensures sound { F.honest → (rs : List Record) → AreAskedWith settings.entry (F.means files.old)
-        records.old rs → IfErr result IsSound }
+    ensures found { OfAsked settings.entry (F.means files.old) F.honest records.old (λ rs. IfOk result (IsCandidate (meaning_in settings.entry) (contents F.means files.old) rs (full_ref_bytes name.entry))) }
+    ensures sound { OfAsked settings.entry (F.means files.old) F.honest records.old (λ rs. IfErr result IsSound) }
     ensures hit { F.honest → AreHonest records.old →
         IfOk result (λ r. IfSome r (IsHit settings.entry (contents F.means files.old) records.old
         (full_ref_bytes name.entry))) }

@@ -5,7 +5,7 @@ ghost use Rattle.gix_ref_name.specs.Names.{full_bytes, partial_bytes, partial_re
 ghost use Rattle.gix_ref_target.specs.PackedRecords.{Record};
 ghost use Rattle.gix_ref_files.specs.ReadOnly.{OnlyReads};
 ghost use Rattle.gix_ref_theory.specs.OnRealTrees.{contents};
-ghost use Rattle.gix_ref_lookup.specs.Lookups.{AreAskedWith, AreHonest, AreMissing, AreStillAskedWith, FailsAmong, IsGivenOf, IsHitOf, IsSound, ReturnsHit, asked_names, lookup_of, meaning_in, name_asked};
+ghost use Rattle.gix_ref_lookup.specs.Lookups.{AreHonest, AreMissing, AreStillAskedWith, FailsAmong, Finds, IsGivenOf, IsHitOf, IsSound, MemoryOr, OfAsked, asked_names, lookup_of, meaning_in, name_asked};
 
 use crate::find::Error;
 use crate::find::lookup::find_asked;
@@ -70,20 +70,14 @@ pub fn find_reference<F: Files>(
     name: PartialNameRef<'_>,
     records: &mut Records<'_, F::Reader>,
 ) -> Result<Option<Reference>, Error>
-    ensures found { F.honest → (rs : List Record) → AreAskedWith settings.entry (F.means files.old)
-        records.old rs → IfOk result (ReturnsHit (lookup_of composes (meaning_in settings.entry)
-        (contents F.means files.old) rs (partial_ref_bytes name.entry))) }
-    ensures sound { F.honest → (rs : List Record) → AreAskedWith settings.entry (F.means files.old)
-        records.old rs → IfErr result IsSound }
+    ensures found { OfAsked settings.entry (F.means files.old) F.honest records.old (λ rs. Finds (lookup_of composes (meaning_in settings.entry) (contents F.means files.old) rs (partial_ref_bytes name.entry)) result) }
+    ensures sound { OfAsked settings.entry (F.means files.old) F.honest records.old (λ rs. IfErr result IsSound) }
     ensures hit { F.honest → AreHonest records.old → IfOk result (λ r. IfSome r (IsHitOf composes
         settings.entry (contents F.means files.old) records.old (partial_ref_bytes name.entry))) }
     ensures missing { F.honest → AreHonest records.old → IfOk result (λ r. IfNone r
         (AreMissing settings.entry (contents F.means files.old) records.old
         (name_asked composes (partial_ref_bytes name.entry)))) }
-    ensures failed { IfErr result (λ error. (error ≡ Error.Memory)
-        ⊎ FailsAmong F.honest settings.entry (F.means files.old).tree records.old
-        (F.faults files.old) (F.faults files.new)
-        (asked_names (name_asked composes (partial_ref_bytes name.entry))) error) }
+    ensures failed { IfErr result (MemoryOr (FailsAmong F.honest settings.entry (F.means files.old).tree records.old (F.faults files.old) (F.faults files.new) (asked_names (name_asked composes (partial_ref_bytes name.entry))))) }
     ensures asked { F.honest → OnOk result (AreStillAskedWith settings.entry (F.means files.old)
         records.old records.new) }
     ensures no_fault { OnOk result (F.faults files.new ≡ F.faults files.old) }

@@ -4,10 +4,10 @@ ghost use Rattle.gix_ref_hash.specs.declared.hash.Kind.{Kind};
 ghost use Rattle.gix_ref_name.specs.Names.{full_ref_bytes};
 ghost use Rattle.gix_ref_target.specs.PackedRecords.{Record};
 ghost use Rattle.gix_ref_files.specs.ReadOnly.{OnlyReads};
-ghost use Rattle.gix_ref_packed.specs.Buffers.{buffer_text, buffer_kind, IsRefusedFile};
+ghost use Rattle.gix_ref_packed.specs.Buffers.{buffer_text, buffer_kind};
 ghost use Rattle.gix_ref_packed.specs.FileSearches.{FindsInFile};
 ghost use Rattle.gix_ref_packed.specs.OpenFiles.{HasReadFault};
-ghost use Rattle.gix_ref_lookup.specs.Lookups.{AreAsked, AreAskedWith, AreHonest, ArePackedRecordsWith, IsFaultOf, IsFaultOrMemory, IsNotPacked, IsOpenedText, IsReady, IsSearched, IsSearchedWith, SearchesNone, as_found, meaning_in, of_opening, of_search, packed_refs_in};
+ghost use Rattle.gix_ref_lookup.specs.Lookups.{AreAsked, AreAskedWith, AreHonest, ArePackedRecordsWith, IsFaultOf, IsFaultOrMemory, IsNotOpened, IsNotPacked, IsOpenedText, IsReady, IsSearched, IsSearchedWith, SearchesNone, as_found, of_opening, of_search, packed_refs_in};
 
 use crate::find::Error;
 use crate::settings::Settings;
@@ -103,10 +103,7 @@ fn open_records<'b, F: Files>(
     ensures honest { F.honest → IfOk result AreHonest }
     ensures none { F.honest → IfOk result (λ r. SearchesNone None r →
         packed_refs_in settings.entry (F.means files.old) ≡ None) }
-    ensures refused { IfErr result (IsNotPacked F.honest
-        (IsFaultOf F.Reader.faults (F.faults files.old) (F.faults files.new)) ⊥
-        (IsRefusedFile settings.entry.kind
-        ((F.means files.old).tree (meaning_in settings.entry).packed_path))) }
+    ensures refused { IfErr result (IsNotOpened F.honest (IsFaultOf F.Reader.faults (F.faults files.old) (F.faults files.new)) settings.entry (F.means files.old).tree) }
     ensures no_fault { OnOk result (F.faults files.new ≡ F.faults files.old) }
     ensures reads { OnlyReads F.honest F.means F.faults files.old files.new }
 {
@@ -124,10 +121,9 @@ impl<R: ReadAt + Drop> Records<'_, R> {
     ghost use Rattle.gix_ref_target.specs.PackedRecords.{Record, record_named};
     ghost use Rattle.gix_ref_hash.specs.declared.hash.Kind.{Kind};
     ghost use Rattle.gix_ref_packed_text.specs.Positions.{CannotRead};
-    ghost use Rattle.gix_ref_packed.specs.Buffers.{IsRefusedFile};
     ghost use Rattle.gix_ref_packed_text.specs.Windows.{AreFound, HitsRecord};
     ghost use Rattle.gix_ref_packed.specs.OpenFiles.{HasReadFault};
-    ghost use Rattle.gix_ref_lookup.specs.Lookups.{AreAsked, AreAskedWith, AreHonest, ArePackedRecordsWith, AreStillAsked, FindsNone, IsFaultOf, IsFaultOrMemory, IsNotPacked, IsReady, IsSearched, IsSearchedWith, OfSearched, SearchesNone, meaning_in, packed_refs_in};
+    ghost use Rattle.gix_ref_lookup.specs.Lookups.{AreAsked, AreAskedWith, AreHonest, ArePackedRecordsWith, AreStillAsked, FindsNone, IsFaultOf, IsFaultOrMemory, IsNotPacked, IsReady, IsSearched, IsSearchedWith, OfSearched, SearchesNone, packed_refs_in};
 
     /// Opens `packed-refs`, if it is asked for the first time. `PackedOpen` where it cannot be opened, and `Memory`.
     pub fn open<F: Files<Reader = R>>(
@@ -149,10 +145,7 @@ impl<R: ReadAt + Drop> Records<'_, R> {
         ensures honest { F.honest → AreHonest self.old → OnOk result (AreHonest self.new) }
         ensures none { F.honest → OnOk result (SearchesNone None self.new →
             SearchesNone (packed_refs_in settings.entry (F.means files.old)) self.old) }
-        ensures refused { IfErr result (IsNotPacked F.honest
-            (IsFaultOf R.faults (F.faults files.old) (F.faults files.new)) ⊥
-            (IsRefusedFile settings.entry.kind
-            ((F.means files.old).tree (meaning_in settings.entry).packed_path))) }
+        ensures refused { IfErr result (IsNotOpened F.honest (IsFaultOf R.faults (F.faults files.old) (F.faults files.new)) settings.entry (F.means files.old).tree) }
         ensures no_fault { OnOk result (F.faults files.new ≡ F.faults files.old) }
         ensures reads { OnlyReads F.honest F.means F.faults files.old files.new }
     {
