@@ -10,13 +10,14 @@ use Rattle.std.proofs.lemmas.List.Sorted.{IsPermutation-map, IsPermutation-refl,
 use Rattle.gix_ref_hash.specs.declared.hash.Kind.{Kind}
 use Rattle.gix_ref_packed.specs.declared.packed.sorting.Entry.{Entry}
 use Rattle.std.proofs.lemmas.Grind.{flat_map-append}
-use Rattle.std.specs.Bool.{MatchBool}
 use Rattle.gix_ref_target.specs.PackedRecords.{Record}
 use Rattle.gix_ref_packed_text.specs.RecordGrammar.{Takes, Records, Below, Rising}
 use Rattle.gix_ref_packed_text.specs.OpenedText.{Piece, IsPiece, SortsByName, SortsText, is_lower, records_in, bytes_in, Fronts, lines_of, line_count}
 use Rattle.gix_ref_packed.specs.internal.Entries.{entry_record, entry_piece, entry_ref_name, entry_bytes}
 use Rattle.gix_ref_packed_text.proofs.RecordBytes.{lines_taken, front_is, records_stop, fronts_more, fronts_all, lines_more}
+use Rattle.gix_ref_packed_text.proofs.OneReading.{same_record}
 use Rattle.gix_ref_packed_text.proofs.ReadBack.{same_records}
+use Rattle.gix_ref_packed_text.proofs.RecordPlaces.{shorter_record}
 use Rattle.gix_ref_packed_text.proofs.LowerBounds.{below_or}
 
 pub piece_taken : (k : Kind) (e : Entry) (t rest : List ℕ) (n : ℕ) → Takes k t (entry_record e) rest → entry_bytes e ≡ take n t → n + length rest ≡ length t → IsPiece k (entry_piece e)
@@ -158,15 +159,15 @@ last_name (r ∷ []) = r.name
 last_name (r ∷ s ∷ rs) = last_name (s ∷ rs)
 
 -- what was read of the text: whether the names rise so far, and the last of them
-pub record Reads (k : Kind) (t rest last : List ℕ) (first line : ℕ) (rises : Bool) : Type 0 where
+pub record Reads (k : Kind) (t rest last : List ℕ) (first line : ℕ) : Type 0 where
   pub read : List Record
   pub fronts : Fronts k t read rest
   pub number : line ≡ first + line_count read
   pub last_is : last ≡ last_name read
-  pub answer : MatchBool rises (Rising read) (Rising read → ⊥)
+  pub rise : Rising read
 
-pub nothing_read : (k : Kind) (t : List ℕ) (first : ℕ) → Reads k t t [] first first true
-nothing_read k t first = record { read = []; fronts = refl; number = omega arith; last_is = refl; answer = tt }
+pub nothing_read : (k : Kind) (t : List ℕ) (first : ℕ) → Reads k t t [] first first
+nothing_read k t first = record { read = []; fronts = refl; number = omega arith; last_is = refl; rise = tt }
 
 last_more : (rs : List Record) (r : Record) → last_name (rs ++ r ∷ []) ≡ r.name
 last_more [] r = refl
@@ -184,13 +185,13 @@ rising_more (x ∷ y ∷ rs) r up above =
     let P : Record → Type 0 = λ s. Below s.name x.name → ⊥ in
     (All-append P (y ∷ rs) (r ∷ []) up.0 (All-cons P r [] (λ below. above (below_or r.name x.name (last_name (y ∷ rs)) below (not_below_last y rs x up.0))) (All-nil P)), rising_more (y ∷ rs) r up.1 above)
 
-rising_front : (rs : List Record) (r : Record) → Rising (rs ++ r ∷ []) → Rising rs
-rising_front [] r up = tt
-rising_front (x ∷ rs) r up = (front rs up.0, rising_front rs r up.1)
+rising_front : (rs more : List Record) → Rising (rs ++ more) → Rising rs
+rising_front [] more up = tt
+rising_front (x ∷ rs) more up = (front rs up.0, rising_front rs more up.1)
   where
-    front : (xs : List Record) → All (λ s. Below s.name x.name → ⊥) (xs ++ r ∷ []) → All (λ s. Below s.name x.name → ⊥) xs
+    front : (xs : List Record) → All (λ s. Below s.name x.name → ⊥) (xs ++ more) → All (λ s. Below s.name x.name → ⊥) xs
     front [] all = All-nil (λ s. Below s.name x.name → ⊥)
-    front (y ∷ ys) all = All-cons (λ s. Below s.name x.name → ⊥) y ys (All-head (λ s. Below s.name x.name → ⊥) y (ys ++ r ∷ []) all) (front ys (All-tail (λ s. Below s.name x.name → ⊥) y (ys ++ r ∷ []) all))
+    front (y ∷ ys) all = All-cons (λ s. Below s.name x.name → ⊥) y ys (All-head (λ s. Below s.name x.name → ⊥) y (ys ++ more) all) (front ys (All-tail (λ s. Below s.name x.name → ⊥) y (ys ++ more) all))
 
 last_of_all : (P : Record → Type 0) (xs : List Record) (r : Record) → All P (xs ++ r ∷ []) → P r
 last_of_all P [] r all = All-head P r [] all
@@ -205,9 +206,9 @@ rising_last [] r up below = not_below_nothing r.name below
 rising_last (x ∷ []) r up below = All-head (λ s. Below s.name x.name → ⊥) r [] up.0 below
 rising_last (x ∷ y ∷ rs) r up below = rising_last (y ∷ rs) r up.1 below
 
-pub reads_more : (k : Kind) (t mid last : List ℕ) (first line : ℕ) (rises next : Bool) (r : Record) (rest name : List ℕ) (count : ℕ) → Reads k t mid last first line rises → Takes k mid r rest → count ≡ line + lines_of r → name ≡ r.name
-    → MatchBool next ((rises ≡ true) × (Below name last → ⊥)) ((rises ≡ true) × (Below name last → ⊥) → ⊥) → Reads k t rest name first count next
-reads_more k t mid last first line rises next r rest name count was takes sum is step =
+pub reads_more : (k : Kind) (t mid last : List ℕ) (first line : ℕ) (r : Record) (rest name : List ℕ) (count : ℕ) → Reads k t mid last first line → Takes k mid r rest → count ≡ line + lines_of r → name ≡ r.name
+    → (Below name last → ⊥) → Reads k t rest name first count
+reads_more k t mid last first line r rest name count was takes sum is above =
     let lines = lines_more was.read r in
     let number = was.number in
     record {
@@ -215,14 +216,26 @@ reads_more k t mid last first line rises next r rest name count was takes sum is
       fronts = fronts_more k t was.read mid r rest was.fronts takes;
       number = omega arith;
       last_is = is ∙ sym (last_more was.read r);
-      answer = go rises next was.answer (subst (λ (n : List ℕ). MatchBool next ((rises ≡ true) × (Below n last → ⊥)) ((rises ≡ true) × (Below n last → ⊥) → ⊥)) is step);
+      rise = rising_more was.read r was.rise (λ below. above (subst (λ (n : List ℕ). Below n last) (sym is) (subst (λ (n : List ℕ). Below r.name n) (sym was.last_is) below)));
     }
-  where
-    go : (a b : Bool) → MatchBool a (Rising was.read) (Rising was.read → ⊥) → MatchBool b ((a ≡ true) × (Below r.name last → ⊥)) ((a ≡ true) × (Below r.name last → ⊥) → ⊥) → MatchBool b (Rising (was.read ++ r ∷ [])) (Rising (was.read ++ r ∷ []) → ⊥)
-    go true true up both = rising_more was.read r up (subst (λ (n : List ℕ). Below r.name n → ⊥) was.last_is both.1)
-    go false true up both = let bad : false ≡ true = both.0 in absurd (cc)
-    go true false up both = λ more. both (refl, subst (λ (n : List ℕ). Below r.name n → ⊥) (sym was.last_is) (rising_last was.read r more))
-    go false false up both = λ more. up (rising_front was.read r more)
 
-pub read_all : (k : Kind) (t last : List ℕ) (rest : List ℕ) (first line : ℕ) (rises : Bool) → Reads k t rest last first line rises → rest ≡ [] → (rs : List Record) × Records k t rs × MatchBool rises (Rising rs) (Rising rs → ⊥)
-read_all k t last rest first line rises was end = (was.read, fronts_all k t was.read rest end was.fronts, was.answer)
+pub read_all : (k : Kind) (t last : List ℕ) (rest : List ℕ) (first line : ℕ) → Reads k t rest last first line → rest ≡ [] → (rs : List Record) × Records k t rs × Rising rs
+read_all k t last rest first line was end = (was.read, fronts_all k t was.read rest end was.fronts, was.rise)
+
+-- records that are at the front of a text are the first of its records
+first_of_all : (k : Kind) (t : List ℕ) (before : List Record) (rest : List ℕ) (rs : List Record) → Fronts k t before rest → Records k t rs → (more : List Record) × (rs ≡ before ++ more)
+first_of_all k t [] rest rs fronts all = (rs, refl)
+first_of_all k t (x ∷ before) rest [] fronts all =
+    let less = shorter_record k t x fronts.0 fronts.1 in
+    let none : length t ≡ 0 = ap length all in absurd (omega arith)
+first_of_all k t (x ∷ before) rest (r ∷ rs) fronts all =
+    let same = same_record k t r all.0 x fronts.0 all.1 fronts.1 in
+    let more = first_of_all k fronts.0 before rest rs fronts.2 (subst (λ (u : List ℕ). Records k u rs) same.1 all.2) in
+    (more.0, ap (λ (y : Record). y ∷ rs) same.0 ∙ ap (λ (ys : List Record). x ∷ ys) more.1)
+
+-- after a name below the one before it, whatever follows, names do not rise
+pub falls : (k : Kind) (t mid last : List ℕ) (first line : ℕ) (r : Record) (rest name : List ℕ) → Reads k t mid last first line → Takes k mid r rest → name ≡ r.name → Below name last → (rs : List Record) → Records k t rs → Rising rs → ⊥
+falls k t mid last first line r rest name was takes is below rs all up =
+    let whole = first_of_all k t (was.read ++ r ∷ []) rest rs (fronts_more k t was.read mid r rest was.fronts takes) all in
+    rising_last was.read r (rising_front (was.read ++ r ∷ []) whole.0 (subst Rising whole.1 up))
+    (subst (λ (n : List ℕ). Below r.name n) was.last_is (subst (λ (n : List ℕ). Below n last) is below))

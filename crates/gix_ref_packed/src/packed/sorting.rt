@@ -1,5 +1,5 @@
 //! Records in the order of their names: what opening makes of a text whose header does not say that it is sorted.
-ghost use Rattle.std.specs.Prelude.{◌≡◌, ◌≤◌, List, true, map, MatchOption, MatchBool, IfOk, IfErr, OnOk};
+ghost use Rattle.std.specs.Prelude.{◌≡◌, ◌≤◌, List, true, false, map, MatchOption, MatchBool, IfOk, IfErr, OnOk};
 ghost use Rattle.std.specs.List.{All, flat_map};
 ghost use Rattle.std.specs.List.Sorted.{IsPermutation, IsSortedByKey, IsStableByKey};
 ghost use Rattle.std.specs.Cmp.Lexicographic.{slice_cmp};
@@ -37,37 +37,32 @@ pub fn line_count(reference: &Reference<'_>) -> u64
     }
 }
 
-/// Whether names rise that did, or did not, before this one.
-fn still_rises(rises: bool, name: &[u8], last: &[u8]) -> bool
-    ensures { MatchBool result ((rises ≡ true) × (Below name.now last.now → ⊥))
-        ((rises ≡ true) × (Below name.now last.now → ⊥) → ⊥) }
-{
-    rises && !is_below(name, last)
-}
-
-/// Whether no name in a text of records is below the one before it. The first line has the number `first`; the error is
-/// `Iter` at the first line that is no record.
+/// Whether no name in a text of records is below the one before it. It ends at the first that is, and what follows is not looked at.
+/// The first line has the number `first`; the error is `Iter` at the first line that is no record, among those that were read.
 fn names_rise(text: &[u8], kind: Kind, first: u64) -> Result<bool, Error>
     requires { first ≤ 2 }
-    ensures answer { IfOk result (λ rises. (rs : List Record) × Records kind text.now rs
-        × MatchBool rises (Rising rs) (Rising rs → ⊥)) }
+    ensures rise { IfOk result (λ rises. rises ≡ true → (rs : List Record) × Records kind text.now rs
+        × Rising rs) }
+    ensures fall { IfOk result (λ rises. rises ≡ false → (rs : List Record) →
+        Records kind text.now rs → Rising rs → ⊥) }
     ensures refused { IfErr result (IsStuck kind first text.now) }
 {
     let mut rest = text;
     let mut line = first;
     let mut last: &[u8] = b"";
-    let mut rises = true;
     while !rest.is_empty() {
         let Some((reference, after)) = take_record(rest, kind) else {
             return Err(Error::Iter { line_number: line });
         };
         let name = reference.name.to_path();
-        rises = still_rises(rises, name, last);
+        if is_below(name, last) {
+            return Ok(false);
+        }
         last = name;
         line += line_count(&reference);
         rest = after;
     }
-    Ok(rises)
+    Ok(true)
 }
 
 /// The records of the text, in their order. The first line has the number `first`.

@@ -4,7 +4,7 @@ use Rattle.gix_ref_packed.proofs.packed.sorting.names_rise.Given as goal
 
 abbrev pub invariant-loop-rest : goal.invariant-loop-rest
 invariant-loop-rest l = record {
-  reads : Reads l.kind l.text l.rest l.last l.first l.line l.rises;
+  reads : Reads l.kind l.text l.rest l.last l.first l.line;
   fits : l.line + length l.rest ≤ l.first + length l.text;
 }
 
