@@ -7,14 +7,13 @@ use Rattle.std.proofs.Math.Seq.{take-add}
 use Rattle.memchr.specs.Find.{IsLastByte, is_byte}
 use Rattle.bstr.specs.Text.{lines_of, without_terminator}
 use Rattle.bstr.proofs.lemmas.LineLemmas.{lines-nil}
-use Rattle.gix_ref_log.specs.declared.log.line.Line.{Line}
 use Rattle.gix_ref_log.specs.declared.log.iter.error.ReverseError.{ReverseError}
-use Rattle.gix_ref_log.specs.declared.log.iter.error.ReverseError.TheVariants.{Io, Decode, BufferTooSmall, Memory}
+use Rattle.gix_ref_log.specs.declared.log.iter.error.ReverseError.TheVariants.{Io, BufferTooSmall}
 use Rattle.gix_ref_files.specs.declared.files.FileError.{FileError}
 use Rattle.gix_ref_log.specs.declared.log.iter.stage.Stage.{Stage}
 use Rattle.gix_ref_log.specs.declared.log.iter.stage.Stage.TheVariants.{Unread, Reading, Done}
-use Rattle.gix_ref_log.specs.LogItems.{Item, Text, TooSmall, backward, len_without_feed, items_from, GivesLine, LineGives}
-use Rattle.gix_ref_log.specs.LogStages.{NoFeed, tail_of, text_of_line, stage_of}
+use Rattle.gix_ref_log.specs.LogItems.{Item, Text, TooSmall, backward, len_without_feed, items_from, GivesLine}
+use Rattle.gix_ref_log.specs.LogStages.{NoFeed, tail_of, text_of_line}
 use Rattle.gix_ref_log.specs.LogWindows.{IsLogWindow, BeginsAtEnd, EndsWindow, Tied, to_come}
 use Rattle.gix_ref_log.proofs.LastLines.{found, lone, long, some_lines}
 
@@ -83,21 +82,11 @@ found_items room n log buf pos end i ends size w h some =
     ∙ ap (λ (z : List ℕ). Text n (text_of_line ends (slice_range buf (i + 1) end)) ∷ items_from room (n + 1) (z ++ 10 ∷ [])) a_is
 
 -- a line that was found, and what is to come after it
-found_case : (room n e : ℕ) (log buf : List ℕ) (pos i : ℕ) (ends : Bool) (text : List ℕ) (r : Result Line ReverseError)
-    → items_from room n (take e log ++ tail_of ends) ≡ Text n text ∷ items_from room (n + 1) (take (pos + i) log ++ 10 ∷ [])
-    → LineGives n text r → IsLogWindow log buf pos i → n + 1 + (pos + i) ≤ length log
-    → GivesLine (items_from room n (take e log ++ tail_of ends)) (Some r) (to_come (stage_of r) room log pos i (n + 1)) × Tied (stage_of r) log buf pos i (n + 1)
-found_case room n e log buf pos i ends text (Ok l) is h w bound = ((n, text, is, h), (w, bound))
-found_case room n e log buf pos i ends text (Err (Decode d)) is h w bound = ((n, text, is, h.0, h.1), (w, bound))
-found_case room n e log buf pos i ends text (Err Memory) is h w bound = ((refl, (n, text, _, h.0, is, h.1)), tt)
-found_case room n e log buf pos i ends text (Err BufferTooSmall) is h w bound = absurd h
-found_case room n e log buf pos i ends text (Err (Io d)) is h w bound = absurd h
-
-pub found_step : (room n m e : ℕ) (log buf : List ℕ) (pos end i : ℕ) (ends : Bool) (r : Result Line ReverseError) (s : Stage) → length buf ≡ room → length log < 2 ^ 64 → m ≡ n + 1 → s ≡ stage_of r
+pub found_step : {T : Type 0} (R : ℕ → List ℕ → T → Type 0) (room n m e : ℕ) (log buf : List ℕ) (pos end i : ℕ) (ends : Bool) (l : T) → length buf ≡ room → length log < 2 ^ 64 → m ≡ n + 1
     → pos + end ≡ e → IsLogWindow log buf pos end → EndsWindow ends log e n → IsLastByte (is_byte 10) (take end buf) (Some i)
-    → LineGives n (text_of_line ends (slice_range buf (i + 1) end)) r
-    → GivesLine (items_from room n (take e log ++ tail_of ends)) (Some r) (to_come s room log pos i m) × ((length log < 2 ^ 64) × Tied s log buf pos i m)
-found_step room n m e log buf pos end i ends r s size small next stage sum w o h gives =
+    → R n (text_of_line ends (slice_range buf (i + 1) end)) l
+    → GivesLine R (items_from room n (take e log ++ tail_of ends)) (Some (Ok l)) (to_come Reading room log pos i m) × ((length log < 2 ^ 64) × Tied Reading log buf pos i m)
+found_step R room n m e log buf pos end i ends l size small next sum w o h reads =
     let facts = some_last log buf pos end i e n ends w sum o h in
     let items = found_items room n log buf pos end i ends size w h facts.0 in
     let there : items_from room n (take e log ++ tail_of ends) ≡ Text n (text_of_line ends (slice_range buf (i + 1) end)) ∷ items_from room (n + 1) (take (pos + i) log ++ 10 ∷ []) =
@@ -105,15 +94,13 @@ found_step room n m e log buf pos end i ends r s size small next stage sum w o h
     let fits = w.fits in
     let within = w.within in
     let lt = facts.2 in
+    let after = facts.1 in
     let shorter : take i buf ≡ take i (drop pos log) =
     sym (take-take i end buf (omega arith)) ∙ ap (take i) w.same ∙ take-take i end (drop pos log) (omega arith) in
     let window : IsLogWindow log buf pos i = record { fits = omega arith; within = omega arith; same = shorter } in
-    let all = found_case room n e log buf pos i ends (text_of_line ends (slice_range buf (i + 1) end)) r there gives window facts.1 in
-    let step : GivesLine (items_from room n (take e log ++ tail_of ends)) (Some r) (to_come s room log pos i m) =
-    subst (λ (k : ℕ). GivesLine (items_from room n (take e log ++ tail_of ends)) (Some r) (to_come s room log pos i k)) (sym next)
-    (subst (λ (t : Stage). GivesLine (items_from room n (take e log ++ tail_of ends)) (Some r) (to_come t room log pos i (n + 1))) (sym stage) all.0) in
-    let tied : Tied s log buf pos i m = subst (λ (k : ℕ). Tied s log buf pos i k) (sym next) (subst (λ (t : Stage). Tied t log buf pos i (n + 1)) (sym stage) all.1) in
-    (step, (small, tied))
+    let rest : items_from room n (take e log ++ tail_of ends) ≡ Text n (text_of_line ends (slice_range buf (i + 1) end)) ∷ items_from room m (take (pos + i) log ++ 10 ∷ []) =
+    there ∙ ap (λ (k : ℕ). Text n (text_of_line ends (slice_range buf (i + 1) end)) ∷ items_from room k (take (pos + i) log ++ 10 ∷ [])) (sym next) in
+    ((n, text_of_line ends (slice_range buf (i + 1) end), rest, reads), (small, (window, omega arith)))
 
 -- something is left
 some_left : (log : List ℕ) (e n : ℕ) (ends : Bool) → e ≤ length log → EndsWindow ends log e n → 0 < length (take e log ++ tail_of ends)
@@ -121,18 +108,11 @@ some_left log e n true within o = let l = length-append (take e log) (10 ∷ [])
 some_left log e n false within o = let l = length-append (take e log) [] in let k = length-take-le e log within in let p = o.1 in omega arith
 
 -- the oldest line, which is all that is left
-lone_case : (n : ℕ) (items : List Item) (text : List ℕ) (r : Result Line ReverseError) → items ≡ Text n text ∷ [] → LineGives n text r → GivesLine items (Some r) []
-lone_case n items text (Ok l) is h = (n, text, is, h)
-lone_case n items text (Err (Decode d)) is h = (n, text, is, h.0, h.1)
-lone_case n items text (Err Memory) is h = (refl, (n, text, _, h.0, is, h.1))
-lone_case n items text (Err BufferTooSmall) is h = absurd h
-lone_case n items text (Err (Io d)) is h = absurd h
-
-pub lone_step : (room n e : ℕ) (log buf : List ℕ) (pos end : ℕ) (ends : Bool) (r : Result Line ReverseError) → length buf ≡ room → pos ≡ 0
+pub lone_step : {T : Type 0} (R : ℕ → List ℕ → T → Type 0) (room n e : ℕ) (log buf : List ℕ) (pos end : ℕ) (ends : Bool) (l : T) → length buf ≡ room → pos ≡ 0
     → pos + end ≡ e → IsLogWindow log buf pos end → EndsWindow ends log e n → IsLastByte (is_byte 10) (take end buf) None
-    → LineGives n (text_of_line ends (slice_range buf 0 end)) r
-    → GivesLine (items_from room n (take e log ++ tail_of ends)) (Some r) []
-lone_step room n e log buf pos end ends r size first sum w o h gives =
+    → R n (text_of_line ends (slice_range buf 0 end)) l
+    → GivesLine R (items_from room n (take e log ++ tail_of ends)) (Some (Ok l)) []
+lone_step R room n e log buf pos end ends l size first sum w o h reads =
     let fits = w.fits in
     let within = w.within in
     let wide = length-take-le end buf w.fits in
@@ -144,12 +124,12 @@ lone_step room n e log buf pos end ends r size first sum w o h gives =
     ∙ lone room n (take end buf) ends (no_feed (take end buf) h) some
     ∙ cond-true _ _ _ (le-leb (length (take end buf)) room (omega arith))
     ∙ ap (λ (z : List ℕ). Text n (text_of_line ends z) ∷ []) (sym (between_from_start buf end)) in
-    lone_case n _ _ r items gives
+    (n, text_of_line ends (slice_range buf 0 end), items, reads)
 
-pub small_step : (room n e : ℕ) (log buf : List ℕ) (pos end : ℕ) (ends : Bool) → length buf ≡ room → 0 < room → 0 < pos → end ≡ room
+pub small_step : {T : Type 0} (R : ℕ → List ℕ → T → Type 0) (room n e : ℕ) (log buf : List ℕ) (pos end : ℕ) (ends : Bool) → length buf ≡ room → 0 < room → 0 < pos → end ≡ room
     → pos + end ≡ e → IsLogWindow log buf pos end → IsLastByte (is_byte 10) (take end buf) None
-    → GivesLine (items_from room n (take e log ++ tail_of ends)) (Some (Err BufferTooSmall)) []
-small_step room n e log buf pos end ends size pos_room more full sum w h =
+    → GivesLine R (items_from room n (take e log ++ tail_of ends)) (Some (Err BufferTooSmall)) []
+small_step R room n e log buf pos end ends size pos_room more full sum w h =
     let fits = w.fits in
     let within = w.within in
     let wide = length-take-le end buf w.fits in
@@ -176,22 +156,21 @@ pub some_items : (room n : ℕ) (log : List ℕ) → 0 < length log → items_fr
 unfolding items_from
 some_items room n log some = some_backward room n (reverse (lines_of log)) (some_lines log some)
 
-pub fault_step : (room n e : ℕ) (log : List ℕ) (ends : Bool) (error : FileError) → e ≤ length log → EndsWindow ends log e n
-    → GivesLine (items_from room n (take e log ++ tail_of ends)) (Some (Err (Io error))) []
-fault_step room n e log ends error within o = (some_items room n (take e log ++ tail_of ends) (some_left log e n ends within o), refl)
+pub fault_step : {T : Type 0} (R : ℕ → List ℕ → T → Type 0) (room n e : ℕ) (log : List ℕ) (ends : Bool) (error : FileError) → e ≤ length log → EndsWindow ends log e n
+    → GivesLine R (items_from room n (take e log ++ tail_of ends)) (Some (Err (Io error))) []
+fault_step R room n e log ends error within o = (some_items room n (take e log ++ tail_of ends) (some_left log e n ends within o), refl)
 
 -- the same, at the values after the call
-pub found_after : (room room' n n' m pos' end' : ℕ) (log log' buf : List ℕ) (pos end i : ℕ) (ends : Bool) (r : Result Line ReverseError) (s : Stage)
-    → log' ≡ log → room' ≡ room → n' ≡ n → length buf ≡ room' → length log < 2 ^ 64 → m ≡ n' + 1 → s ≡ stage_of r
+pub found_after : {T : Type 0} (R : ℕ → List ℕ → T → Type 0) (room room' n n' m pos' end' : ℕ) (log log' buf : List ℕ) (pos end i : ℕ) (ends : Bool) (l : T)
+    → log' ≡ log → room' ≡ room → n' ≡ n → length buf ≡ room' → length log < 2 ^ 64 → m ≡ n' + 1
     → pos + end ≡ pos' + end' → IsLogWindow log buf pos end → EndsWindow ends log (pos' + end') n → IsLastByte (is_byte 10) (take end buf) (Some i)
-    → LineGives n' (text_of_line ends (slice_range buf (i + 1) end)) r
-    → GivesLine (items_from room n (take (pos' + end') log ++ tail_of ends)) (Some r) (to_come s room' log' pos i m) × ((length log' < 2 ^ 64) × Tied s log' buf pos i m)
-found_after room room' n n' m pos' end' log log' buf pos end i ends r s same_log same_room same_number size small next stage sum w o h gives =
+    → R n (text_of_line ends (slice_range buf (i + 1) end)) l
+    → GivesLine R (items_from room n (take (pos' + end') log ++ tail_of ends)) (Some (Ok l)) (to_come Reading room' log' pos i m) × ((length log' < 2 ^ 64) × Tied Reading log' buf pos i m)
+found_after R room room' n n' m pos' end' log log' buf pos end i ends l same_log same_room same_number size small next sum w o h reads =
     let e = pos' + end' in
-    let given : LineGives n (text_of_line ends (slice_range buf (i + 1) end)) r = subst (λ (k : ℕ). LineGives k (text_of_line ends (slice_range buf (i + 1) end)) r) same_number gives in
-    let step = found_step room n m e log buf pos end i ends r s (size ∙ same_room) small (next ∙ ap (λ (k : ℕ). k + 1) same_number) stage sum w o h given in
-    subst (λ (l : List ℕ). GivesLine (items_from room n (take (pos' + end') log ++ tail_of ends)) (Some r) (to_come s room' l pos i m) × ((length l < 2 ^ 64) × Tied s l buf pos i m)) (sym same_log)
-    (subst (λ (k : ℕ). GivesLine (items_from room n (take (pos' + end') log ++ tail_of ends)) (Some r) (to_come s k log pos i m) × ((length log < 2 ^ 64) × Tied s log buf pos i m)) (sym same_room) step)
+    let step = found_step R room n m e log buf pos end i ends l (size ∙ same_room) small (next ∙ ap (λ (k : ℕ). k + 1) same_number) sum w o h reads in
+    subst (λ (x : List ℕ). GivesLine R (items_from room n (take (pos' + end') log ++ tail_of ends)) (Some (Ok l)) (to_come Reading room' x pos i m) × ((length x < 2 ^ 64) × Tied Reading x buf pos i m)) (sym same_log)
+    (subst (λ (k : ℕ). GivesLine R (items_from room n (take (pos' + end') log ++ tail_of ends)) (Some (Ok l)) (to_come Reading k log pos i m) × ((length log < 2 ^ 64) × Tied Reading log buf pos i m)) (sym same_room) step)
 
 none_left : (room n : ℕ) (log : List ℕ) → length log ≡ 0 → items_from room n log ≡ []
 unfolding items_from
@@ -199,18 +178,18 @@ none_left room n [] none = ap (λ (ps : List (List ℕ)). backward room n (rever
 none_left room n (b ∷ log) none = absurd (omega arith)
 
 -- the first call, of an empty log
-pub start_none : (st : Stage) (room n pos end : ℕ) (log buf : List ℕ) → st ≡ Unread → pos ≡ 0 → length log < 2 ^ 64 → Tied st log buf pos end n
-    → GivesLine (to_come st room log pos end n) None [] × ((length log < 2 ^ 64) × Unit {0})
-start_none Unread room n pos end log buf is first small tied = let at = tied.0 in ((none_left room n log (omega arith), refl), (small, tt))
-start_none Reading room n pos end log buf is first small tied = absurd (cc)
-start_none Done room n pos end log buf is first small tied = absurd (cc)
+pub start_none : {T : Type 0} (R : ℕ → List ℕ → T → Type 0) (st : Stage) (room n pos end : ℕ) (log buf : List ℕ) → st ≡ Unread → pos ≡ 0 → length log < 2 ^ 64 → Tied st log buf pos end n
+    → GivesLine R (to_come st room log pos end n) None [] × ((length log < 2 ^ 64) × Unit {0})
+start_none R Unread room n pos end log buf is first small tied = let at = tied.0 in ((none_left room n log (omega arith), refl), (small, tt))
+start_none R Reading room n pos end log buf is first small tied = absurd (cc)
+start_none R Done room n pos end log buf is first small tied = absurd (cc)
 
 -- the first call, and a fault
-pub start_fault : (st : Stage) (room n pos end : ℕ) (log buf : List ℕ) (error : FileError) → st ≡ Unread → 0 < pos → Tied st log buf pos end n
-    → GivesLine (to_come st room log pos end n) (Some (Err (Io error))) []
-start_fault Unread room n pos end log buf error is more tied = let at = tied.0 in (some_items room n log (omega arith), refl)
-start_fault Reading room n pos end log buf error is more tied = absurd (cc)
-start_fault Done room n pos end log buf error is more tied = absurd (cc)
+pub start_fault : {T : Type 0} (R : ℕ → List ℕ → T → Type 0) (st : Stage) (room n pos end : ℕ) (log buf : List ℕ) (error : FileError) → st ≡ Unread → 0 < pos → Tied st log buf pos end n
+    → GivesLine R (to_come st room log pos end n) (Some (Err (Io error))) []
+start_fault R Unread room n pos end log buf error is more tied = let at = tied.0 in (some_items room n log (omega arith), refl)
+start_fault R Reading room n pos end log buf error is more tied = absurd (cc)
+start_fault R Done room n pos end log buf error is more tied = absurd (cc)
 
 -- what the first read leaves to be given
 begin_open : (log buf : List ℕ) (pos end n : ℕ) (ends : Bool) → n ≡ 1 → length log < 2 ^ 64 → BeginsAtEnd log buf pos end ends
@@ -225,12 +204,12 @@ begin_items room n log buf pos end false b =
     ap (items_from room n) (append-nil (take (pos + end) log) ∙ ap (λ (k : ℕ). take k log) b.1 ∙ take_all (length log) log (omega arith))
 
 -- the first call, and a line
-pub start_line : (st : Stage) (room room' n n' pos end pos' end' : ℕ) (log log' buf buf' : List ℕ) (ends : Bool) (r : Result Line ReverseError) (rest : List Item) (T : Type 0)
+pub start_line : {T : Type 0} (R : ℕ → List ℕ → T → Type 0) (st : Stage) (room room' n n' pos end pos' end' : ℕ) (log log' buf buf' : List ℕ) (ends : Bool) (r : Result T ReverseError) (rest : List Item) (X : Type 0)
     → st ≡ Unread → log' ≡ log → room' ≡ room → n' ≡ n → length log < 2 ^ 64 → Tied st log buf pos end n
     → (end ≡ 0 → pos ≡ length log → BeginsAtEnd log buf' pos' end' ends)
-    → ((length log' < 2 ^ 64) × IsLogWindow log' buf' pos' end' × EndsWindow ends log' (pos' + end') n' → GivesLine (items_from room' n' (take (pos' + end') log' ++ tail_of ends)) (Some r) rest × T)
-    → GivesLine (to_come st room log pos end n) (Some r) rest × T
-start_line Unread room room' n n' pos end pos' end' log log' buf buf' ends r rest T is same_log same_room same_number small tied begins step =
+    → ((length log' < 2 ^ 64) × IsLogWindow log' buf' pos' end' × EndsWindow ends log' (pos' + end') n' → GivesLine R (items_from room' n' (take (pos' + end') log' ++ tail_of ends)) (Some r) rest × X)
+    → GivesLine R (to_come st room log pos end n) (Some r) rest × X
+start_line R Unread room room' n n' pos end pos' end' log log' buf buf' ends r rest X is same_log same_room same_number small tied begins step =
     let b = begins tied.1 tied.0 in
     let open' = begin_open log buf' pos' end' n' ends (same_number ∙ tied.2) small b in
     let given = step (subst (λ (l : List ℕ). (length l < 2 ^ 64) × IsLogWindow l buf' pos' end' × EndsWindow ends l (pos' + end') n') (sym same_log) open') in
@@ -239,6 +218,6 @@ start_line Unread room room' n n' pos end pos' end' log log' buf buf' ends r res
     ∙ ap (λ (k : ℕ). items_from k n' (take (pos' + end') log ++ tail_of ends)) same_room
     ∙ ap (λ (k : ℕ). items_from room k (take (pos' + end') log ++ tail_of ends)) same_number
     ∙ begin_items room n log buf' pos' end' ends b in
-    (subst (λ (l : List Item). GivesLine l (Some r) rest) items given.0, given.1)
-start_line Reading room room' n n' pos end pos' end' log log' buf buf' ends r rest T is same_log same_room same_number small tied begins step = absurd (cc)
-start_line Done room room' n n' pos end pos' end' log log' buf buf' ends r rest T is same_log same_room same_number small tied begins step = absurd (cc)
+    (subst (λ (l : List Item). GivesLine R l (Some r) rest) items given.0, given.1)
+start_line R Reading room room' n n' pos end pos' end' log log' buf buf' ends r rest X is same_log same_room same_number small tied begins step = absurd (cc)
+start_line R Done room room' n n' pos end pos' end' log log' buf buf' ends r rest X is same_log same_room same_number small tied begins step = absurd (cc)

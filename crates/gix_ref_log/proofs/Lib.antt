@@ -6,6 +6,7 @@ pub mod LastLines
 pub mod LineEquality
 pub mod LineIds
 pub mod LineLemmas
+pub mod LineSteps
 pub mod LinesAgain
 pub mod LogRuns
 pub mod NumberLemmas

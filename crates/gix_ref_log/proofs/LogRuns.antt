@@ -3,7 +3,6 @@ use Rattle.std.proofs.Common.{◌≡◌, ℕ, ◌+◌, true, List, [], ◌∷◌
 use Rattle.gix_ref_files.specs.Files.{FaultCounts}
 use Rattle.std.specs.Iterator.{Yields}
 use Rattle.std.specs.Iterator.Runs.{YieldsRun, EachRunFrom}
-use Rattle.gix_ref_log.specs.declared.log.line.Line.{Line}
 use Rattle.gix_ref_log.specs.declared.log.iter.error.ReverseError.{ReverseError}
 use Rattle.gix_ref_log.specs.declared.log.iter.error.ReverseError.TheVariants.{Io, Decode, BufferTooSmall, Memory}
 use Rattle.gix_ref_log.specs.declared.log.iter.backward.Reverse.{Reverse}
@@ -12,30 +11,30 @@ use Rattle.gix_ref_log.specs.declared.log.iter.decode.Error as decode
 use Rattle.gix_ref_log.specs.declared.log.iter.forwards.Forward.{Forward}
 use Rattle.gix_ref_log.specs.LogCuts.{log_lines}
 use Rattle.gix_ref_log.specs.LogForward.{ForwardStep}
-use Rattle.gix_ref_log.specs.LogItems.{Item, GivesLine, IsRun, IsAnswer, IsForwardRun, EndsAtError, count_of, faults_after}
+use Rattle.gix_ref_log.specs.LogItems.{Item, GivesLine, IsRunOf, IsAnswer, IsForwardRun, EndsAtError, count_of, faults_after}
 use Rattle.gix_ref_log.specs.declared.log.iter.stage.Stage.TheVariants.{Done}
-use Rattle.gix_ref_log.specs.LogWindows.{IsTied, items_left, NextStep}
+use Rattle.gix_ref_log.specs.LogWindows.{IsTied, items_left, StepOf}
 
 -- where nothing is to come, no item comes
-ended : (r : Result Line ReverseError) (rest : List Item) → GivesLine [] (Some r) rest → ⊥
-ended (Ok l) rest h = let e = h.2 in cc
-ended (Err (Decode e)) rest h = let e = h.2 in cc
-ended (Err BufferTooSmall) rest h = let e = h.0 in cc
-ended (Err Memory) rest h = let e = h.1.4 in cc
-ended (Err (Io e)) rest h = h.0 refl
+ended : {T : Type 0} (R : ℕ → List ℕ → T → Type 0) (r : Result T ReverseError) (rest : List Item) → GivesLine R [] (Some r) rest → ⊥
+ended R (Ok l) rest h = let e = h.2 in cc
+ended R (Err (Decode e)) rest h = let e = h.2 in cc
+ended R (Err BufferTooSmall) rest h = let e = h.0 in cc
+ended R (Err Memory) rest h = let e = h.1.4 in cc
+ended R (Err (Io e)) rest h = h.0 refl
 
-module _ {F : Type 0} (honest : Type 0) (bytes : F → List ℕ) (faults : F → FaultCounts) where
+module _ {F T : Type 0} (R : ℕ → List ℕ → T → Type 0) (honest : Type 0) (bytes : F → List ℕ) (faults : F → FaultCounts) where
   -- the count of faults over a run
-  pub faults_law : (xs : List (Result Line ReverseError)) (s t : Reverse F) (n : FaultCounts) → faults s.reader ≡ n → Yields (NextStep honest bytes faults) s xs t → faults t.reader ≡ faults_after n xs
+  pub faults_law : (xs : List (Result T ReverseError)) (s t : Reverse F) (n : FaultCounts) → faults s.reader ≡ n → Yields (StepOf R honest bytes faults) s xs t → faults t.reader ≡ faults_after n xs
   faults_law [] s t n is y = ap (λ (x : Reverse F). faults x.reader) (sym y) ∙ is
   faults_law (x ∷ xs) s t n is y = faults_law xs y.0 t (count_of (Some x) n) (y.1.counts ∙ ap (count_of (Some x)) is) y.2
 
   -- nothing comes once it is done
-  over : (xs : List (Result Line ReverseError)) (s t : Reverse F) → s.stage ≡ Done → Yields (NextStep honest bytes faults) s xs t → xs ≡ []
+  over : (xs : List (Result T ReverseError)) (s t : Reverse F) → s.stage ≡ Done → Yields (StepOf R honest bytes faults) s xs t → xs ≡ []
   over [] s t done y = refl
   over (x ∷ xs) s t done y = let e = (y.1.stays_done done).0 in absurd (cc)
 
-  pub ends_law : (xs : List (Result Line ReverseError)) (s t : Reverse F) → Yields (NextStep honest bytes faults) s xs t → EndsAtError xs
+  pub ends_law : (xs : List (Result T ReverseError)) (s t : Reverse F) → Yields (StepOf R honest bytes faults) s xs t → EndsAtError xs
   ends_law [] s t y = tt
   ends_law (Ok l ∷ xs) s t y = ends_law xs y.0 t y.2
   ends_law (Err (Decode d) ∷ xs) s t y = ends_law xs y.0 t y.2
@@ -43,22 +42,22 @@ module _ {F : Type 0} (honest : Type 0) (bytes : F → List ℕ) (faults : F →
   ends_law (Err Memory ∷ xs) s t y = over xs y.0 t y.1.done y.2
   ends_law (Err (Io d) ∷ xs) s t y = (over xs y.0 t y.1.done.0 y.2, y.1.done.1)
 
-  pub each_ends : (s : Reverse F) → EachRunFrom (NextStep honest bytes faults) s (λ p. EndsAtError p.items)
+  pub each_ends : (s : Reverse F) → EachRunFrom (StepOf R honest bytes faults) s (λ p. EndsAtError p.items)
   unfolding YieldsRun
   each_ends s p seen from = let gave = p.gave.0 in ends_law p.items p.from gave.0 gave.1
 
-module _ {F : Type 0} (honest : Type 0) (bytes : F → List ℕ) (faults : F → FaultCounts) (ho : honest) where
-  nothing : (xs : List (Result Line ReverseError)) (s t : Reverse F) → IsTied bytes s → items_left bytes s ≡ [] → Yields (NextStep honest bytes faults) s xs t → xs ≡ []
+module _ {F T : Type 0} (R : ℕ → List ℕ → T → Type 0) (honest : Type 0) (bytes : F → List ℕ) (faults : F → FaultCounts) (ho : honest) where
+  nothing : (xs : List (Result T ReverseError)) (s t : Reverse F) → IsTied bytes s → items_left bytes s ≡ [] → Yields (StepOf R honest bytes faults) s xs t → xs ≡ []
   nothing [] s t tied none y = refl
   nothing (x ∷ xs) s t tied none y =
-      absurd (ended x (items_left bytes y.0)
-      (subst (λ (items : List Item). GivesLine items (Some x) (items_left bytes y.0)) none (y.1.gives ho tied).0))
+      absurd (ended R x (items_left bytes y.0)
+      (subst (λ (items : List Item). GivesLine R items (Some x) (items_left bytes y.0)) none (y.1.gives ho tied).0))
 
-  pub run_law : (Ended : Type 0) (xs : List (Result Line ReverseError)) (s t : Reverse F) → IsTied bytes s → Yields (NextStep honest bytes faults) s xs t
-      → (Ended → (u : Reverse F) × NextStep honest bytes faults t None u) → IsRun Ended (items_left bytes s) xs
+  pub run_law : (Ended : Type 0) (xs : List (Result T ReverseError)) (s t : Reverse F) → IsTied bytes s → Yields (StepOf R honest bytes faults) s xs t
+      → (Ended → (u : Reverse F) × StepOf R honest bytes faults t None u) → IsRunOf R Ended (items_left bytes s) xs
   run_law Ended [] s t tied y e = λ end.
       let last = e end in
-      let step : NextStep honest bytes faults s None last.0 = subst (λ (x : Reverse F). NextStep honest bytes faults x None last.0) (sym y) last.1 in
+      let step : StepOf R honest bytes faults s None last.0 = subst (λ (x : Reverse F). StepOf R honest bytes faults x None last.0) (sym y) last.1 in
       (step.gives ho tied).0.0
   run_law Ended (Ok l ∷ xs) s t tied y e =
       let step = y.1.gives ho tied in
@@ -80,12 +79,12 @@ module _ {F : Type 0} (honest : Type 0) (bytes : F → List ℕ) (faults : F →
 
   -- each run from a state before the whole log
   pub each_run : (s : Reverse F) (items : List Item) → IsTied bytes s → items_left bytes s ≡ items
-      → EachRunFrom (NextStep honest bytes faults) s (λ p. IsRun (p.whole ≡ true) items p.items)
+      → EachRunFrom (StepOf R honest bytes faults) s (λ p. IsRunOf R (p.whole ≡ true) items p.items)
   unfolding YieldsRun
   each_run s items tied is p seen from =
       let gave = p.gave.0 in
-      let start : Yields (NextStep honest bytes faults) s p.items gave.0 = subst (λ (x : Reverse F). Yields (NextStep honest bytes faults) x p.items gave.0) from gave.1 in
-      subst (λ (l : List Item). IsRun (p.whole ≡ true) l p.items) is (run_law (p.whole ≡ true) p.items s gave.0 tied start gave.2)
+      let start : Yields (StepOf R honest bytes faults) s p.items gave.0 = subst (λ (x : Reverse F). Yields (StepOf R honest bytes faults) x p.items gave.0) from gave.1 in
+      subst (λ (l : List Item). IsRunOf R (p.whole ≡ true) l p.items) is (run_law (p.whole ≡ true) p.items s gave.0 tied start gave.2)
 
 -- forward
 pub forward_law : (Ended : Type 0) (n : ℕ) (xs : List (Result LineRef decode.Error)) (s t : Forward) → s.count + 1 ≡ n → Yields ForwardStep s xs t

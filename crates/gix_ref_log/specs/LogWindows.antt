@@ -1,13 +1,16 @@
 -- What a window on a log is to give.
-use Rattle.std.specs.Prelude.{ℕ, ◌+◌, ◌-◌, ◌≡◌, ◌≢◌, Bool, true, false, slice_index, ◌≤◌, ◌<◌, ◌^◌, List, [], ◌∷◌, ◌++◌, length, take, drop, Option, Result, None, IsErrOf}
+use Rattle.std.specs.Prelude.{ℕ, ◌+◌, ◌-◌, ◌≡◌, ◌≢◌, Bool, true, false, slice_index, slice_range, ◌≤◌, ◌<◌, ◌^◌, List, [], ◌∷◌, ◌++◌, length, take, drop, Option, Result, None, IsErrOf}
 use Rattle.gix_ref_files.specs.Files.{count_after, FaultCounts}
 use Rattle.gix_ref_files.specs.declared.files.FileError.{FileError}
 use Rattle.gix_ref_files.specs.declared.files.FileError.TheVariants as faulty
-use Rattle.gix_ref_log.specs.LogStages.{tail_of, IsDoneAfter}
-use Rattle.gix_ref_log.specs.LogItems.{Item, items_from, GivesLine, count_of}
+use Rattle.gix_ref_hash.specs.Bytes.{NoByte}
+use Rattle.gix_ref_log.specs.LogStages.{tail_of, text_of_line, IsDoneAfter}
+use Rattle.gix_ref_log.specs.LogItems.{Item, items_from, GivesLine, count_of, ReadsOwned, ReadsLent}
 use Rattle.gix_ref_log.specs.declared.log.line.Line.{Line}
+use Rattle.gix_ref_log.specs.declared.log.line.LineRef.{LineRef}
 use Rattle.gix_ref_log.specs.declared.log.iter.error.ReverseError.{ReverseError}
 use Rattle.gix_ref_log.specs.declared.log.iter.backward.Reverse.{Reverse}
+use Rattle.gix_ref_log.specs.declared.log.iter.stage.Place.{Place}
 use Rattle.gix_ref_log.specs.declared.log.iter.stage.Stage.{Stage}
 use Rattle.gix_ref_log.specs.declared.log.iter.stage.Stage.TheVariants.{Unread, Reading, Done}
 
@@ -92,16 +95,36 @@ module _ {F : Type 0} (faults : F → FaultCounts) where
     pub count : faults t.reader ≡ count_after r (faults s.reader)
     pub memory : IsErrOf r faulty.Memory → ⊥
 
+-- where a line is in the window: within it, and no line feed is in it
+pub record IsInWindow (buf : List ℕ) (p : Place) : Type 0 where
+  pub within : p.start ≤ p.end
+  pub fits : p.end ≤ length buf
+  pub one_line : NoByte 10 (slice_range buf p.start p.end)
+
+-- the text that is there, with its number
+pub record ReadsPlace (buf : List ℕ) (n : ℕ) (text : List ℕ) (p : Place) : Type 0 where
+  pub number : p.number ≡ n
+  pub same : text_of_line p.ends (slice_range buf p.start p.end) ≡ text
+
+-- what one call does that gives lines of a type T
+pub record StepOf {F T : Type 0} (Reads : ℕ → List ℕ → T → Type 0) (honest : Type 0)
+    (bytes : F → List ℕ) (faults : F → FaultCounts) (s : Reverse F)
+    (r : Option (Result T ReverseError)) (t : Reverse F) : Type 0 where
+  pub same_reference : t.buf.ghost_name ≡ s.buf.ghost_name
+  pub same_bytes : bytes t.reader ≡ bytes s.reader
+  -- for any reader: `Io` is a fault that the reader counted, and what is done stays done
+  pub counts : faults t.reader ≡ count_of r (faults s.reader)
+  pub done : IsDoneAfter r t.stage
+  pub stays_done : s.stage ≡ Done → (r ≡ None) × (t.stage ≡ Done)
+  -- for one that reads its bytes: the next item
+  pub gives : honest → IsTied bytes s →
+      GivesLine Reads (items_left bytes s) r (items_left bytes t) × IsTied bytes t
+
 module _ {F : Type 0} (honest : Type 0) (bytes : F → List ℕ) (faults : F → FaultCounts) where
   -- what one call of `next` does
-  pub record NextStep (s : Reverse F) (r : Option (Result Line ReverseError))
-      (t : Reverse F) : Type 0 where
-    pub same_reference : t.buf.ghost_name ≡ s.buf.ghost_name
-    pub same_bytes : bytes t.reader ≡ bytes s.reader
-    -- for any reader: `Io` is a fault that the reader counted, and what is done stays done
-    pub counts : faults t.reader ≡ count_of r (faults s.reader)
-    pub done : IsDoneAfter r t.stage
-    pub stays_done : s.stage ≡ Done → (r ≡ None) × (t.stage ≡ Done)
-    -- for one that reads its bytes: the next item
-    pub gives : honest → IsTied bytes s → GivesLine (items_left bytes s) r (items_left bytes t)
-        × IsTied bytes t
+  abbrev pub NextStep : Reverse F → Option (Result Line ReverseError) → Reverse F → Type 0
+  NextStep = StepOf ReadsOwned honest bytes faults
+
+  -- and one of `next_ref`
+  abbrev pub NextRefStep : Reverse F → Option (Result LineRef ReverseError) → Reverse F → Type 0
+  NextRefStep = StepOf ReadsLent honest bytes faults

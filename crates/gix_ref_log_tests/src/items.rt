@@ -31,18 +31,34 @@ pub fn line_x(rt: &impl Abort, alloc: Global) -> Vec<u8> {
     joined(rt, alloc, &[ZEROS, b" ", ONES, who])
 }
 
+/// A fault from the end.
+fn seen_fault(error: ReverseError) -> Seen {
+    match error {
+        ReverseError::Decode(error) => match error.line {
+            decode::LineNumber::FromEnd(n) => Fault(n),
+            decode::LineNumber::FromStart(_) => Other,
+        },
+        ReverseError::BufferTooSmall => TooSmall,
+        ReverseError::Io(FileError::Device(ErrorKind::Other)) => Io,
+        _ => Other,
+    }
+}
+
 /// An item from the end.
 fn seen_backward(item: Result<gix_ref_log::log::Line, ReverseError>) -> Seen {
     match item {
         Ok(line) if line.message.as_slice() == b"m".as_slice() => Line,
         Ok(_) => Other,
-        Err(ReverseError::Decode(error)) => match error.line {
-            decode::LineNumber::FromEnd(n) => Fault(n),
-            decode::LineNumber::FromStart(_) => Other,
-        },
-        Err(ReverseError::BufferTooSmall) => TooSmall,
-        Err(ReverseError::Io(FileError::Device(ErrorKind::Other))) => Io,
-        Err(_) => Other,
+        Err(error) => seen_fault(error),
+    }
+}
+
+/// A lent item from the end.
+fn seen_lent(item: Result<gix_ref_log::log::LineRef<'_>, ReverseError>) -> Seen {
+    match item {
+        Ok(line) if line.message == b"m".as_slice() => Line,
+        Ok(_) => Other,
+        Err(error) => seen_fault(error),
     }
 }
 
@@ -61,6 +77,40 @@ pub fn read(rt: &impl Abort, alloc: Global, log: &[u8], room: usize, tally: &Tal
             Some(item) => items.push(seen_backward(item)).expect(rt, "memory"),
             None => {
                 assert!(rt; lines.next().is_none(), "it stays ended");
+                return items;
+            }
+        }
+    }
+    items
+}
+
+/// As `read`, of the lent items; every third one is owned where they are mixed.
+fn read_lent(
+    rt: &impl Abort,
+    alloc: Global,
+    log: &[u8],
+    room: usize,
+    tally: &Tally,
+    mixed: bool,
+) -> Vec<Seen> {
+    let mut buf = vec![in alloc; 0u8; room].expect(rt, "memory");
+    let mut items = Vec::new(alloc);
+    let reader = Counted {
+        text: log,
+        tally,
+        faults: Faults::new(),
+    };
+    let mut lines = reverse(alloc, reader, buf.as_mut_slice()).expect(rt, "room");
+    for turn in 0..1000000u64 {
+        let seen = if mixed && turn % 3 == 2 {
+            lines.next().map(|item| seen_backward(item))
+        } else {
+            lines.next_ref().map(|item| seen_lent(item))
+        };
+        match seen {
+            Some(seen) => items.push(seen).expect(rt, "memory"),
+            None => {
+                assert!(rt; lines.next_ref().is_none(), "it stays ended");
                 return items;
             }
         }
@@ -202,6 +252,54 @@ fn a_reader_whose_nth_read_fails(rt: HostRuntime) {
         assert_eq!(rt; items.pop(), Some(Io), "one fault, at read {n}");
         assert!(rt; all.starts_with(&items), "a beginning, at read {n}");
     }
+}
+
+#[test]
+fn lent_items_are_the_items(rt: HostRuntime) {
+    let alloc = rt.alloc();
+    for &(log, room, want, what) in FAULTS {
+        let items = read_lent(&rt, alloc, log, room, &Tally::new(0), false);
+        assert!(rt; items.as_slice() == want, "{what}");
+    }
+    let x = line_x(&rt, alloc);
+    let log = joined(&rt, alloc, &[&x, b"a\n", &x, &x, b"bb\n", &x, &x]);
+    for room in [112usize, 113, 120, 1000] {
+        for n in 0..8u64 {
+            let want = read(&rt, alloc, &log, room, &Tally::new(n));
+            let lent = read_lent(&rt, alloc, &log, room, &Tally::new(n), false);
+            assert!(rt; lent.as_slice() == want.as_slice(), "lent, at read {n}");
+            let both = read_lent(&rt, alloc, &log, room, &Tally::new(n), true);
+            assert!(rt; both.as_slice() == want.as_slice(), "mixed, at read {n}");
+        }
+    }
+}
+
+/// No call of this test takes memory, so that it also holds where each growth is refused.
+#[test]
+fn lent_lines_take_no_memory(rt: HostRuntime) {
+    let tally = Tally::new(0);
+    let reader = Counted {
+        text: b"0000000000000000000000000000000000000000 1111111111111111111111111111111111111111 \
+            C <c@example.com> 1234 +0800\tm\na\n",
+        tally: &tally,
+        faults: Faults::new(),
+    };
+    let mut buf = [0u8; 120];
+    let mut lines = reverse(rt.alloc(), reader, &mut buf).expect(&rt, "room");
+    let fault = lines.next_ref().map(|item| seen_lent(item));
+    assert_eq!(rt; fault, Some(Fault(1)), "a fault");
+    match lines.next_ref() {
+        Some(Ok(line)) => {
+            assert!(rt;
+                line.previous_oid == ZEROS && line.new_oid == ONES,
+                "its ids"
+            );
+            assert!(rt; line.signature.name == b"C".as_slice(), "its name");
+            assert!(rt; line.message == b"m".as_slice(), "its message");
+        }
+        _ => assert!(rt; false, "a line"),
+    }
+    assert!(rt; lines.next_ref().is_none(), "the end");
 }
 
 #[test]

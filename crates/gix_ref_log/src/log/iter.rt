@@ -4,9 +4,10 @@ ghost use Rattle.std.specs.Iterator.Runs.{EachRunFrom};
 ghost use Rattle.std.specs.Prelude.{◌≡◌, length, IfOk, IsErr, ◌↔◌, true, List, Result};
 ghost use Rattle.gix_ref_log.specs.LogCuts.{log_lines};
 ghost use Rattle.gix_ref_log.specs.LogForward.{ForwardStep};
-ghost use Rattle.gix_ref_log.specs.LogItems.{IsRun, IsForwardRun, EndsAtError, items_from, faults_after};
-ghost use Rattle.gix_ref_log.specs.LogWindows.{NextStep};
+ghost use Rattle.gix_ref_log.specs.LogItems.{IsRun, IsLentRun, IsForwardRun, EndsAtError, items_from, faults_after};
+ghost use Rattle.gix_ref_log.specs.LogWindows.{NextStep, NextRefStep, IsTied, items_left};
 ghost use Rattle.gix_ref_log.specs.declared.log.line.Line.{Line};
+ghost use Rattle.gix_ref_log.specs.declared.log.line.LineRef.{LineRef};
 ghost use Rattle.gix_ref_log.specs.declared.log.iter.error.ReverseError.{ReverseError};
 
 mod backward;
@@ -49,7 +50,8 @@ pub fn forward(log: &[u8]) -> Forward<'_>
 /// As gix-ref's `log::iter::reverse` (`git reflog`, `git log -g`).
 ///
 /// It reads as much of the file as its lines ask for, each byte once, in reads of about the buffer's length, and keeps the
-/// allocator for the lines that it gives; it takes no memory for anything else. A buffer without room is `EmptyBuffer`.
+/// allocator for the lines that `next` gives; it takes no memory for anything else, and none where `Reverse::next_ref` lends
+/// them. A buffer without room is `EmptyBuffer`.
 ///
 /// ```text
 /// let mut buf = [0; 4096];
@@ -70,12 +72,25 @@ pub fn reverse<F: ReadAt + Drop>(
     ensures items { F.honest → IfOk result (λ r. EachRunFrom (NextStep F.honest F.bytes F.faults) r
         (λ run. IsRun (run.whole ≡ true) (items_from (length buf.old) 1 (F.bytes log)) run.items)) }
 
+    // The same of calls of `next_ref`; and where both are called, each goes on from what is left.
+    ensures lent_items { F.honest → IfOk result
+        (λ r. EachRunFrom (NextRefStep F.honest F.bytes F.faults) r (λ run. IsLentRun
+        (run.whole ≡ true) (items_from (length buf.old) 1 (F.bytes log)) run.items)) }
+
+    ensures left { F.honest → IfOk result (λ r. IsTied F.bytes r
+        × (items_left F.bytes r ≡ items_from (length buf.old) 1 (F.bytes log))) }
+
     // Of any reader: an `Io` is a fault that the reader counted, and nothing follows an error but a decode fault.
     ensures faults { IfOk result (λ r. (items : List (Result Line ReverseError)) (s : _) →
         Yields (NextStep F.honest F.bytes F.faults) r items s →
         F.faults s.reader ≡ faults_after (F.faults log) items) }
     ensures ends { IfOk result
         (λ r. EachRunFrom (NextStep F.honest F.bytes F.faults) r (λ run. EndsAtError run.items)) }
+    ensures lent_faults { IfOk result (λ r. (items : List (Result LineRef ReverseError)) (s : _) →
+        Yields (NextRefStep F.honest F.bytes F.faults) r items s →
+        F.faults s.reader ≡ faults_after (F.faults log) items) }
+    ensures lent_ends { IfOk result (λ r. EachRunFrom (NextRefStep F.honest F.bytes F.faults) r
+        (λ run. EndsAtError run.items)) }
 {
     if buf.is_empty() {
         return Err(EmptyBuffer);

@@ -1,16 +1,16 @@
 //! The lines of a log, newest first, through a window that moves towards the front of the file.
 ghost use Rattle.std.specs.Iterator.{at_most};
+ghost use Rattle.std.specs.Option.{option_len};
 ghost use Rattle.memchr.specs.Find.{IsLastByte, is_byte};
-ghost use Rattle.std.specs.Prelude.{◌≡◌, ◌+◌, ◌-◌, ◌≤◌, ◌<◌, ◌==◌, ◌⊎◌, min, length, take, slice_index, slice_range, Some, None, IfOk, OnOk, MatchResult};
+ghost use Rattle.std.specs.Prelude.{◌≡◌, ◌≢◌, ◌+◌, ◌-◌, ◌≤◌, ◌<◌, ◌==◌, ◌⊎◌, min, length, take, slice_index, slice_range, Some, None, IfOk, IfSome, OnOk, Err};
 ghost use Rattle.gix_ref_hash.specs.Bytes.{NoByte};
-ghost use Rattle.gix_ref_log.specs.LogLines.{IsOwned, line_ref_parts};
 ghost use Rattle.gix_ref_log.specs.LogStages.{text_of_line, IsDoneAfter};
-ghost use Rattle.gix_ref_log.specs.LogItems.{GivesLine, LineGives, count_of};
+ghost use Rattle.gix_ref_log.specs.LogItems.{GivesLine, LineGives, ReadsLent, count_of};
 
 use super::decode;
 use super::error::ReverseError;
 use super::fast::fast_decode;
-use super::stage::{Stage, stage_after};
+use super::stage::{Place, Stage};
 use crate::log::line::decode::decode_line;
 use crate::log::line::{Line, LineRef};
 use crate::log::lines::strip_cr;
@@ -35,26 +35,15 @@ pub struct Reverse<'a, F> {
     ghost has_room: { 0 < length buf.now },
 }
 
-/// The owned line, or `Memory`.
-#[inline(always)]
-fn owned(alloc: Global, line: &LineRef<'_>) -> Result<Line, ReverseError>
-    ensures { MatchResult result (IsOwned (line_ref_parts line.now))
-        (λ error. error ≡ ReverseError.Memory) }
-{
-    match line.to_owned(alloc) {
-        Ok(line) => Ok(line),
-        Err(_) => Err(ReverseError::Memory),
-    }
-}
-
 /// The line that a text is, which has this number from the end.
 #[inline(never)]
-fn line_of(alloc: Global, text: &[u8], number: u64) -> Result<Line, ReverseError>
+fn line_of(text: &[u8], number: u64) -> Result<LineRef<'_>, ReverseError>
     requires { NoByte 10 text.now }
-    ensures { LineGives number text.now result }
+    ensures line { LineGives ReadsLent number text.now result }
+    ensures memory { result ≢ Err ReverseError.Memory }
 {
     match decode_line(text) {
-        Some(line) => owned(alloc, &line),
+        Some(line) => Ok(line),
         None => Err(ReverseError::Decode(decode::Error {
             line: decode::LineNumber::FromEnd(number),
         })),
@@ -62,7 +51,12 @@ fn line_of(alloc: Global, text: &[u8], number: u64) -> Result<Line, ReverseError
 }
 
 impl<'a, F: ReadAt> Reverse<'a, F> {
-    ghost use Rattle.gix_ref_log.specs.LogWindows.{SameFileAndBuffer, OnlyWindowMoves, KeepsWindow, CountsReaderFault, BeginsAtEnd, IsOpen, open_items, items_left, IsTied, most_left};
+    ghost use Rattle.gix_ref_log.specs.LogWindows.{StepOf, NextRefStep, ReadsPlace, IsInWindow, SameFileAndBuffer, OnlyWindowMoves, KeepsWindow, CountsReaderFault, BeginsAtEnd, IsOpen, open_items, items_left, IsTied, most_left};
+    ghost use mir.Syntax.{named};
+    ghost use Rattle.std.specs.Prelude.{[]};
+    ghost use Rattle.std.specs.Borrow.{sem};
+    ghost use Rattle.std.specs.Io.BufRead.{Rests};
+    ghost use Rattle.gix_ref_log.specs.contracts.log.iter.backward.Reverse.{the_row};
 
     /// Moves the bytes of the window to the end of the buffer, and reads the bytes before them in the file.
     fn widen(&mut self) -> Result<(), FileError>
@@ -135,52 +129,120 @@ impl<'a, F: ReadAt> Reverse<'a, F> {
         Ok(self.last_newline())
     }
 
-    /// The line that the window holds from a place on. One of the common form takes the fast path.
+    /// The line at a place of the window. One of the common form takes the fast path.
     #[inline(always)]
-    fn line_at(&self, start: usize, ends: bool) -> Result<Line, ReverseError>
-        requires within { start ≤ self.now.end }
-        requires one_line { NoByte 10 (slice_range self.now.buf.now start self.now.end) }
-        ensures { LineGives self.now.number
-            (text_of_line ends (slice_range self.now.buf.now start self.now.end)) result }
+    fn line_at(&self, place: Place) -> Result<LineRef<'_>, ReverseError>
+        requires { IsInWindow self.now.buf.now place }
+        ensures line { LineGives ReadsLent place.number (text_of_line place.ends
+            (slice_range self.now.buf.now place.start place.end)) result }
+        ensures memory { result ≢ Err ReverseError.Memory }
     {
-        let text = strip_cr(&self.buf[start..self.end], ends);
+        let text = strip_cr(&self.buf[place.start..place.end], place.ends);
         match fast_decode(text) {
-            Some(line) => owned(self.alloc, &line),
-            None => line_of(self.alloc, text, self.number),
+            Some(line) => Ok(line),
+            None => line_of(text, place.number),
         }
     }
 
-    /// The next line, which a line feed follows or not.
+    /// Passes the next line, which a line feed follows or not, and says where it is.
     #[inline(always)]
-    fn next_line(&mut self, ends: bool) -> Result<Line, ReverseError>
+    fn pass_line(&mut self, ends: bool) -> Result<Place, ReverseError>
         ensures log { SameFileAndBuffer F.bytes self.old self.new }
         ensures nearer { most_left self.new ≤ self.old.pos + self.old.end }
         ensures counts { F.faults self.new.reader
             ≡ count_of (Some result) (F.faults self.old.reader) }
         ensures done { IsDoneAfter (Some result) self.new.stage }
+        ensures place { IfOk result (IsInWindow self.new.buf.now) }
+        ensures memory { result ≢ Err ReverseError.Memory }
         ensures step { F.honest → IsOpen F.bytes ends self.old →
-            GivesLine (open_items F.bytes ends self.old) (Some result) (items_left F.bytes self.new)
-            × IsTied F.bytes self.new }
+            GivesLine (ReadsPlace self.new.buf.now) (open_items F.bytes ends self.old)
+            (Some result) (items_left F.bytes self.new) × IsTied F.bytes self.new }
     {
+        let number = self.number;
         match self.find_start() {
             Err(error) => {
                 self.stage = Stage::Done;
                 Err(ReverseError::Io(error))
             }
             Ok(Some(start)) => {
-                let line = self.line_at(start + 1, ends);
+                let end = self.end;
                 self.end = start;
-                self.number = self.number.saturating_add(1);
-                self.stage = stage_after(&line);
-                line
+                self.number = number.saturating_add(1);
+                self.stage = Stage::Reading;
+                Ok(Place {
+                    start: start + 1,
+                    end,
+                    ends,
+                    number,
+                })
             }
             Ok(None) => {
                 self.stage = Stage::Done;
                 if self.pos > 0 {
                     return Err(ReverseError::BufferTooSmall);
                 }
-                self.line_at(0, ends)
+                Ok(Place {
+                    start: 0,
+                    end: self.end,
+                    ends,
+                    number,
+                })
             }
+        }
+    }
+
+    /// Passes the next line, and says where it is.
+    #[inline(always)]
+    fn advance(&mut self) -> Option<Result<Place, ReverseError>>
+        ensures step { StepOf (ReadsPlace self.new.buf.now) F.honest F.bytes F.faults self.old
+            result self.new }
+        ensures place { IfSome result (λ r. IfOk r (IsInWindow self.new.buf.now)) }
+        ensures memory { result ≢ Some (Err ReverseError.Memory) }
+        ensures left { option_len result + most_left self.new ≤ most_left self.old }
+    {
+        match self.stage {
+            Stage::Done => None,
+            Stage::Reading => Some(self.pass_line(true)),
+            Stage::Unread => {
+                if self.pos == 0 {
+                    self.stage = Stage::Done;
+                    return None;
+                }
+                match self.begin() {
+                    Ok(ends) => Some(self.pass_line(ends)),
+                    Err(error) => {
+                        self.stage = Stage::Done;
+                        Some(Err(ReverseError::Io(error)))
+                    }
+                }
+            }
+        }
+    }
+
+    /// The next line, lent from the buffer until the next call. `next` gives the same line owned, and the two can be mixed.
+    /// It takes no memory, so that it never returns `Memory`, and reads no id. `None` is the end, and so is each later call.
+    ///
+    /// `Io` where the log cannot be read, `Decode` where a line is not in the form of one, `BufferTooSmall` where the buffer
+    /// has no room for a line. After `Io` and `BufferTooSmall` it has ended. Costs time in proportion to the line. Not in
+    /// gix-ref.
+    ///
+    /// ```text
+    /// let mut lines = reverse(alloc, reader, &mut buf)?;
+    /// while let Some(line) = lines.next_ref() {
+    ///     println!(rt; "{}", line?.message.as_bstr())?; // the newest first
+    /// }
+    /// ```
+    #[inline(always)]
+    pub fn next_ref(&mut self) -> Option<Result<LineRef<'_>, ReverseError>>
+        ensures* steps { sem 𝓛 (Rests (the_row (record { mir = named 0; lft = [] }) F.row) self.entry
+            (λ t. NextRefStep F.honest F.bytes F.faults self.old result t
+            × (option_len result + most_left t ≤ most_left self.old))) }
+        ensures memory { result ≢ Some (Err ReverseError.Memory) }
+    {
+        match self.advance() {
+            None => None,
+            Some(Err(error)) => Some(Err(error)),
+            Some(Ok(place)) => Some(self.line_at(place)),
         }
     }
 }
@@ -196,22 +258,19 @@ impl<'a, F: ReadAt + Drop> Iterator for Reverse<'a, F> {
 
     #[inline(always)]
     fn next(&mut self) -> Option<Result<Line, ReverseError>> {
-        match self.stage {
-            Stage::Done => None,
-            Stage::Reading => Some(self.next_line(true)),
-            Stage::Unread => {
-                if self.pos == 0 {
-                    self.stage = Stage::Done;
-                    return None;
-                }
-                match self.begin() {
-                    Ok(ends) => Some(self.next_line(ends)),
-                    Err(error) => {
+        match self.advance() {
+            None => None,
+            Some(Err(error)) => Some(Err(error)),
+            Some(Ok(place)) => match self.line_at(place) {
+                Err(error) => Some(Err(error)),
+                Ok(line) => match line.to_owned(self.alloc) {
+                    Ok(line) => Some(Ok(line)),
+                    Err(_) => {
                         self.stage = Stage::Done;
-                        Some(Err(ReverseError::Io(error)))
+                        Some(Err(ReverseError::Memory))
                     }
-                }
-            }
+                },
+            },
         }
     }
 }

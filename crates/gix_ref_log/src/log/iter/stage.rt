@@ -1,9 +1,4 @@
 //! Where the reading of a log from its end is.
-ghost use Rattle.std.specs.Prelude.{◌≡◌};
-ghost use Rattle.gix_ref_log.specs.LogStages.{stage_of};
-
-use super::error::ReverseError;
-use crate::log::line::Line;
 
 /// Where the iterator is.
 #[derive(Clone, Copy, PartialEq, Eq)]
@@ -16,13 +11,15 @@ pub enum Stage {
     Done,
 }
 
-/// Where the iterator is after a line.
-#[inline(always)]
-pub fn stage_after(line: &Result<Line, ReverseError>) -> Stage
-    ensures { result ≡ stage_of line.now }
-{
-    match line {
-        Ok(_) | Err(ReverseError::Decode(_)) => Stage::Reading,
-        Err(_) => Stage::Done,
-    }
+/// Where a line is in the buffer.
+#[derive(Clone, Copy)]
+pub(super) struct Place {
+    /// Its first byte.
+    pub(super) start: usize,
+    /// The byte after its last.
+    pub(super) end: usize,
+    /// Whether a line feed follows it.
+    pub(super) ends: bool,
+    /// Its number from the end.
+    pub(super) number: u64,
 }

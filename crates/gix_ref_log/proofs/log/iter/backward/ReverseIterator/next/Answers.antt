@@ -1,60 +1,13 @@
-use Rattle.std.proofs.Common.{◌≡◌, ◌≢◌, ℕ, ◌<◌, ◌^◌, List, length, refl, sym, ◌∙◌, ap, subst, arith, Some, Err}
-use Rattle.gix_ref_log.specs.declared.log.iter.stage.Stage.{Stage}
-use Rattle.gix_ref_log.specs.declared.log.iter.stage.Stage.TheVariants.{Unread, Done}
-use Rattle.gix_ref_log.specs.LogItems.{count_of}
-use Rattle.gix_ref_log.proofs.BackwardSteps.{start_none, start_fault, start_line}
+use Rattle.std.proofs.Common.{Some, subst}
+use Rattle.gix_ref_log.specs.LogItems.{ReadsOwned, ReadsLent}
+use Rattle.gix_ref_log.specs.LogWindows.{StepOf, ReadsPlace}
+use Rattle.gix_ref_log.proofs.LineSteps.{fault_place}
 use Rattle.gix_ref_log.proofs.log.iter.backward.ReverseIterator.next.Goals as goal
-
-small_log : (log log' : List ℕ) → log' ≡ log → length log < 2 ^ 64 → length log' < 2 ^ 64
-small_log log log' e l = subst (λ (x : List ℕ). length x < 2 ^ 64) (sym e) l
-
-some : (n : ℕ) → n ≢ 0 → 0 < n
-some n other = omega arith
-
-not_done : (s : Stage) → s ≡ Unread → s ≡ Done → ⊥
-not_done s is done = let e : Unread ≡ Done = sym is ∙ done in cc
-
-pub returns-then-self-eq0-clause-steps : goal.returns-then-self-eq0-clause-steps
-returns-then-self-eq0-clause-steps g c =
-    let s = c.args.self.now in
-    record {
-      same_reference = refl;
-      same_bytes = refl;
-      counts = refl;
-      done = refl;
-      stays_done = λ done. absurd (not_done s.stage c.in-Unread.is done);
-      gives = λ honest tied. start_none s.stage (length s.buf.now) s.number s.pos s.end (g.F.ReadAt.bytes s.reader) s.buf.now c.in-Unread.is c.if-self-eq0.true tied.0 tied.1;
-    }
-
-pub returns-in-Ok-clause-steps : goal.returns-in-Ok-clause-steps
-returns-in-Ok-clause-steps g c =
-    let s = c.args.self.now in
-    let b = c.begin.new.self in
-    let e = c.in-Ok.ensures in
-    let l = c.next_line-in-Ok.ensures in
-    record {
-      same_reference = l.log.same_reference ∙ e.only.log.same_reference;
-      same_bytes = l.log.same_bytes ∙ e.only.log.same_bytes;
-      counts = l.counts ∙ ap (count_of (Some c.next_line-in-Ok.result)) e.counts.count;
-      done = l.done;
-      stays_done = λ done. absurd (not_done s.stage c.in-Unread.is done);
-      gives = λ honest tied. start_line s.stage (length s.buf.now) (length b.buf.now) s.number b.number s.pos s.end b.pos b.end
-          (g.F.ReadAt.bytes s.reader) (g.F.ReadAt.bytes b.reader) s.buf.now b.buf.now c.in-Ok.ends c.next_line-in-Ok.result _ _
-          c.in-Unread.is e.only.log.same_bytes e.only.log.same_length e.only.number tied.0 tied.1 (e.begins honest) (l.step honest);
-    }
 
 pub returns-in-Err-clause-steps : goal.returns-in-Err-clause-steps
 returns-in-Err-clause-steps g c =
+    let R = g.F.ReadAt in
     let s = c.args.self.now in
-    let e = c.in-Err.ensures in
-    record {
-      same_reference = e.only.log.same_reference;
-      same_bytes = e.only.log.same_bytes;
-      counts = e.counts.count;
-      done = (refl, λ is. e.counts.memory (ap Err is));
-      stays_done = λ done. absurd (not_done s.stage c.in-Unread.is done);
-      gives = λ honest tied. (
-        start_fault s.stage (length s.buf.now) s.number s.pos s.end (g.F.ReadAt.bytes s.reader) s.buf.now c.in-Err.error c.in-Unread.is (some s.pos c.if-self-eq0.false) tied.1,
-        (small_log _ _ e.only.log.same_bytes tied.0, tt),
-      );
-    }
+    let t = c.advance.new.self in
+    let passed = subst (λ r. StepOf (ReadsPlace t.buf.now) R.honest R.bytes R.faults s (Some r) t) c.in-Some-Ok.field-0-is c.in-Some-Ok.ensures.step in
+    fault_place ReadsOwned R.honest R.bytes R.faults t.buf.now s t c.in-Some-Ok.place passed ReadsLent c.line_at.result c.in-Err.error c.in-Err.is c.line_at.ensures.memory c.line_at.ensures.line
