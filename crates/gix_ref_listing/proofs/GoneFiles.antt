@@ -1,7 +1,7 @@
 -- A name that is asked for once more, since its file is gone.
 use Rattle.std.proofs.Common.{◌≡◌, ℕ, List, inl, inr, refl, sym, subst, Option, Some, None, Result, Ok, Err}
 use Rattle.gix_ref_files.specs.Files.{FaultCounts}
-use Rattle.std.specs.Prelude.{IfOk, IfNone, MatchResult}
+use Rattle.std.specs.Prelude.{IfOk, IfNone, IfSome, MatchResult}
 use Rattle.gix_ref_hash.specs.declared.hash.Kind.{Kind}
 use Rattle.gix_ref_name.specs.Names.{full_bytes}
 use Rattle.gix_ref_name.specs.declared.name.FullName.{FullName}
@@ -13,13 +13,13 @@ use Rattle.gix_ref_theory.specs.Readings.{Store, reading_by}
 use Rattle.gix_ref_theory.specs.Readings.Reading.{Absent}
 use Rattle.gix_ref_theory.specs.Views.{View}
 use Rattle.gix_ref_lookup.specs.LooseFiles.{IsUndecodable}
-use Rattle.gix_ref_lookup.specs.Lookups.{meaning_in, HasKey, IsLooseTarget, IsNotReadAt, OfKey}
+use Rattle.gix_ref_lookup.specs.Lookups.{meaning_in, ArePackedRecords, HasKey, IsLooseTarget, IsNotReadAt, OfKey}
 use Rattle.gix_ref_lookup.proofs.NamedRecords.{of_key}
 use Rattle.gix_ref_lookup.specs.declared.settings.Settings.{Settings}
 use Rattle.gix_ref_lookup.specs.declared.find.error.ReadError.TheVariants.{File as file_error, DeviceName}
 use Rattle.gix_ref_lookup.specs.declared.find.error.Error.{Error as LookupError}
 use Rattle.gix_ref_lookup.specs.declared.find.error.Error.TheVariants as looking
-use Rattle.gix_ref_listing.specs.GoneFiles.{HasNoRecord, IsAskedAgain, IsPackedAgain, IsRecordNow}
+use Rattle.gix_ref_listing.specs.GoneFiles.{HasNoRecord, HitsNow, IsAskedAgain, IsFoundNow, IsPackedAgain, IsRecordNow}
 use Rattle.gix_ref_listing.specs.Items.{IsFileItem, IsUnread, of_reading}
 use Rattle.gix_ref_listing.specs.declared.error.Error.{Error}
 use Rattle.gix_ref_listing.specs.declared.error.Error.TheVariants.{Traversal, ReadFileContents, ReferenceCreation, PackedReference, Memory}
@@ -39,6 +39,14 @@ pub no_record : (settings : Settings) (rs : List Record) (name key : List ℕ) (
     IfNone found (reading_by (meaning_in settings) ((meaning_in settings).key name) None rs ≡ Absent)
 no_record settings rs name key None keyed are = of_key settings rs name key None keyed (none_named (record_named key rs) are)
 no_record settings rs name key (Some found) keyed are = tt
+
+-- what is found of its key is found of a name
+pub found_now : {E : Type 0} (settings : Settings) (view : View) (name key : List ℕ) (r : Result (Option FoundIds) E) → HasKey (meaning_in settings) name key →
+    ((records : List Record) → ArePackedRecords settings.kind (view (meaning_in settings).packed_path) records → IfOk r (AreFound (record_named key records))) →
+    IfOk r (λ found. IfSome found (HitsNow settings.kind (view (meaning_in settings).packed_path) key)) → IfOk r (IsFoundNow settings view name)
+found_now settings view name key (Ok None) keyed are hit = λ records of. no_record settings records name key None keyed (are records of)
+found_now settings view name key (Ok (Some found)) keyed are hit = (key, keyed, hit)
+found_now settings view name key (Err e) keyed are hit = tt
 
 -- ---- why a file gives no target
 

@@ -1,6 +1,6 @@
 -- A file that a walk found, and that is gone when its item is read: its name is asked for once more (`git pack-refs` removes the
 -- loose file of a reference once `packed-refs` has its record).
-use Rattle.std.specs.Prelude.{◌≡◌, ◌⊎◌, ℕ, List, Option, None, Result, Ok, Err, false}
+use Rattle.std.specs.Prelude.{◌≡◌, ◌⊎◌, ℕ, List, Option, Some, None, Result, Ok, Err, false}
 use Rattle.gix_ref_files.specs.Files.{FaultCounts}
 use Rattle.gix_ref_hash.specs.declared.hash.Kind.{Kind}
 use Rattle.gix_ref_name.specs.Names.{full_bytes}
@@ -48,6 +48,13 @@ HasNoRecord settings view name =
     let s = meaning_in settings in
     (records : List Record) → ArePackedRecords settings.kind (view s.packed_path) records →
     reading_by s (s.key name) None records ≡ Absent
+
+-- what is found of a name: the ids of such a record of its key; none, where `packed-refs` has no record of it
+abbrev pub IsFoundNow : Settings → View → (name : List ℕ) → Option FoundIds → Type 0
+IsFoundNow settings view name None = HasNoRecord settings view name
+IsFoundNow settings view name (Some found) =
+    let s = meaning_in settings in
+    OfKey s name (λ key. HitsNow settings.kind (view s.packed_path) key found)
 
 -- the fault of a `packed-refs` at this path that could not be opened or searched
 abbrev pub IsPackedUnread : List ℕ → Error → Type 0

@@ -1,9 +1,10 @@
 -- The records of `packed-refs` that a listing gives: each has a name whose own key it is.
-use Rattle.std.specs.Prelude.{◌≡◌, ◌+◌, ℕ, List, [], ◌∷◌, length, drop, nat_eq, ◌&&◌, if◌then◌else◌, Option, Some, None, is_none, Result, Ok, Err}
+use Rattle.std.specs.Prelude.{◌≡◌, ◌++◌, ◌+◌, ℕ, List, [], ◌∷◌, length, drop, nat_eq, ◌&&◌, if◌then◌else◌, Option, Some, None, is_none, Result, Ok, Err}
 use Rattle.std.specs.List.{starts_with}
 use Rattle.std.specs.Option.{option_len}
 use Rattle.gix_ref_name.specs.Names.{full_ref_bytes}
 use Rattle.gix_ref_name.specs.NameGrammar.{partial_error}
+use Rattle.gix_ref_name.specs.declared.namespace.Namespace.{Namespace}
 use Rattle.gix_ref_target.specs.PackedRecords.{Record}
 use Rattle.gix_ref_packed.specs.Items.{unread}
 use Rattle.gix_ref_packed_text.specs.Views.{record_of}
@@ -16,6 +17,10 @@ use Rattle.gix_ref_lookup.specs.declared.settings.Settings.{Settings}
 use Rattle.gix_ref_listing.specs.declared.own_records.OwnRecord.{OwnRecord}
 use Rattle.gix_ref_listing.specs.declared.own_records.OwnRecords.{OwnRecords}
 use Rattle.gix_ref_theory.specs.Edits.{is_key}
+
+-- this is what follows the namespace, if there is one, in the key
+abbrev pub IsInside : Option Namespace → (key rest : List ℕ) → Type 0
+IsInside namespace key rest = key ≡ namespace_text namespace ++ rest
 
 -- the name that has this key, where that is the namespace and the name
 unfoldable pub own_name : Settings → (key : List ℕ) → Option (List ℕ)

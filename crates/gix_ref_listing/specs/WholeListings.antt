@@ -1,5 +1,5 @@
 -- What a whole listing is: each name with a loose file or a record, once, by ascending bytes.
-use Rattle.std.specs.Prelude.{◌≡◌, ◌++◌, ℕ, List, [], ◌∷◌, Option, Some, None, IsSome}
+use Rattle.std.specs.Prelude.{◌≡◌, ◌++◌, ℕ, List, [], ◌∷◌, Option, Some, None, IsSome, Result, IfOk}
 use denote.Ref.{Bor}
 use Rattle.std.specs.List.{All, AllByRecursion}
 use Rattle.gix_ref_hash.specs.Bytes.{BeginsWith}
@@ -16,7 +16,10 @@ use Rattle.gix_ref_theory.specs.Views.{View}
 use Rattle.gix_ref_lookup.specs.Lookups.{meaning_in, Among}
 use Rattle.gix_ref_lookup.specs.StoreLayout.{namespace_text}
 use Rattle.gix_ref_lookup.specs.declared.settings.Settings.{Settings}
-use Rattle.gix_ref_listing.specs.Walks.{Holds, IsFile, IsFileOrMet}
+use Rattle.gix_ref_listing.specs.Walks.{FindsEach, Holds, IsFile, IsFileOrMet}
+use Rattle.gix_ref_listing.specs.OwedNames.{Text, IsTextFor, OwesNames}
+use Rattle.gix_ref_listing.specs.PlainSettings.{plain}
+use Rattle.gix_ref_listing.specs.declared.prefix.Error.{Error}
 use Rattle.gix_ref_listing.specs.OwnRecords.{YetOf}
 use Rattle.gix_ref_listing.specs.Steps.{AreYet}
 use Rattle.gix_ref_listing.specs.declared.list.LooseNames.{LooseNames}
@@ -118,11 +121,23 @@ pub record ListsAll (settings : Settings) (view : View) (records : List Record) 
   pub names : AllByRecursion (IsNameOrMet before now) listed
   pub yet : AreYet settings m listed
 
+-- What a listing of a prefix with the records of this buffer gives: it is the listing of whatever records the buffer holds.
+abbrev pub ListsHeld : Settings → View → (prefix : List ℕ) → Option (Bor Buffer) →
+    (before now : FaultCounts) → Result Merge Error → Type 0
+ListsHeld settings view prefix buffer before now result = (records : List Record) →
+    AreHeldOf (key_in settings prefix) buffer records →
+    IfOk result (ListsAll (plain settings) view records prefix before now)
+
+-- and over whatever text of ascending names the buffer has: each name that is due is yet to come, or a fault is
+abbrev pub OwesHeld : Settings → (prefix : List ℕ) → Option (Bor Buffer) → Result Merge Error → Type 0
+OwesHeld settings prefix buffer result = (text : Text) →
+    IsTextFor (key_in settings prefix) buffer text →
+    IfOk result (OwesNames (plain settings) text [])
+
 -- What a walk of the folders of a store found of a prefix while the count of faults went from `before` to `now`: each loose
 -- reference, unless a folder above it could not be listed, which is found with a fault that was counted; and nothing else.
 pub record IsWalkOf (settings : Settings) (view : View) (before now : FaultCounts)
     (names : LooseNames) : Type 0 where
-  pub finds : (name : List ℕ) → IsLooseListed settings view names.prefix.items name →
-      Among (Holds name) names.found.entries
+  pub finds : FindsEach (IsLooseListed settings view names.prefix.items) names.found.entries
   pub files : All (IsFileOrMet before now) names.found.entries
   pub there : All (IsFoundIn settings view names.prefix.items) names.found.entries

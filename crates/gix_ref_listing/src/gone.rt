@@ -1,15 +1,13 @@
 //! A file that a walk found, and that is gone when its item is read: a program that packs references may have moved the reference
 //! into `packed-refs` since (`git pack-refs`). So its name is asked for once more.
-ghost use Rattle.std.specs.Prelude.{◌≡◌, ℕ, List, None, IfOk, IfSome, IfNone, OnOk};
+ghost use Rattle.std.specs.Prelude.{◌≡◌, List, IfOk, IfSome, OnOk};
 ghost use Rattle.gix_ref_name.specs.Names.{full_bytes, full_ref_bytes};
 ghost use Rattle.gix_ref_target.specs.PackedRecords.{Record, record_named};
 ghost use Rattle.gix_ref_packed_text.specs.Windows.{AreFound};
 ghost use Rattle.gix_ref_theory.specs.OnRealTrees.{contents};
-ghost use Rattle.gix_ref_theory.specs.Readings.{reading_by};
-ghost use Rattle.gix_ref_theory.specs.Readings.Reading.{Absent};
-ghost use Rattle.gix_ref_lookup.specs.Lookups.{ArePackedRecordsWith, OfKey, meaning_in, packed_refs_in};
+ghost use Rattle.gix_ref_lookup.specs.Lookups.{ArePackedRecordsWith, meaning_in, packed_refs_in};
 ghost use Rattle.gix_ref_files.specs.ReadOnly.{OnlyReads};
-ghost use Rattle.gix_ref_listing.specs.GoneFiles.{HitsNow, IsAskedAgain, IsGone, IsPackedAgain, IsPackedUnread};
+ghost use Rattle.gix_ref_listing.specs.GoneFiles.{HitsNow, IsAskedAgain, IsFoundNow, IsGone, IsPackedAgain, IsPackedUnread};
 
 use crate::error::{Error, of_reading};
 use gix_ref_files::files::{FileError, Files};
@@ -97,14 +95,8 @@ fn find_record<F: Files>(
     settings: Settings<'_>,
     name: FullNameRef<'_>,
 ) -> Result<Option<Found>, find::Error>
-    ensures none { F.honest → (records : List Record) → ArePackedRecordsWith settings.entry
-        (F.means files.old) records → IfOk result (λ found. IfNone found (reading_by
-        (meaning_in settings.entry) ((meaning_in settings.entry).key (full_ref_bytes name.entry))
-        None records ≡ Absent)) }
-    ensures hit { F.honest → IfOk result (λ found. IfSome found
-        (λ found. OfKey (meaning_in settings.entry) (full_ref_bytes name.entry)
-        (λ key. HitsNow settings.entry.kind (packed_refs_in settings.entry (F.means files.old))
-        key found))) }
+    ensures found { F.honest → IfOk result
+        (IsFoundNow settings.entry (contents F.means files.old) (full_ref_bytes name.entry)) }
     ensures no_fault { OnOk result (F.faults files.new ≡ F.faults files.old) }
     ensures looks { OnlyReads F.honest F.means F.faults files.old files.new }
 {

@@ -6,10 +6,10 @@ ghost use Rattle.gix_ref_theory.specs.OnRealTrees.{contents};
 ghost use Rattle.gix_ref_theory.specs.Views.{View};
 ghost use Rattle.gix_ref_lookup.specs.StoreLayout.{namespace_text};
 ghost use Rattle.gix_ref_files.specs.ReadOnly.{OnlyReads};
-ghost use Rattle.gix_ref_listing.specs.OwedNames.{Text, IsTextFor, OwesOthers, OwesNames};
+ghost use Rattle.gix_ref_listing.specs.OwedNames.{Text, IsTextFor, OwesOthers};
 ghost use Rattle.gix_ref_listing.specs.PlainSettings.{plain};
 ghost use Rattle.gix_ref_lookup.specs.declared.settings.Settings.{Settings as ListingOf};
-ghost use Rattle.gix_ref_listing.specs.WholeListings.{AreHeldOf, IsAskedOf, IsWalkOf, ListsAll, key_in};
+ghost use Rattle.gix_ref_listing.specs.WholeListings.{AreHeldOf, IsAskedOf, IsWalkOf, ListsHeld, OwesHeld};
 ghost use Rattle.gix_ref_listing.specs.declared.prefix.Error.TheVariants.{Memory};
 
 use crate::found::FoundByKey;
@@ -85,14 +85,12 @@ pub fn merge_walked<'p>(
     names: LooseNames,
     packed: Option<&'p Buffer>,
 ) -> Result<Merge<'p>, Error>
-    ensures lists { (view : View) (before now : FaultCounts) (records : List Record) →
+    ensures lists { (view : View) (before now : FaultCounts) →
         IsWalkOf (plain settings.entry) view before now names →
-        AreHeldOf (key_in settings.entry names.prefix.items) packed.entry records → IfOk result
-        (ListsAll (plain settings.entry) view records names.prefix.items before now) }
-    ensures owes { (view : View) (before now : FaultCounts) (text : Text) →
+        ListsHeld settings.entry view names.prefix.items packed.entry before now result }
+    ensures owes { (view : View) (before now : FaultCounts) →
         IsWalkOf (plain settings.entry) view before now names →
-        IsTextFor (key_in settings.entry names.prefix.items) packed.entry text →
-        IfOk result (OwesNames (plain settings.entry) text []) }
+        OwesHeld settings.entry names.prefix.items packed.entry result }
     ensures memory { IfErr result (λ error. error ≡ Memory) }
 {
     let LooseNames { found, prefix } = names;
@@ -113,13 +111,9 @@ pub fn list<'p, F: Files>(
     prefix: &[u8],
     packed: Option<&'p Buffer>,
 ) -> Result<Merge<'p>, Error>
-    ensures lists { F.honest → (records : List Record) →
-        AreHeldOf (key_in settings.entry prefix.now) packed.entry records →
-        IfOk result (ListsAll (plain settings.entry) (contents F.means files.old) records prefix.now
-        (F.faults files.old) (F.faults files.new)) }
-    ensures owes { F.honest → (text : Text) →
-        IsTextFor (key_in settings.entry prefix.now) packed.entry text →
-        IfOk result (OwesNames (plain settings.entry) text []) }
+    ensures lists { F.honest → ListsHeld settings.entry (contents F.means files.old) prefix.now
+        packed.entry (F.faults files.old) (F.faults files.new) result }
+    ensures owes { F.honest → OwesHeld settings.entry prefix.now packed.entry result }
     ensures looks { OnlyReads F.honest F.means F.faults files.old files.new }
     ensures memory { IfErr result (λ error. error ≡ Memory) }
 {

@@ -8,7 +8,7 @@ ghost use Rattle.gix_ref_lookup.specs.StoreLayout.{namespace_text};
 ghost use Rattle.gix_ref_packed.specs.YetToGive.{IsYet};
 ghost use Rattle.gix_ref_lookup.specs.Lookups.{meaning_in};
 ghost use Rattle.gix_ref_theory.specs.Edits.{is_key};
-ghost use Rattle.gix_ref_listing.specs.OwnRecords.{own_name, own_records, records_left, GivesOwn};
+ghost use Rattle.gix_ref_listing.specs.OwnRecords.{own_name, own_records, records_left, GivesOwn, IsInside};
 ghost use Rattle.gix_ref_listing.specs.OwedNames.{Text, OwesOthers, OwesAfter};
 
 use gix_ref_hash::bytes::strip_front;
@@ -30,8 +30,8 @@ pub struct OwnRecord<'p> {
 
 /// What follows the namespace, if there is one, in a key.
 fn behind_namespace<'a>(namespace: &Option<Namespace>, key: &'a [u8]) -> Option<&'a [u8]>
-    ensures { MatchOption result ((rest : List ℕ) → key.now ≡ namespace_text namespace.now ++ rest →
-        ⊥) (λ rest. key.now ≡ namespace_text namespace.now ++ rest.now) }
+    ensures { MatchOption result ((rest : List ℕ) → IsInside namespace.now key.now rest → ⊥)
+        (λ rest. IsInside namespace.now key.now rest.now) }
 {
     match namespace {
         Some(namespace) => strip_front(key, namespace.to_path()),
@@ -59,8 +59,8 @@ fn inside_namespace<'a>(
     key: FullNameRef<'a>,
 ) -> Option<FullNameRef<'a>>
     ensures { MatchOption result ((rest : List ℕ) → IsPartialName rest →
-        full_ref_bytes key.entry ≡ namespace_text namespace.now ++ rest → ⊥)
-        (λ name. full_ref_bytes key.entry ≡ namespace_text namespace.now ++ full_ref_bytes name) }
+        IsInside namespace.now (full_ref_bytes key.entry) rest → ⊥)
+        (λ name. IsInside namespace.now (full_ref_bytes key.entry) (full_ref_bytes name)) }
 {
     match namespace {
         Some(namespace) => key.without_namespace(namespace),

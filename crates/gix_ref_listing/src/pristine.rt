@@ -1,16 +1,14 @@
 //! Whether a store is as `git init` makes it.
-ghost use Rattle.std.specs.Prelude.{◌≡◌, ◌⊎◌, ◌↔◌, true, false, IsTrue, IfOk};
-ghost use Rattle.std.specs.List.{All};
+ghost use Rattle.std.specs.Prelude.{◌≡◌, ◌↔◌, true, false, IsTrue, IfOk};
 ghost use Rattle.gix_ref_name.specs.Names.{full_ref_bytes};
 ghost use Rattle.gix_ref_target.specs.Targets.{target_value};
 ghost use Rattle.gix_ref_target.specs.Targets.TargetValue.{symbolic_name};
 ghost use Rattle.gix_ref_files.specs.Files.{HasRisen};
 ghost use Rattle.gix_ref_theory.specs.OnRealTrees.{contents};
 ghost use Rattle.gix_ref_listing.specs.PlainSettings.{plain};
-ghost use Rattle.gix_ref_listing.specs.PristineStores.{Says, IsReading, IsReadableFile, IsUnreadableFile, ReadsAt, ReadsNone, HasOtherHead, HasLoose, HasNoLoose, HasReferences, HasNoReferences, IsFoundFile, IsPristine, IsInUse, has_packed_refs, head_path};
-ghost use Rattle.gix_ref_listing.specs.Walks.{IsFile, IsAnyMet};
+ghost use Rattle.gix_ref_listing.specs.PristineStores.{HasLoose, HasNoLoose, HasNoReferences, HasReferences, IsReading, SaysHead, SaysOfFiles, SaysPristine, SaysReadable, SaysReadableAmong, has_packed_refs};
+ghost use Rattle.gix_ref_listing.specs.Walks.{IsAnyMet};
 ghost use Rattle.gix_ref_listing.specs.declared.pristine.Reading.TheVariants.{Fault};
-ghost use Rattle.gix_ref_lookup.specs.Lookups.{Among};
 ghost use Rattle.gix_ref_files.specs.ReadOnly.{OnlyReads};
 
 use crate::found::{Found, FoundByKey};
@@ -79,12 +77,9 @@ fn head_points_to<F: Files>(
     settings: Settings<'_>,
     name: FullNameRef<'_>,
 ) -> Result<Option<bool>, AllocError>
-    ensures says { IfOk result (Says (F.honest → ReadsAt (plain settings.entry)
-        (contents F.means files.old) (head_path (plain settings.entry))
-        (symbolic_name (full_ref_bytes name.entry))) (F.honest → HasOtherHead (plain settings.entry)
-        (contents F.means files.old) (full_ref_bytes name.entry))
-        ((F.honest → ReadsNone (plain settings.entry) (contents F.means files.old)
-        (head_path (plain settings.entry))) ⊎ IsAnyMet (F.faults files.old) (F.faults files.new))) }
+    ensures says { IfOk result (SaysHead F.honest (plain settings.entry)
+        (contents F.means files.old) (F.faults files.old) (F.faults files.new)
+        (full_ref_bytes name.entry)) }
     ensures looks { OnlyReads F.honest F.means F.faults files.old files.new }
 {
     let Some(head) = FullNameRef::from_path(b"HEAD") else {
@@ -104,9 +99,9 @@ fn has_packed_refs<F: Files>(
     files: &mut F,
     settings: Settings<'_>,
 ) -> Result<Option<bool>, AllocError>
-    ensures says { IfOk result (Says (F.honest → has_packed_refs (plain settings.entry)
-        (F.means files.old).tree ≡ true) (F.honest → has_packed_refs (plain settings.entry)
-        (F.means files.old).tree ≡ false) (IsAnyMet (F.faults files.old) (F.faults files.new))) }
+    ensures says { let there = has_packed_refs (plain settings.entry) (F.means files.old).tree in
+        IfOk result (SaysOfFiles F.honest F.faults files.old files.new
+        (there ≡ true) (there ≡ false)) }
     ensures looks { OnlyReads F.honest F.means F.faults files.old files.new }
 {
     let path = settings.packed_refs_path(alloc)?;
@@ -125,10 +120,8 @@ fn is_readable<F: Files>(
     found: Found,
     other: bool,
 ) -> Result<Option<bool>, AllocError>
-    ensures says { IfOk result (Says ((other ≡ true) ⊎ (F.honest →
-        IsReadableFile (plain settings.entry) (contents F.means files.old) found)) ((other ≡ false)
-        × (F.honest → IsUnreadableFile (plain settings.entry) (contents F.means files.old) found))
-        (IsFoundFile found → IsAnyMet (F.faults files.old) (F.faults files.new))) }
+    ensures says { IfOk result (SaysReadable F.honest (plain settings.entry)
+        (contents F.means files.old) (F.faults files.old) (F.faults files.new) found other) }
     ensures looks { OnlyReads F.honest F.means F.faults files.old files.new }
 {
     match found {
@@ -152,10 +145,8 @@ fn any_readable<F: Files>(
     settings: Settings<'_>,
     mut found: FoundByKey,
 ) -> Result<Option<bool>, AllocError>
-    ensures says { IfOk result (Says (F.honest → Among (λ e. IsReadableFile (plain settings.entry)
-        (contents F.means files.old) e.1) found.entries) (F.honest → All (λ e. IsUnreadableFile
-        (plain settings.entry) (contents F.means files.old) e.1) found.entries)
-        (All IsFile found.entries → IsAnyMet (F.faults files.old) (F.faults files.new))) }
+    ensures says { IfOk result (SaysReadableAmong F.honest (plain settings.entry)
+        (contents F.means files.old) (F.faults files.old) (F.faults files.new) found.entries) }
     ensures looks { OnlyReads F.honest F.means F.faults files.old files.new }
 {
     let mut any = false;
@@ -175,10 +166,9 @@ fn has_loose<F: Files>(
     settings: Settings<'_>,
     prefix: &[u8],
 ) -> Result<Option<bool>, AllocError>
-    ensures says { IfOk result
-        (Says (F.honest → HasLoose (plain settings.entry) (contents F.means files.old) prefix.now)
-        (F.honest → HasNoLoose (plain settings.entry) (contents F.means files.old) prefix.now)
-        (IsAnyMet (F.faults files.old) (F.faults files.new))) }
+    ensures says { let s = plain settings.entry in let view = contents F.means files.old in
+        IfOk result (SaysOfFiles F.honest F.faults files.old files.new
+        (HasLoose s view prefix.now) (HasNoLoose s view prefix.now)) }
     ensures looks { OnlyReads F.honest F.means F.faults files.old files.new }
 {
     let Ok(found) = walk_store(alloc, files, settings, prefix) else {
@@ -194,9 +184,9 @@ fn has_references<F: Files>(
     settings: Settings<'_>,
     prefix: &[u8],
 ) -> Result<Option<bool>, AllocError>
-    ensures says { IfOk result (Says (F.honest → HasReferences (plain settings.entry)
-        (F.means files.old).tree prefix.now) (F.honest → HasNoReferences (plain settings.entry)
-        (F.means files.old).tree prefix.now) (IsAnyMet (F.faults files.old) (F.faults files.new))) }
+    ensures says { let s = plain settings.entry in let T = (F.means files.old).tree in
+        IfOk result (SaysOfFiles F.honest F.faults files.old files.new
+        (HasReferences s T prefix.now) (HasNoReferences s T prefix.now)) }
     ensures looks { OnlyReads F.honest F.means F.faults files.old files.new }
 {
     match has_packed_refs(alloc, files, settings)? {
@@ -215,11 +205,9 @@ pub fn is_pristine<F: Files>(
     prefix: &[u8],
     name: FullNameRef<'_>,
 ) -> Result<Option<bool>, AllocError>
-    ensures says { IfOk result (Says (F.honest → IsPristine (plain settings.entry)
-        (F.means files.old).tree prefix.now (full_ref_bytes name.entry)) (F.honest → IsInUse
-        (plain settings.entry) (F.means files.old).tree prefix.now (full_ref_bytes name.entry))
-        ((F.honest → ReadsNone (plain settings.entry) (contents F.means files.old)
-        (head_path (plain settings.entry))) ⊎ IsAnyMet (F.faults files.old) (F.faults files.new))) }
+    ensures says { IfOk result (SaysPristine F.honest (plain settings.entry)
+        (F.means files.old).tree (F.faults files.old) (F.faults files.new) prefix.now
+        (full_ref_bytes name.entry)) }
     ensures looks { OnlyReads F.honest F.means F.faults files.old files.new }
 {
     match head_points_to(alloc, files, settings, name)? {

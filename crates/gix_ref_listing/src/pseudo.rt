@@ -7,7 +7,7 @@ ghost use Rattle.gix_ref_files.specs.declared.files.FileError.TheVariants.{Memor
 ghost use Rattle.gix_ref_theory.specs.OnRealTrees.{contents};
 ghost use Rattle.gix_ref_listing.specs.PlainSettings.{plain};
 ghost use Rattle.gix_ref_listing.specs.PseudoListings.{is_head_file, is_kept, IsPseudoListed, IsPseudoFound, ListsPseudo};
-ghost use Rattle.gix_ref_listing.specs.Walks.{Holds, IsFile, IsFileOrMet};
+ghost use Rattle.gix_ref_listing.specs.Walks.{FindsEach, IsFileOrMet};
 ghost use Rattle.gix_ref_listing.specs.declared.prefix.Error.TheVariants.{Memory};
 ghost use Rattle.gix_ref_lookup.specs.Lookups.{Among};
 ghost use Rattle.gix_ref_files.specs.ReadOnly.{OnlyReads};
@@ -54,8 +54,8 @@ fn walk_pseudo<F: Files>(
     files: &mut F,
     settings: Settings<'_>,
 ) -> Result<FoundByKey, FileError>
-    ensures finds { F.honest → IfOk result (λ found. (name : List ℕ) → IsPseudoListed settings.entry
-        (contents F.means files.old) name → Among (Holds name) found.entries) }
+    ensures finds { F.honest → IfOk result (λ found. FindsEach
+        (IsPseudoListed settings.entry (contents F.means files.old)) found.entries) }
     ensures files { IfOk result (λ found. All (IsFileOrMet (F.faults files.old)
         (F.faults files.new)) found.entries) }
     ensures there { F.honest → IfOk result

@@ -6,8 +6,8 @@ ghost use Rattle.gix_ref_files.specs.Files.{HasRisen, FaultCounts, NoFewer};
 ghost use Rattle.gix_ref_files.specs.declared.files.FileError.TheVariants.{Memory};
 ghost use Rattle.gix_ref_theory.specs.OnRealTrees.{contents};
 ghost use Rattle.gix_ref_lookup.specs.StoreLayout.{namespace_text};
-ghost use Rattle.gix_ref_listing.specs.Walks.{Holds, IsFile, IsFolderPath, IsRootPath, StaysFound, IsFileOrMet};
-ghost use Rattle.gix_ref_listing.specs.LooseListings.{IsFront, IsLooseListed, IsFoundIn, LooseIn};
+ghost use Rattle.gix_ref_listing.specs.Walks.{AddsOnly, AddsOnlyMet, FindsEach, IsFileOrMet, IsFolderPath, IsRootPath, StaysFound};
+ghost use Rattle.gix_ref_listing.specs.LooseListings.{front_in, IsFront, IsLooseListed, IsFoundIn, LooseIn};
 ghost use Rattle.gix_ref_lookup.specs.Lookups.{Among};
 ghost use Rattle.gix_ref_files.specs.ReadOnly.{OnlyReads};
 
@@ -59,18 +59,16 @@ fn walk_in<F: Files>(
     found: &mut FoundByKey,
 ) -> Result<(), FileError>
     requires folder { folder.now ≢ [] }
-    requires front { IsFront settings (below folder.now (namespace_text settings.namespace.now)) }
+    requires front { IsFront settings (front_in settings folder.now) }
     ensures stays { OnOk result (StaysFound found.old.entries found.new.entries) }
-    ensures finds { F.honest → OnOk result ((name : List ℕ) →
-        LooseIn settings.entry (contents F.means files.old) prefix.now
-        (below folder.now (namespace_text settings.entry.namespace.now)) name →
-        Among (Holds name) found.new.entries) }
-    ensures files { OnOk result ((start : FaultCounts) → NoFewer start (F.faults files.old) →
-        All (IsFileOrMet start (F.faults files.old)) found.old.entries →
-        All (IsFileOrMet start (F.faults files.new)) found.new.entries) }
-    ensures there { F.honest → OnOk result
-        (All (IsFoundIn settings.entry (contents F.means files.old) prefix.now) found.old.entries →
-        All (IsFoundIn settings.entry (contents F.means files.old) prefix.now) found.new.entries) }
+    ensures finds { F.honest → OnOk result (FindsEach
+        (LooseIn settings.entry (contents F.means files.old) prefix.now
+        (front_in settings.entry folder.now)) found.new.entries) }
+    ensures files { OnOk result (AddsOnlyMet (F.faults files.old) (F.faults files.new)
+        found.old.entries found.new.entries) }
+    ensures there { F.honest → OnOk result (AddsOnly
+        (IsFoundIn settings.entry (contents F.means files.old) prefix.now)
+        found.old.entries found.new.entries) }
     ensures looks { OnlyReads F.honest F.means F.faults files.old files.new }
     ensures memory { IfErr result (λ error. error ≡ Memory) }
 {
@@ -95,8 +93,8 @@ pub fn walk_store<F: Files>(
     settings: Settings<'_>,
     prefix: &[u8],
 ) -> Result<FoundByKey, FileError>
-    ensures finds { F.honest → IfOk result (λ found. (name : List ℕ) → IsLooseListed settings.entry
-        (contents F.means files.old) prefix.now name → Among (Holds name) found.entries) }
+    ensures finds { F.honest → IfOk result (λ found. FindsEach
+        (IsLooseListed settings.entry (contents F.means files.old) prefix.now) found.entries) }
     ensures files { IfOk result (λ found. All (IsFileOrMet (F.faults files.old)
         (F.faults files.new)) found.entries) }
     ensures there { F.honest → IfOk result (λ found. All

@@ -11,7 +11,7 @@ ghost use Rattle.gix_ref_theory.specs.OnRealTrees.{contents};
 ghost use Rattle.gix_ref_theory.specs.Views.{View};
 ghost use Rattle.gix_ref_lookup.specs.Lookups.{name_asked, Among};
 ghost use Rattle.gix_ref_files.specs.ReadOnly.{OnlyReads};
-ghost use Rattle.gix_ref_listing.specs.Walks.{FoundEntry, IsListedName, IsThereOr, IsOwnName, IsLooseName, Holds, IsFile, IsFileOf, IsTaken, StaysFound, IsFolderPath, IsInnerPath, IsBelow, IsRootPath, Reaches, IsFileOrMet};
+ghost use Rattle.gix_ref_listing.specs.Walks.{AddsFolders, AddsOnly, AddsOnlyFiles, AddsOnlyMet, AddsOnlyThere, FindsEach, FoundEntry, Holds, IsBelow, IsFileOf, IsFileOrMet, IsFolderPath, IsInnerPath, IsListedName, IsLooseName, IsOwnFile, IsOwnName, IsRootPath, IsTaken, LeadsInto, Reaches, StaysFound};
 
 use crate::found::{Found, FoundByKey};
 use gix_ref_files::files::{Entry, FileError, Files};
@@ -133,14 +133,13 @@ fn keep_unlisted(
     found: &mut FoundByKey,
 ) -> Result<(), AllocError>
     ensures stays { StaysFound found.old.entries found.new.entries }
-    ensures holds { OnOk result ((name : List ℕ) → BeginsWith name folder.now →
-        Among (Holds name) found.new.entries) }
-    ensures there { (others : List FoundEntry) (root : Root) (view : View) →
-        All (IsThereOr others root view) found.old.entries → error ≢ Memory → path.items ++ 47 ∷ []
-        ≡ root.path.now ++ folder.now → All (IsThereOr others root view) found.new.entries }
+    ensures holds { OnOk result (FindsEach (λ name. BeginsWith name folder.now)
+        found.new.entries) }
+    ensures there { (root : Root) (view : View) → error ≢ Memory →
+        path.items ++ 47 ∷ [] ≡ root.path.now ++ folder.now →
+        AddsOnlyThere root view found.old.entries found.new.entries }
     ensures files { (before now : FaultCounts) → IsMet error before now →
-        All (IsFileOrMet before now) found.old.entries →
-        All (IsFileOrMet before now) found.new.entries }
+        AddsOnly (IsFileOrMet before now) found.old.entries found.new.entries }
 {
     let source = error;
     found.insert(folder.to_vec(alloc)?, Found::Unlisted { path, source })?;
@@ -163,9 +162,7 @@ impl Root<'_> {
     /// The name and the path of a file with this name on disk, where it is the file of a name.
     fn own_file(self, alloc: Global, disk: &[u8]) -> Result<Option<OwnFile>, AllocError>
         ensures { IfOk result (λ r. MatchOption r (IsListedName self.entry disk.now → ⊥)
-            (λ own. IsOwnName self.entry (full_bytes own.name)
-            × (full_bytes own.name ≡ name_asked self.entry.settings.precompose_unicode disk.now)
-            × (own.path.items ≡ self.entry.path.now ++ disk.now))) }
+            (IsOwnFile self.entry disk.now)) }
     {
         let Some(name) = name_on_disk(alloc, self.settings.precompose_unicode, disk)? else {
             return Ok(None);
@@ -182,13 +179,9 @@ impl Root<'_> {
         ensures stays { StaysFound found.old.entries found.new.entries }
         ensures holds { OnOk result (IsListedName self.entry disk.now →
             Among (Holds disk.now) found.new.entries) }
-        ensures files { (before now : FaultCounts) → All
-            (IsFileOrMet before now) found.old.entries →
-            All (IsFileOrMet before now) found.new.entries }
-        ensures there { (others : List FoundEntry) (view : View) →
-            All (IsThereOr others self.entry view) found.old.entries →
-            IsSome (view (self.entry.path.now ++ disk.now)) →
-            All (IsThereOr others self.entry view) found.new.entries }
+        ensures files { AddsOnlyFiles found.old.entries found.new.entries }
+        ensures there { (view : View) → IsSome (view (self.entry.path.now ++ disk.now)) →
+            AddsOnlyThere self.entry view found.old.entries found.new.entries }
     {
         let Some(OwnFile { name, path }) = self.own_file(alloc, disk)? else {
             return Ok(());
@@ -208,13 +201,9 @@ impl Root<'_> {
         component: &[u8],
         next: &mut Vec<Vec<u8>>,
     ) -> Result<(), AllocError>
-        ensures stays { (name : List ℕ) → IsBelow next.old.items name →
-            IsBelow next.new.items name }
-        ensures leads { OnOk result (NoByte 47 component.now → IsFolderPath folder.now →
-            (name : List ℕ) → IsListedName self.entry name → BeginsWith name
-            (folder.now ++ (component.now ++ codes "/")) → IsBelow next.new.items name) }
-        ensures paths { All (λ f. IsInnerPath f.items) next.old.items →
-            All (λ f. IsInnerPath f.items) next.new.items }
+        ensures adds { AddsFolders next.old.items next.new.items }
+        ensures leads { OnOk result
+            (LeadsInto self.entry folder.now component.now next.new.items) }
     {
         if !may_lead(alloc, component)? {
             return Ok(());
@@ -237,18 +226,12 @@ impl Root<'_> {
         next: &mut Vec<Vec<u8>>,
     ) -> Result<(), AllocError>
         ensures stays { StaysFound found.old.entries found.new.entries }
-        ensures stays_below { (name : List ℕ) → IsBelow next.old.items name →
-            IsBelow next.new.items name }
+        ensures adds { AddsFolders next.old.items next.new.items }
         ensures taken { OnOk result
             (IsTaken self.entry folder.now found.new.entries next.new.items entry.now) }
-        ensures paths { All (λ f. IsInnerPath f.items) next.old.items →
-            All (λ f. IsInnerPath f.items) next.new.items }
-        ensures files { (before now : FaultCounts) → All
-            (IsFileOrMet before now) found.old.entries →
-            All (IsFileOrMet before now) found.new.entries }
-        ensures there { (others : List FoundEntry) (view : View) →
-            All (IsThereOr others self.entry view) found.old.entries → IsFileOf self.entry view
-            folder.now entry.now → All (IsThereOr others self.entry view) found.new.entries }
+        ensures files { AddsOnlyFiles found.old.entries found.new.entries }
+        ensures there { (view : View) → IsFileOf self.entry view folder.now entry.now →
+            AddsOnlyThere self.entry view found.old.entries found.new.entries }
     {
         if entry.is_folder {
             return self.take_folder(alloc, folder, &entry.name, next);
@@ -267,18 +250,13 @@ impl Root<'_> {
         next: &mut Vec<Vec<u8>>,
     ) -> Result<(), AllocError>
         ensures stays { OnOk result (StaysFound found.old.entries found.new.entries) }
-        ensures stays_below { OnOk result ((name : List ℕ) → IsBelow next.old.items name →
-            IsBelow next.new.items name) }
+        ensures adds { OnOk result (AddsFolders next.old.items next.new.items) }
         ensures taken { OnOk result
             (All (IsTaken self.entry folder.now found.new.entries next.new.items) entries.now) }
-        ensures paths { OnOk result (All (λ f. IsInnerPath f.items) next.old.items →
-            All (λ f. IsInnerPath f.items) next.new.items) }
-        ensures files { OnOk result ((before now : FaultCounts) →
-            All (IsFileOrMet before now) found.old.entries →
-            All (IsFileOrMet before now) found.new.entries) }
-        ensures there { OnOk result ((others : List FoundEntry) (view : View) →
-            All (IsThereOr others self.entry view) found.old.entries → All (IsFileOf self.entry view
-            folder.now) entries.now → All (IsThereOr others self.entry view) found.new.entries) }
+        ensures files { OnOk result (AddsOnlyFiles found.old.entries found.new.entries) }
+        ensures there { OnOk result ((view : View) →
+            All (IsFileOf self.entry view folder.now) entries.now →
+            AddsOnlyThere self.entry view found.old.entries found.new.entries) }
     {
         for entry in entries {
             self.take_entry(alloc, folder, entry, found, next)?;
@@ -298,20 +276,15 @@ impl Root<'_> {
     ) -> Result<(), FileError>
         requires { IsRootPath self.path.now }
         ensures stays { OnOk result (StaysFound found.old.entries found.new.entries) }
-        ensures stays_below { OnOk result ((name : List ℕ) → IsBelow next.old.items name →
-            IsBelow next.new.items name) }
+        ensures adds { OnOk result (AddsFolders next.old.items next.new.items) }
         ensures reaches { F.honest → IfOk result
             (λ _. IsFolderPath folder.now → Reaches self.entry (contents F.means files.old)
             (λ name. BeginsWith name folder.now) found.new.entries next.new.items) }
-        ensures paths { OnOk result (All (λ f. IsInnerPath f.items) next.old.items →
-            All (λ f. IsInnerPath f.items) next.new.items) }
-        ensures files { OnOk result ((start : FaultCounts) → NoFewer start (F.faults files.old) →
-            All (IsFileOrMet start (F.faults files.old)) found.old.entries →
-            All (IsFileOrMet start (F.faults files.new)) found.new.entries) }
+        ensures files { OnOk result (AddsOnlyMet (F.faults files.old) (F.faults files.new)
+            found.old.entries found.new.entries) }
         ensures there { F.honest → IfOk result
-            (λ _. IsFolderPath folder.now → (others : List FoundEntry) →
-            All (IsThereOr others self.entry (contents F.means files.old)) found.old.entries →
-            All (IsThereOr others self.entry (contents F.means files.old)) found.new.entries) }
+            (λ _. IsFolderPath folder.now → AddsOnlyThere self.entry (contents F.means files.old)
+            found.old.entries found.new.entries) }
         ensures looks { OnlyReads F.honest F.means F.faults files.old files.new }
         ensures memory { IfErr result (λ error. error ≡ Memory) }
     {
@@ -346,12 +319,10 @@ impl Root<'_> {
         ensures reaches { F.honest → IfOk result (λ next. Reaches self.entry
             (contents F.means files.old) (IsBelow folders.now) found.new.entries next.items) }
         ensures paths { IfOk result (λ next. All (λ f. IsInnerPath f.items) next.items) }
-        ensures files { OnOk result ((start : FaultCounts) → NoFewer start (F.faults files.old) →
-            All (IsFileOrMet start (F.faults files.old)) found.old.entries →
-            All (IsFileOrMet start (F.faults files.new)) found.new.entries) }
-        ensures there { F.honest → OnOk result ((others : List FoundEntry) →
-            All (IsThereOr others self.entry (contents F.means files.old)) found.old.entries →
-            All (IsThereOr others self.entry (contents F.means files.old)) found.new.entries) }
+        ensures files { OnOk result (AddsOnlyMet (F.faults files.old) (F.faults files.new)
+            found.old.entries found.new.entries) }
+        ensures there { F.honest → OnOk result (AddsOnlyThere self.entry
+            (contents F.means files.old) found.old.entries found.new.entries) }
         ensures looks { OnlyReads F.honest F.means F.faults files.old files.new }
         ensures memory { IfErr result (λ error. error ≡ Memory) }
     {
@@ -373,14 +344,12 @@ impl Root<'_> {
     ) -> Result<(), FileError>
         requires { IsRootPath self.path.now }
         ensures stays { OnOk result (StaysFound found.old.entries found.new.entries) }
-        ensures finds { F.honest → OnOk result ((name : List ℕ) → IsLooseName self.entry
-            (contents F.means files.old) name → Among (Holds name) found.new.entries) }
-        ensures files { OnOk result ((start : FaultCounts) → NoFewer start (F.faults files.old) →
-            All (IsFileOrMet start (F.faults files.old)) found.old.entries →
-            All (IsFileOrMet start (F.faults files.new)) found.new.entries) }
-        ensures there { F.honest → OnOk result ((others : List FoundEntry) →
-            All (IsThereOr others self.entry (contents F.means files.old)) found.old.entries →
-            All (IsThereOr others self.entry (contents F.means files.old)) found.new.entries) }
+        ensures finds { F.honest → OnOk result (FindsEach (IsLooseName self.entry
+            (contents F.means files.old)) found.new.entries) }
+        ensures files { OnOk result (AddsOnlyMet (F.faults files.old) (F.faults files.new)
+            found.old.entries found.new.entries) }
+        ensures there { F.honest → OnOk result (AddsOnlyThere self.entry
+            (contents F.means files.old) found.old.entries found.new.entries) }
         ensures looks { OnlyReads F.honest F.means F.faults files.old files.new }
         ensures memory { IfErr result (λ error. error ≡ Memory) }
     {

@@ -9,7 +9,7 @@ returns-in-Ok-Some-clause-item g c = (
   refl,
   λ h.
       let settings = c.args.settings in
-      let hit = rw c.in-Ok-Some.field-0-is at (c.in-Ok-Some.ensures.hit h) in
+      let hit = rw c.in-Ok-Some.field-0-is at (c.in-Ok-Some.ensures.found h) in
       let of_name = subst (λ (n : List ℕ). OfKey (meaning_in settings) n (λ key. HitsNow settings.kind (packed_refs_in settings (g.F.Files.means c.args.files.now)) key c.in-Ok-Some.found)) c.as_ref.ensures hit in
       (of_name.0, of_name.1, (c.in-Ok-Some.found, of_name.2, refl, refl)),
 )
@@ -18,7 +18,7 @@ pub returns-in-Ok-None-clause-item : goal.returns-in-Ok-None-clause-item
 returns-in-Ok-None-clause-item g c =
     let settings = c.args.settings in
     inr
-    (λ h. subst (λ (n : List ℕ). HasNoRecord settings (view_of (g.F.Files.means c.args.files.now).tree) n) c.as_ref.ensures (λ records are. rw c.in-Ok-None.field-0-is at (c.in-Ok-None.ensures.none h records are)), c.gone.ensures)
+    (λ h. subst (λ (n : List ℕ). HasNoRecord settings (view_of (g.F.Files.means c.args.files.now).tree) n) c.as_ref.ensures (rw c.in-Ok-None.field-0-is at (c.in-Ok-None.ensures.found h)), c.gone.ensures)
 
 pub returns-in-Err-clause-item : goal.returns-in-Err-clause-item
 returns-in-Err-clause-item g c = inl c.of_records.ensures

@@ -14,11 +14,11 @@ returns-in-Ok-clause-lists g c h records held =
     let before = F.faults c.args.files.now in
     let now = F.faults c.walk.new.files in
     subst (λ (p : List ℕ). IfOk c.merge_walked.result (ListsAll (plain settings) view records p before now)) c.in-Ok.ensures.asked
-    (c.merge_walked.ensures.lists view before now records (c.in-Ok.ensures.walks h) (subst (λ (p : List ℕ). AreHeldOf (key_in settings p) c.args.packed records) (sym c.in-Ok.ensures.asked) held))
+    (c.merge_walked.ensures.lists view before now (c.in-Ok.ensures.walks h) records (subst (λ (p : List ℕ). AreHeldOf (key_in settings p) c.args.packed records) (sym c.in-Ok.ensures.asked) held))
 
 pub returns-in-Ok-clause-owes : goal.returns-in-Ok-clause-owes
 returns-in-Ok-clause-owes g c h text given =
     let F = g.F.Files in
     let settings = c.args.settings in
-    c.merge_walked.ensures.owes (view_of (F.means c.args.files.now).tree) (F.faults c.args.files.now) (F.faults c.walk.new.files) text (c.in-Ok.ensures.walks h)
+    c.merge_walked.ensures.owes (view_of (F.means c.args.files.now).tree) (F.faults c.args.files.now) (F.faults c.walk.new.files) (c.in-Ok.ensures.walks h) text
     (subst (λ (p : List ℕ). IsTextFor (key_in settings p) c.args.packed text) (sym c.in-Ok.ensures.asked) given)

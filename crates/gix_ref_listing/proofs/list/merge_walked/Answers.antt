@@ -11,7 +11,7 @@ use Rattle.gix_ref_listing.proofs.Listing.{found_rises, listing_is, all_names}
 use Rattle.gix_ref_listing.proofs.list.merge_walked.Goals as goal
 
 pub returns-clause-lists : goal.returns-clause-lists
-returns-clause-lists c view before now records walk held =
+returns-clause-lists c view before now walk records held =
     let settings = c.args.settings in
     let es = c.args.names.found.entries in
     let prefix = c.args.names.prefix.items in
@@ -27,7 +27,7 @@ returns-clause-lists c view before now records walk held =
     }
 
 pub returns-clause-owes : goal.returns-clause-owes
-returns-clause-owes c view before now text walk given =
+returns-clause-owes c view before now walk text given =
     let settings = c.args.settings in
     let prefix = c.args.names.prefix.items in
     let asked = subst (λ (p : List ℕ). IsTextFor (key_in settings p) c.args.packed text) (sym c.deref.ensures.value) given in

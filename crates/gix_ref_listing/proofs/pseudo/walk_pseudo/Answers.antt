@@ -23,7 +23,7 @@ returns-clause-finds g c h name listed =
     let settings = c.args.settings in
     let view = view_of (g.F.Files.means c.args.files.now).tree in
     let at = c.deref-2.ensures.value ∙ (c.in-Ok.ensures.front ∙ ap (λ (folder : List ℕ). below folder (namespace_text settings.namespace.now)) c.deref.ensures.value) in
-    let inner = c.in_ok-walk_folder.ensures.paths (all_none (λ (f : Vec ℕ Global). IsInnerPath f.items) c.new-inner.result.items (ap length c.new-inner.ensures.items)) in
+    let inner = c.in_ok-walk_folder.ensures.adds.inner (all_none (λ (f : Vec ℕ Global). IsInnerPath f.items) c.new-inner.result.items (ap length c.new-inner.ensures.items)) in
     let held = ⊎_elim (λ is. is) (λ below. absurd (not_inner name listed.0 c.walk_folder.new.next.items inner below))
     (c.in_ok-walk_folder.ensures.reaches h (inl refl) name (pseudo_of_root _ settings view refl at refl name listed) (name, refl)) in
     subst (Among (Holds name)) (sym c.keep_pseudo.ensures) (kept_holds name listed.0 c.walk_folder.new.found.entries held)

@@ -9,7 +9,7 @@ pub returns-clause-holds : goal.returns-clause-holds
 returns-clause-holds c name begins = unlisted_holds c.args.found.now.entries c.insert.new.self.entries _ _ c.args.error c.in_ok-insert.ensures.entries name (begins.0, begins.1 ∙ ap (λ f. f ++ begins.0) (sym (c.in_ok-to_vec.ensures.items_if_clones_equal (λ x y e. e))))
 
 pub returns-clause-there : goal.returns-clause-there
-returns-clause-there c others root view all other at =
+returns-clause-there c root view other at others all =
     let copied = c.in_ok-to_vec.ensures.items_if_clones_equal (λ x y e. e) in
     unlisted_there c.args.found.now.entries c.insert.new.self.entries _ _ c.args.error c.in_ok-insert.ensures.entries others root view all other (at ∙ ap (λ f. root.path.now ++ f) (sym copied))
 

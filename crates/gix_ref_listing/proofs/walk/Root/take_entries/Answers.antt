@@ -12,11 +12,13 @@ loop-entry-preserved c =
     let i = c.loop-entry.entry-index in
     record {
       stays = λ name had. step.stays name (before.stays name had);
-      stays_below = λ name had. step.stays_below name (before.stays_below name had);
+      adds = record {
+        stays = λ name had. step.adds.stays name (before.adds.stays name had);
+        inner = λ all. step.adds.inner (before.adds.inner all);
+      };
       taken = one_more (IsTaken c.args.self c.args.folder.now c.take_entry.new.found.entries c.take_entry.new.next.items) entries i c.entry-item.result
-          (λ k d below. stays_taken c.args.self c.args.folder.now c.loop-entry.found.entries c.take_entry.new.found.entries c.loop-entry.next.items c.take_entry.new.next.items (slice_index_or entries k d) step.stays step.stays_below (before.taken k d below))
+          (λ k d below. stays_taken c.args.self c.args.folder.now c.loop-entry.found.entries c.take_entry.new.found.entries c.loop-entry.next.items c.take_entry.new.next.items (slice_index_or entries k d) step.stays step.adds.stays (before.taken k d below))
           c.loop-entry-test.true c.entry-item.is c.in_ok-take_entry.ensures.taken;
-      paths = λ all. step.paths (before.paths all);
       files = λ first last all. step.files first last (before.files first last all);
-      there = λ others view all of. step.there others view (before.there others view all of) (subst (IsFileOf c.args.self view c.args.folder.now) (sym c.entry-item.is) (of i c.entry-item.result c.loop-entry-test.true));
+      there = λ view of others all. step.there view (subst (IsFileOf c.args.self view c.args.folder.now) (sym c.entry-item.is) (of i c.entry-item.result c.loop-entry-test.true)) others (before.there view of others all);
     }

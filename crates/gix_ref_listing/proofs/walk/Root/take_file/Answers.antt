@@ -24,7 +24,7 @@ pub returns-in_ok-insert-clause-files : goal.returns-in_ok-insert-clause-files
 returns-in_ok-insert-clause-files c before now all = file_is_file _ c.in-Some.field-0.name c.in-Some.field-0.path c.args.found.now.entries c.insert.new.self.entries c.in_ok-insert.ensures.entries before now all
 
 pub returns-in_ok-insert-clause-there : goal.returns-in_ok-insert-clause-there
-returns-in_ok-insert-clause-there c others view all there =
+returns-in_ok-insert-clause-there c view there others all =
     let own = rw c.in-Some.is at c.in_ok-name.ensures in
     let key = c.in_ok-key.ensures.items_if_clones_equal (λ x y e. e) ∙ c.to_path.ensures.bytes in
     let file : IsFileOfName c.args.self view (full_bytes c.in-Some.field-0.name) c.in-Some.field-0.path.items = record {

@@ -28,7 +28,7 @@ returns-in-Ok-take_entries-clause-there g c h at others all =
     let here : c.deref.result.now ≡ way.0 = c.deref.ensures.value ∙ c.in-Ok.ensures way.0 way.2 in
     let entries = c.deref-in-Ok-Some.result.now in
     let listing : ListsFolder T way.0 entries = subst (ListsFolder T way.0) (sym c.deref-in-Ok-Some.ensures.value) (subst (λ p. ListsFolder T p c.in-Ok-Some.entries.items) here listed.1) in
-    c.in-Ok-take_entries.ensures.there others (view_of T) all (entries_there c.args.self T c.args.folder.now way.0 entries way.2 listing)
+    c.in-Ok-take_entries.ensures.there (view_of T) (entries_there c.args.self T c.args.folder.now way.0 entries way.2 listing) others all
 
 pub returns-in-Ok-None-clause-reaches : goal.returns-in-Ok-None-clause-reaches
 returns-in-Ok-None-clause-reaches g c h at name loose begins =
@@ -44,14 +44,13 @@ returns-in-Ok-keep_unlisted g c =
     let other : c.in-Err.error ≢ Memory = search rules in
     record {
       stays = c.keep_unlisted.ensures.stays;
-      stays_below = λ name had. had;
+      adds = record { stays = λ name had. had; inner = λ all. all };
       reaches = λ h path name loose begins. inl (c.in-Ok-keep_unlisted.ensures.holds name begins);
-      paths = λ all. all;
       files = λ start le all.
           let old = g.F.Files.faults c.args.files.now in
           let new = g.F.Files.faults c.list.new.self in
           c.keep_unlisted.ensures.files start new (met_wider le (no_fewer_starts new) (met_after c.in-Err.error old new other c.in-Err.ensures.count)) (met_on start old new c.args.found.now.entries (counts_up c.in-Err.error old new c.in-Err.ensures.count) all);
-      there = λ h at others all. let way = path_of_folder c.args.self.path.now c.args.folder.now c.requires at in c.keep_unlisted.ensures.there others c.args.self (view_of (g.F.Files.means c.args.files.now).tree) all other (ap (λ p. p ++ 47 ∷ []) (c.in-Ok.ensures way.0 way.2) ∙ sym way.2);
+      there = λ h at others all. let way = path_of_folder c.args.self.path.now c.args.folder.now c.requires at in c.keep_unlisted.ensures.there c.args.self (view_of (g.F.Files.means c.args.files.now).tree) other (ap (λ p. p ++ 47 ∷ []) (c.in-Ok.ensures way.0 way.2) ∙ sym way.2) others all;
       looks = record { leaves = c.list.ensures.leaves; passes = c.list.ensures.passes; no_fewer = counts_up c.in-Err.error _ _ c.in-Err.ensures.count };
       memory = _;
     }

@@ -32,10 +32,10 @@ loop-folder-preserved g c =
           let here : BeginsWith name folder.items → Among (Holds name) found ⊎ (IsBelow next name ⊎ IsBelow (drop (i + 1) folders) name) =
           λ begins. ⊎_elim (λ is. inl is) (λ later. inr (inl later)) (done.reaches h at name in_mid (subst (BeginsWith name) (sym c.deref.ensures.value) begins)) in
           ⊎_elim (λ is. inl (done.stays name is))
-          (λ more. ⊎_elim (λ later. inr (inl (done.stays_below name later)))
+          (λ more. ⊎_elim (λ later. inr (inl (done.adds.stays name later)))
           (λ rest. ⊎_elim here (λ others. inr (inr others)) (among_next (λ (f : Vec ℕ Global). BeginsWith name f.items) folders i folder c.loop-folder-test.true c.folder-item.is rest)) more)
           (before.reaches h name loose below);
-      paths = done.paths before.paths;
+      paths = done.adds.inner before.paths;
       files = λ start le all. done.files start (no_fewer_joins le before.looks.no_fewer) (before.files start le all);
       there = λ h others all. subst (λ (T : Tree). All (IsThereOr others root (view_of T)) found) (before.looks.leaves h).tree (done.there h at others (subst (λ (T : Tree). All (IsThereOr others root (view_of T)) c.loop-folder.found.entries) (sym (before.looks.leaves h).tree) (before.there h others all)));
       looks = reads_more _ _ _ _ _ _ before.looks step.looks;

@@ -1,8 +1,7 @@
 use Rattle.std.proofs.Common.{ℕ, List, ◌⊎◌, drop}
 use Rattle.std.specs.List.{All}
-use Rattle.gix_ref_files.specs.Files.{FaultCounts, NoFewer}
 use Rattle.gix_ref_theory.specs.OnRealTrees.{view_of}
-use Rattle.gix_ref_listing.specs.Walks.{IsThereOr, FoundEntry, StaysFound, IsInnerPath, IsBelow, Holds, IsLooseName, IsFileOrMet}
+use Rattle.gix_ref_listing.specs.Walks.{AddsOnlyMet, AddsOnlyThere, Holds, IsBelow, IsInnerPath, IsLooseName, StaysFound}
 use Rattle.gix_ref_listing.proofs.walk.Root.walk_level.Given as goal
 use Rattle.gix_ref_lookup.specs.Lookups.{Among}
 use Rattle.gix_ref_files.specs.ReadOnly.{OnlyReads}
@@ -16,7 +15,7 @@ invariant-loop-folder g l =
       stays : StaysFound l.fn.found.entries l.found.entries;
       reaches : F.honest → (name : List ℕ) → IsLooseName l.self view name → IsBelow l.folders name → Among (Holds name) l.found.entries ⊎ (IsBelow l.next.items name ⊎ IsBelow (drop l.folder-index l.folders) name);
       paths : All (λ f. IsInnerPath f.items) l.next.items;
-      files : (start : FaultCounts) → NoFewer start (F.faults l.fn.files) → All (IsFileOrMet start (F.faults l.fn.files)) l.fn.found.entries → All (IsFileOrMet start (F.faults l.files)) l.found.entries;
-      there : F.honest → (others : List FoundEntry) → All (IsThereOr others l.self view) l.fn.found.entries → All (IsThereOr others l.self view) l.found.entries;
+      files : AddsOnlyMet (F.faults l.fn.files) (F.faults l.files) l.fn.found.entries l.found.entries;
+      there : F.honest → AddsOnlyThere l.self view l.fn.found.entries l.found.entries;
       looks : OnlyReads F.honest F.means F.faults l.fn.files l.files;
     }

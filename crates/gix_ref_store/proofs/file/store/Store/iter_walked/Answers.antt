@@ -31,7 +31,7 @@ returns-in-Ok g c = (
         let now = F.faults (files_of store) in
         let same = same_settings start store walked.looks_up.same in
         let found : ListsAll (settings_of start) view records prefix before now c.in-Ok.merge = subst (λ (x : Settings). ListsAll x view records prefix before now c.in-Ok.merge) (sym same)
-        (c.in-Ok.ensures.lists view before now records (subst (λ (x : Settings). IsWalkOf x view before now c.args.names) same walked.walk) held) in
+        (c.in-Ok.ensures.lists view before now (subst (λ (x : Settings). IsWalkOf x view before now c.args.names) same walked.walk) records held) in
         record {
           listed = found.listed;
           is = found.is;
@@ -46,7 +46,7 @@ returns-in-Ok g c = (
         let before = F.faults (files_of start) in
         let now = F.faults (files_of store) in
         lacks_none F.honest F.means F.faults (settings_of store) text _ refl
-        (c.in-Ok.ensures.owes (view_in F.means start) before now text (subst (λ (x : Settings). IsWalkOf x (view_in F.means start) before now c.args.names) same walked.walk) of);
+        (c.in-Ok.ensures.owes (view_in F.means start) before now (subst (λ (x : Settings). IsWalkOf x (view_in F.means start) before now c.args.names) same walked.walk) text of);
     memory = _;
   },
 )
