@@ -17,12 +17,13 @@ use Rattle.std.specs.Prelude.{Vec}
 use Rattle.std.specs.declared.alloc.Global.{Global}
 use Rattle.gix_ref_files.specs.Tree.{Tree, Path, is_file}
 use Rattle.gix_ref_lookup.specs.Lookups.{meaning_in}
-use Rattle.gix_ref_lookup.specs.StoreLayout.{folders_of, git_options, namespace_text}
+use Rattle.gix_ref_lookup.specs.StoreLayout.{folders_of, git_options}
 use Rattle.gix_ref_lookup.specs.declared.settings.Settings.{Settings}
 use Rattle.gix_ref_files.specs.Lock.{lock_of}
+use Rattle.gix_ref_listing.specs.LooseListings.{front_in}
 use Rattle.gix_ref_listing.proofs.WalkLemmas.{behind_slash}
 use Rattle.gix_ref_locks.specs.LockFiles.{IsLockOf, IsLockFile, HasPath}
-use Rattle.gix_ref_locks.specs.LockWalks.{IsStemOf, IsLockBelow, IsSought}
+use Rattle.gix_ref_locks.specs.LockWalks.{FindsLocks, IsStemOf, IsSought}
 
 no_slash_in : (n : List ℕ) → list_all is_pseudo_byte n ≡ true → has_slash n ≡ false
 no_slash_in [] h = refl
@@ -95,9 +96,7 @@ module _ (f : Layout) (o : Options) where
 
 -- the locks of references that are sought in a folder are among these paths
 abbrev pub FindsIn : Settings → Tree → (keys : List (Vec ℕ Global)) → (folder : List ℕ) → Type 0
-FindsIn settings T keys folder =
-    let front = below folder (namespace_text settings.namespace.now) in
-    (stem : List ℕ) → IsLockBelow (meaning_in settings) front T stem → IsSought stem → HasPath (front ++ lock_of stem) keys
+FindsIn settings T keys folder = FindsLocks (meaning_in settings) (front_in settings folder) T IsSought keys
 
 -- and so each lock of the store is
 pub found_lock : (settings : Settings) (T : Tree) (keys : List (Vec ℕ Global)) → let s = meaning_in settings in let f = folders_of settings.dirs.now settings.namespace.now in

@@ -14,6 +14,7 @@ use Rattle.gix_ref_theory.specs.Readings.{Store}
 use Rattle.gix_ref_lookup.specs.Lookups.{meaning_in, Among}
 use Rattle.gix_ref_lookup.specs.declared.settings.Settings.{Settings}
 use Rattle.gix_ref_listing.specs.LooseListings.{IsFront}
+use Rattle.gix_ref_listing.specs.Walks.{AddsOnly}
 use Rattle.gix_ref_locks.specs.declared.locks.Error.{Error}
 use Rattle.gix_ref_locks.specs.declared.locks.Error.TheVariants.{Memory, Io}
 
@@ -21,13 +22,21 @@ use Rattle.gix_ref_locks.specs.declared.locks.Error.TheVariants.{Memory, Io}
 abbrev pub IsLockOf : Store → (name : List ℕ) → Path → Type 0
 IsLockOf s name path = (s.is_reference name ≡ true) × (path ≡ lock_of (s.place name))
 
+-- the path of the lock of `packed-refs`
+abbrev pub packed_lock : Store → Path
+packed_lock s = lock_of s.packed_path
+
 -- a lock of the store is at this path, if there is one: that of a reference, or that of `packed-refs`
 abbrev pub IsLockPlace : Store → Path → Type 0
-IsLockPlace s path = (path ≡ lock_of s.packed_path) ⊎ ((name : List ℕ) × IsLockOf s name path)
+IsLockPlace s path = (path ≡ packed_lock s) ⊎ ((name : List ℕ) × IsLockOf s name path)
 
 -- and a file is there
 abbrev pub IsLockFile : Store → Tree → Path → Type 0
 IsLockFile s T path = IsLockPlace s path × (is_file (T path) ≡ true)
+
+-- only lock files of the store in this tree are added
+abbrev pub AddsOnlyLocks : Store → Tree → (old new : List (Vec ℕ Global)) → Type 0
+AddsOnlyLocks s T old new = AddsOnly (λ (p : Vec ℕ Global). IsLockFile s T p.items) old new
 
 -- this path is one of these
 abbrev pub HasPath : Path → List (Vec ℕ Global) → Type 0
@@ -45,7 +54,7 @@ pub record AreLockFiles (s : Store) (T : Tree) (paths : List (Vec ℕ Global)) :
 
 -- the path of the lock of `packed-refs`, or that of a folder of references of the store or of one below it
 abbrev pub IsLookedAt : Settings → Path → Type 0
-IsLookedAt settings path = (path ≡ lock_of (meaning_in settings).packed_path)
+IsLookedAt settings path = (path ≡ packed_lock (meaning_in settings))
     ⊎ ((front folder : List ℕ) × IsFront settings front × (path ++ 47 ∷ [] ≡ front ++ folder))
 
 -- why the lock files were not listed: no memory; or a fault that was counted, of a call for this path

@@ -32,11 +32,21 @@ IsSought stem = NoByte 47 stem ⊎ (BeginsWith stem (codes "refs/")
 abbrev pub StaysFound : (old new : List (Vec ℕ Global)) → Type 0
 StaysFound old new = (path : Path) → HasPath path old → HasPath path new
 
+-- each lock of a reference in this folder of the store whose stem has this is found
+abbrev pub FindsLocks : Store → (front : List ℕ) → Tree → (List ℕ → Type 0) →
+    (found : List (Vec ℕ Global)) → Type 0
+FindsLocks s front T Has found = (stem : List ℕ) → IsLockBelow s front T stem → Has stem →
+    HasPath (front ++ lock_of stem) found
+
+-- a file of this name is found, if it is the lock of a reference
+abbrev pub FindsLock : Store → (front file : List ℕ) → (found : List (Vec ℕ Global)) → Type 0
+FindsLock s front file found = (stem : List ℕ) → file ≡ lock_of stem →
+    IsStemOf s stem (front ++ lock_of stem) → HasPath (front ++ lock_of stem) found
+
 -- An entry of a folder was looked at: the lock of a reference is found, and a folder is to be walked.
 pub record IsTaken (s : Store) (front folder : List ℕ) (found next : List (Vec ℕ Global))
     (entry : ListedEntry) : Type 0 where
-  pub file : entry.is_folder ≡ false → (stem : List ℕ) → folder ++ entry.name.items ≡ lock_of stem →
-      IsStemOf s stem (front ++ lock_of stem) → HasPath (front ++ lock_of stem) found
+  pub file : entry.is_folder ≡ false → FindsLock s front (folder ++ entry.name.items) found
   pub leads : entry.is_folder ≡ true → (name : List ℕ) →
       BeginsWith name (folder ++ (entry.name.items ++ codes "/")) → IsBelow next name
 

@@ -1,5 +1,5 @@
 -- What the removal of lock files makes of a tree.
-use Rattle.std.specs.Prelude.{◌≡◌, ◌≢◌, ◌⊎◌, ℕ, ◌+◌, List, [], ◌∷◌, ◌++◌, Vec, if◌then◌else◌, take}
+use Rattle.std.specs.Prelude.{◌≡◌, ◌≢◌, ◌⊎◌, ℕ, ◌+◌, List, [], ◌∷◌, ◌++◌, Vec, if◌then◌else◌, take, slice_index_or}
 use Rattle.std.specs.declared.alloc.Global.{Global}
 use Rattle.gix_ref_files.specs.Tree.{Tree, Path, removed, is_file}
 use Rattle.gix_ref_files.specs.Files.{FaultCounts, IsMet}
@@ -28,6 +28,13 @@ IsPartlyWithout paths before T = (n : ℕ) × (T ≡ without before (take n path
 abbrev pub EndsAt : List (Vec ℕ Global) → Tree → Tree → Stopped → Type 0
 EndsAt paths before T stopped = (T ≡ without before (take stopped.at paths))
     ⊎ (T ≡ without before (take (stopped.at + 1) paths))
+
+-- the error of a removal that ended at one of the files: the paths of those before it, its own, and why
+abbrev pub IsStoppedAt : List (Vec ℕ Global) → Stopped → Error → Type 0
+IsStoppedAt paths stopped error = (removed : Vec (Vec ℕ Global) Global) × (path : Vec ℕ Global)
+    × (error ≡ RemoveFile removed path stopped.source)
+    × (removed.items ≡ take stopped.at paths)
+    × (path ≡ slice_index_or paths stopped.at path)
 
 -- some of the lock files of a store are gone, the first ones
 abbrev pub IsPartlyUnlocked : Store → Tree → Tree → Type 0

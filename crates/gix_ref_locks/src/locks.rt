@@ -1,12 +1,10 @@
 //! The lock files of a store: those of its references, and that of `packed-refs`.
-ghost use Rattle.std.specs.Prelude.{◌≡◌, ◌⊎◌, ◌++◌, ◌∷◌, IfOk, IfErr, OnOk, Vec, ℕ, List};
+ghost use Rattle.std.specs.Prelude.{◌≡◌, IfOk, IfErr, OnOk, Vec, ℕ, List};
 ghost use Rattle.std.specs.declared.alloc.Global.{Global};
 ghost use Rattle.std.specs.List.{All};
-ghost use Rattle.gix_ref_files.specs.Lock.{lock_of};
-ghost use Rattle.gix_ref_files.specs.Tree.{Tree};
 ghost use Rattle.gix_ref_files.specs.ReadOnly.{OnlyReads};
 ghost use Rattle.gix_ref_lookup.specs.Lookups.{meaning_in};
-ghost use Rattle.gix_ref_locks.specs.LockFiles.{AreLockFiles, IsLockFile, IsLockFailure, HasPath};
+ghost use Rattle.gix_ref_locks.specs.LockFiles.{packed_lock, AddsOnlyLocks, AreLockFiles, IsLockFile, IsLockFailure, HasPath};
 ghost use Rattle.gix_ref_locks.specs.LockWalks.{StaysFound};
 
 use crate::search::search_in;
@@ -41,7 +39,7 @@ impl From<AllocError> for Error {
 
 /// The path of the lock of `packed-refs`.
 fn packed_lock_path(alloc: Global, settings: Settings<'_>) -> Result<Vec<u8>, AllocError>
-    ensures { IfOk result (λ path. path.items ≡ lock_of (meaning_in settings.entry).packed_path) }
+    ensures { IfOk result (λ path. path.items ≡ packed_lock (meaning_in settings.entry)) }
 {
     let mut path = settings.packed_refs_path(alloc)?;
     path.extend_from_slice(b".lock")?;
@@ -57,13 +55,10 @@ fn look_for_packed_lock<F: Files>(
 ) -> Result<(), Error>
     ensures stays { OnOk result (StaysFound found.old.keys found.new.keys) }
     ensures finds { F.honest → OnOk result (IsLockFile (meaning_in settings.entry)
-        (F.means files.old).tree (lock_of (meaning_in settings.entry).packed_path) →
-        HasPath (lock_of (meaning_in settings.entry).packed_path) found.new.keys) }
-    ensures only { F.honest → OnOk result (
-        All (λ p. IsLockFile (meaning_in settings.entry) (F.means files.old).tree p.items)
-        found.old.keys →
-        All (λ p. IsLockFile (meaning_in settings.entry) (F.means files.old).tree p.items)
-        found.new.keys) }
+        (F.means files.old).tree (packed_lock (meaning_in settings.entry)) →
+        HasPath (packed_lock (meaning_in settings.entry)) found.new.keys) }
+    ensures only { F.honest → OnOk result (AddsOnlyLocks (meaning_in settings.entry)
+        (F.means files.old).tree found.old.keys found.new.keys) }
     ensures looks { OnlyReads F.honest F.means F.faults files.old files.new }
     ensures failed { IfErr result
         (IsLockFailure settings.entry (F.faults files.old) (F.faults files.new)) }

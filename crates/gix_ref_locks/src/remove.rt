@@ -1,10 +1,10 @@
 //! The removal of the lock files of a store.
-ghost use Rattle.std.specs.Prelude.{◌≡◌, ◌≢◌, ◌<◌, ◌++◌, ◌∷◌, OnOk, IfOk, IfErr, length, take, slice_index_or, Vec, ℕ};
+ghost use Rattle.std.specs.Prelude.{◌≡◌, ◌≢◌, ◌<◌, OnOk, IfOk, IfErr, length, Vec};
 ghost use Rattle.std.specs.declared.alloc.Global.{Global};
 ghost use Rattle.gix_ref_files.specs.Files.{AtEveryStop, IsMet, NoFewer};
 ghost use Rattle.gix_ref_files.specs.declared.files.FileError.TheVariants.{Memory};
 ghost use Rattle.gix_ref_lookup.specs.Lookups.{meaning_in};
-ghost use Rattle.gix_ref_locks.specs.Removals.{without, IsPartlyWithout, EndsAt, IsPartlyUnlocked, IsUnlocked, IsLeftLocked, IsUnlockFailure};
+ghost use Rattle.gix_ref_locks.specs.Removals.{without, IsPartlyWithout, EndsAt, IsPartlyUnlocked, IsStoppedAt, IsUnlocked, IsLeftLocked, IsUnlockFailure};
 
 use crate::locks::{self, list_locks};
 use gix_ref_files::files::{FileError, Files};
@@ -61,10 +61,7 @@ fn remove_files<F: Files>(files: &mut F, paths: &[Vec<u8>]) -> Result<(), Stoppe
 /// The error of a removal that ended at one of these paths.
 fn stopped_at(mut paths: Vec<Vec<u8>>, stopped: Stopped) -> Error
     requires { stopped.at < length paths.items }
-    ensures { (removed : Vec (Vec ℕ Global) Global) × (path : Vec ℕ Global)
-        × (result ≡ Error.RemoveFile removed path stopped.source)
-        × (removed.items ≡ take stopped.at paths.items)
-        × (path ≡ slice_index_or paths.items stopped.at path) }
+    ensures { IsStoppedAt paths.items stopped result }
 {
     let path = paths.remove(stopped.at);
     paths.truncate(stopped.at);

@@ -1,17 +1,14 @@
 //! The locks of references in one folder of a store.
-ghost use Rattle.std.specs.Prelude.{◌≡◌, ◌≢◌, ◌⊎◌, ◌++◌, [], IfOk, IfErr, OnOk, Vec, ℕ, List};
+ghost use Rattle.std.specs.Prelude.{◌≡◌, ◌≢◌, [], IfOk, IfErr, OnOk, Vec};
 ghost use Rattle.std.specs.declared.alloc.Global.{Global};
-ghost use Rattle.std.specs.List.{All};
-ghost use Rattle.gix_ref_files.specs.Tree.{Tree};
-ghost use Rattle.gix_ref_files.specs.Lock.{lock_of};
 ghost use Rattle.gix_ref_target.specs.Layout.{below};
 ghost use Rattle.gix_ref_files.specs.ReadOnly.{OnlyReads};
 ghost use Rattle.gix_ref_lookup.specs.Lookups.{meaning_in};
 ghost use Rattle.gix_ref_lookup.specs.StoreLayout.{namespace_text};
 ghost use Rattle.gix_ref_listing.specs.Walks.{IsFolderPath, IsRootPath};
-ghost use Rattle.gix_ref_listing.specs.LooseListings.{IsFront};
-ghost use Rattle.gix_ref_locks.specs.LockFiles.{IsLockFile, IsLockFailure, HasPath};
-ghost use Rattle.gix_ref_locks.specs.LockWalks.{IsLockBelow, IsSought, StaysFound, FailsBelow};
+ghost use Rattle.gix_ref_listing.specs.LooseListings.{front_in, IsFront};
+ghost use Rattle.gix_ref_locks.specs.LockFiles.{AddsOnlyLocks, IsLockFailure};
+ghost use Rattle.gix_ref_locks.specs.LockWalks.{FindsLocks, IsSought, StaysFound, FailsBelow};
 
 use crate::locks::Error;
 use crate::walk::LockRoot;
@@ -61,15 +58,10 @@ impl LockRoot<'_> {
     ) -> Result<(), Error>
         requires { IsRootPath self.front.now }
         ensures stays { OnOk result (StaysFound found.old.keys found.new.keys) }
-        ensures finds { F.honest → OnOk result ((stem : List ℕ) →
-            IsLockBelow (meaning_in self.entry.settings) self.entry.front.now
-            (F.means files.old).tree stem → IsSought stem →
-            HasPath (self.entry.front.now ++ lock_of stem) found.new.keys) }
-        ensures only { F.honest → OnOk result (
-            All (λ p. IsLockFile (meaning_in self.entry.settings) (F.means files.old).tree p.items)
-            found.old.keys →
-            All (λ p. IsLockFile (meaning_in self.entry.settings) (F.means files.old).tree p.items)
-            found.new.keys) }
+        ensures finds { F.honest → OnOk result (FindsLocks (meaning_in self.entry.settings)
+            self.entry.front.now (F.means files.old).tree IsSought found.new.keys) }
+        ensures only { F.honest → OnOk result (AddsOnlyLocks (meaning_in self.entry.settings)
+            (F.means files.old).tree found.old.keys found.new.keys) }
         ensures looks { OnlyReads F.honest F.means F.faults files.old files.new }
         ensures failed { IfErr result
             (FailsBelow self.entry.front.now (F.faults files.old) (F.faults files.new)) }
@@ -91,19 +83,12 @@ pub(crate) fn search_in<F: Files>(
     found: &mut BTreeSet<Vec<u8>>,
 ) -> Result<(), Error>
     requires folder { folder.now ≢ [] }
-    requires front { IsFront settings (below folder.now (namespace_text settings.namespace.now)) }
+    requires front { IsFront settings (front_in settings folder.now) }
     ensures stays { OnOk result (StaysFound found.old.keys found.new.keys) }
-    ensures finds { F.honest → OnOk result ((stem : List ℕ) →
-        IsLockBelow (meaning_in settings.entry)
-        (below folder.now (namespace_text settings.entry.namespace.now))
-        (F.means files.old).tree stem → IsSought stem →
-        HasPath (below folder.now (namespace_text settings.entry.namespace.now) ++ lock_of stem)
-        found.new.keys) }
-    ensures only { F.honest → OnOk result (
-        All (λ p. IsLockFile (meaning_in settings.entry) (F.means files.old).tree p.items)
-        found.old.keys →
-        All (λ p. IsLockFile (meaning_in settings.entry) (F.means files.old).tree p.items)
-        found.new.keys) }
+    ensures finds { F.honest → OnOk result (FindsLocks (meaning_in settings.entry)
+        (front_in settings.entry folder.now) (F.means files.old).tree IsSought found.new.keys) }
+    ensures only { F.honest → OnOk result (AddsOnlyLocks (meaning_in settings.entry)
+        (F.means files.old).tree found.old.keys found.new.keys) }
     ensures looks { OnlyReads F.honest F.means F.faults files.old files.new }
     ensures failed { IfErr result
         (IsLockFailure settings.entry (F.faults files.old) (F.faults files.new)) }

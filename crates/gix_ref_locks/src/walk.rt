@@ -1,17 +1,16 @@
 //! The locks of references below a folder, found level by level.
-ghost use Rattle.std.specs.Prelude.{◌≡◌, ◌≢◌, ◌⊎◌, ◌↔◌, ◌++◌, ◌∷◌, [], IfOk, IfErr, OnOk, IsTrue, MatchOption, Vec, ℕ, List, true, codes};
+ghost use Rattle.std.specs.Prelude.{◌≡◌, ◌≢◌, ◌↔◌, ◌++◌, ◌∷◌, [], IfOk, IfErr, OnOk, IsTrue, MatchOption, Vec, ℕ, List, true};
 ghost use Rattle.std.specs.declared.alloc.Global.{Global};
 ghost use Rattle.std.specs.List.{All};
 ghost use Rattle.gix_ref_hash.specs.Bytes.{BeginsWith};
 ghost use Rattle.gix_ref_files.specs.Tree.{Tree, is_file};
 ghost use Rattle.gix_ref_files.specs.Lock.{lock_of};
-ghost use Rattle.gix_ref_files.specs.Files.{FaultCounts};
 ghost use Rattle.gix_ref_theory.specs.Readings.{Store};
 ghost use Rattle.gix_ref_files.specs.ReadOnly.{OnlyReads};
 ghost use Rattle.gix_ref_lookup.specs.Lookups.{meaning_in};
-ghost use Rattle.gix_ref_listing.specs.Walks.{IsFolderPath, IsInnerPath, IsRootPath, IsBelow};
-ghost use Rattle.gix_ref_locks.specs.LockFiles.{IsLockOf, IsLockFile, HasPath};
-ghost use Rattle.gix_ref_locks.specs.LockWalks.{IsStemOf, IsLockBelow, StaysFound, IsTaken, Reaches, IsFileIn, FailsBelow};
+ghost use Rattle.gix_ref_listing.specs.Walks.{AddsFolders, IsFolderPath, IsInnerPath, IsRootPath, IsBelow};
+ghost use Rattle.gix_ref_locks.specs.LockFiles.{AddsOnlyLocks, IsLockOf, IsLockFile, HasPath};
+ghost use Rattle.gix_ref_locks.specs.LockWalks.{FindsLock, FindsLocks, IsStemOf, StaysFound, IsTaken, Reaches, IsFileIn, FailsBelow};
 
 use crate::locks::Error;
 use gix_ref_files::files::{Entry, FileError, Files};
@@ -84,8 +83,7 @@ pub(crate) fn keep(found: &mut BTreeSet<Vec<u8>>, path: Vec<u8>) -> Result<(), A
     ensures stays { OnOk result (StaysFound found.old.keys found.new.keys) }
     ensures kept { OnOk result (HasPath path.items found.new.keys) }
     ensures only { OnOk result ((s : Store) (T : Tree) → IsLockFile s T path.items →
-        All (λ p. IsLockFile s T p.items) found.old.keys →
-        All (λ p. IsLockFile s T p.items) found.new.keys) }
+        AddsOnlyLocks s T found.old.keys found.new.keys) }
 {
     found.insert(path)?;
     Ok(())
@@ -127,13 +125,11 @@ impl LockRoot<'_> {
         found: &mut BTreeSet<Vec<u8>>,
     ) -> Result<(), AllocError>
         ensures stays { OnOk result (StaysFound found.old.keys found.new.keys) }
-        ensures finds { OnOk result ((stem : List ℕ) → file.now ≡ lock_of stem →
-            IsStemOf (meaning_in self.entry.settings) stem (self.entry.front.now ++ lock_of stem) →
-            HasPath (self.entry.front.now ++ lock_of stem) found.new.keys) }
+        ensures finds { OnOk result (FindsLock (meaning_in self.entry.settings)
+            self.entry.front.now file.now found.new.keys) }
         ensures only { OnOk result ((T : Tree) →
             is_file (T (self.entry.front.now ++ file.now)) ≡ true →
-            All (λ p. IsLockFile (meaning_in self.entry.settings) T p.items) found.old.keys →
-            All (λ p. IsLockFile (meaning_in self.entry.settings) T p.items) found.new.keys) }
+            AddsOnlyLocks (meaning_in self.entry.settings) T found.old.keys found.new.keys) }
     {
         let Some(stem) = stem_of(file) else {
             return Ok(());
@@ -155,16 +151,12 @@ impl LockRoot<'_> {
         next: &mut Vec<Vec<u8>>,
     ) -> Result<(), AllocError>
         ensures stays { OnOk result (StaysFound found.old.keys found.new.keys) }
-        ensures stays_below { OnOk result ((name : List ℕ) → IsBelow next.old.items name →
-            IsBelow next.new.items name) }
+        ensures adds { OnOk result (AddsFolders next.old.items next.new.items) }
         ensures taken { OnOk result (IsTaken (meaning_in self.entry.settings) self.entry.front.now
             folder.now found.new.keys next.new.items entry.now) }
-        ensures paths { OnOk result (All (λ f. IsInnerPath f.items) next.old.items →
-            All (λ f. IsInnerPath f.items) next.new.items) }
         ensures only { OnOk result ((T : Tree) →
             IsFileIn T self.entry.front.now folder.now entry.now →
-            All (λ p. IsLockFile (meaning_in self.entry.settings) T p.items) found.old.keys →
-            All (λ p. IsLockFile (meaning_in self.entry.settings) T p.items) found.new.keys) }
+            AddsOnlyLocks (meaning_in self.entry.settings) T found.old.keys found.new.keys) }
     {
         let mut path = joined(alloc, folder, &entry.name)?;
         if entry.is_folder {
@@ -186,16 +178,12 @@ impl LockRoot<'_> {
         next: &mut Vec<Vec<u8>>,
     ) -> Result<(), AllocError>
         ensures stays { OnOk result (StaysFound found.old.keys found.new.keys) }
-        ensures stays_below { OnOk result ((name : List ℕ) → IsBelow next.old.items name →
-            IsBelow next.new.items name) }
+        ensures adds { OnOk result (AddsFolders next.old.items next.new.items) }
         ensures taken { OnOk result (All (IsTaken (meaning_in self.entry.settings)
             self.entry.front.now folder.now found.new.keys next.new.items) entries.now) }
-        ensures paths { OnOk result (All (λ f. IsInnerPath f.items) next.old.items →
-            All (λ f. IsInnerPath f.items) next.new.items) }
         ensures only { OnOk result ((T : Tree) →
             All (IsFileIn T self.entry.front.now folder.now) entries.now →
-            All (λ p. IsLockFile (meaning_in self.entry.settings) T p.items) found.old.keys →
-            All (λ p. IsLockFile (meaning_in self.entry.settings) T p.items) found.new.keys) }
+            AddsOnlyLocks (meaning_in self.entry.settings) T found.old.keys found.new.keys) }
     {
         for entry in entries {
             self.take_entry(alloc, folder, entry, found, next)?;
@@ -215,18 +203,12 @@ impl LockRoot<'_> {
         requires root { IsRootPath self.front.now }
         requires path { IsFolderPath folder.now }
         ensures stays { OnOk result (StaysFound found.old.keys found.new.keys) }
-        ensures stays_below { OnOk result ((name : List ℕ) → IsBelow next.old.items name →
-            IsBelow next.new.items name) }
+        ensures adds { OnOk result (AddsFolders next.old.items next.new.items) }
         ensures reaches { F.honest → OnOk result (Reaches (meaning_in self.entry.settings)
             self.entry.front.now (F.means files.old).tree (λ stem. BeginsWith stem folder.now)
             found.new.keys next.new.items) }
-        ensures paths { OnOk result (All (λ f. IsInnerPath f.items) next.old.items →
-            All (λ f. IsInnerPath f.items) next.new.items) }
-        ensures only { F.honest → OnOk result (
-            All (λ p. IsLockFile (meaning_in self.entry.settings) (F.means files.old).tree p.items)
-            found.old.keys →
-            All (λ p. IsLockFile (meaning_in self.entry.settings) (F.means files.old).tree p.items)
-            found.new.keys) }
+        ensures only { F.honest → OnOk result (AddsOnlyLocks (meaning_in self.entry.settings)
+            (F.means files.old).tree found.old.keys found.new.keys) }
         ensures looks { OnlyReads F.honest F.means F.faults files.old files.new }
         ensures failed { IfErr result
             (FailsBelow self.entry.front.now (F.faults files.old) (F.faults files.new)) }
@@ -260,11 +242,8 @@ impl LockRoot<'_> {
             self.entry.front.now (F.means files.old).tree (IsBelow folders.now)
             found.new.keys next.items) }
         ensures paths { IfOk result (λ next. All (λ f. IsInnerPath f.items) next.items) }
-        ensures only { F.honest → OnOk result (
-            All (λ p. IsLockFile (meaning_in self.entry.settings) (F.means files.old).tree p.items)
-            found.old.keys →
-            All (λ p. IsLockFile (meaning_in self.entry.settings) (F.means files.old).tree p.items)
-            found.new.keys) }
+        ensures only { F.honest → OnOk result (AddsOnlyLocks (meaning_in self.entry.settings)
+            (F.means files.old).tree found.old.keys found.new.keys) }
         ensures looks { OnlyReads F.honest F.means F.faults files.old files.new }
         ensures failed { IfErr result
             (FailsBelow self.entry.front.now (F.faults files.old) (F.faults files.new)) }
@@ -287,15 +266,11 @@ impl LockRoot<'_> {
         requires root { IsRootPath self.front.now }
         requires path { IsFolderPath start.now }
         ensures stays { OnOk result (StaysFound found.old.keys found.new.keys) }
-        ensures finds { F.honest → OnOk result ((stem : List ℕ) →
-            IsLockBelow (meaning_in self.entry.settings) self.entry.front.now
-            (F.means files.old).tree stem → BeginsWith stem start.now →
-            HasPath (self.entry.front.now ++ lock_of stem) found.new.keys) }
-        ensures only { F.honest → OnOk result (
-            All (λ p. IsLockFile (meaning_in self.entry.settings) (F.means files.old).tree p.items)
-            found.old.keys →
-            All (λ p. IsLockFile (meaning_in self.entry.settings) (F.means files.old).tree p.items)
+        ensures finds { F.honest → OnOk result (FindsLocks (meaning_in self.entry.settings)
+            self.entry.front.now (F.means files.old).tree (λ stem. BeginsWith stem start.now)
             found.new.keys) }
+        ensures only { F.honest → OnOk result (AddsOnlyLocks (meaning_in self.entry.settings)
+            (F.means files.old).tree found.old.keys found.new.keys) }
         ensures looks { OnlyReads F.honest F.means F.faults files.old files.new }
         ensures failed { IfErr result
             (FailsBelow self.entry.front.now (F.faults files.old) (F.faults files.new)) }

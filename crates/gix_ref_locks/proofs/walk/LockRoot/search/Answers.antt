@@ -28,7 +28,7 @@ returns-clause-finds g c h stem lock sought =
     let second = (c.walk.ensures.looks.leaves h).tree in
     let lock_1 = subst (λ (T : Tree). IsLockBelow s front T stem) (sym first) lock in
     let lock_2 = subst (λ (T : Tree). IsLockBelow s front T stem) (sym second) lock_1 in
-    let inner = c.in_ok-walk_folder.ensures.paths (all_none (λ (f : Vec ℕ Global). IsInnerPath f.items) c.new-inner.result.items (ap length c.new-inner.ensures.items)) in
+    let inner = c.in_ok-walk_folder.ensures.adds.inner (all_none (λ (f : Vec ℕ Global). IsInnerPath f.items) c.new-inner.result.items (ap length c.new-inner.ensures.items)) in
     ⊎_elim (λ none. ⊎_elim (λ is. c.in_ok-walk-2.ensures.stays path (c.in_ok-walk.ensures.stays path is)) (λ below. absurd (not_inner stem none c.walk_folder.new.next.items inner below)) (c.in_ok-walk_folder.ensures.reaches h stem lock (stem, refl)))
     (λ deep. ⊎_elim (λ refs. c.in_ok-walk-2.ensures.stays path (c.in_ok-walk.ensures.finds h stem lock_1 refs)) (λ linked. c.in_ok-walk-2.ensures.finds h stem lock_2 linked) deep)
     sought

@@ -17,10 +17,12 @@ loop-entry-preserved c =
     let i = c.loop-entry.entry-index in
     record {
       stays = λ path had. step.stays path (before.stays path had);
-      stays_below = λ name had. step.stays_below name (before.stays_below name had);
+      adds = record {
+        stays = λ name had. step.adds.stays name (before.adds.stays name had);
+        inner = λ all. step.adds.inner (before.adds.inner all);
+      };
       taken = one_more (IsTaken s front folder c.take_entry.new.found.keys c.take_entry.new.next.items) entries i c.entry-item.result
-          (λ k d below. stays_taken s front folder c.loop-entry.found.keys c.take_entry.new.found.keys c.loop-entry.next.items c.take_entry.new.next.items (slice_index_or entries k d) step.stays step.stays_below (before.taken k d below))
+          (λ k d below. stays_taken s front folder c.loop-entry.found.keys c.take_entry.new.found.keys c.loop-entry.next.items c.take_entry.new.next.items (slice_index_or entries k d) step.stays step.adds.stays (before.taken k d below))
           c.loop-entry-test.true c.entry-item.is step.taken;
-      paths = λ all. step.paths (before.paths all);
       only = λ T of all. step.only T (subst (IsFileIn T front folder) (sym c.entry-item.is) (of i c.entry-item.result c.loop-entry-test.true)) (before.only T of all);
     }

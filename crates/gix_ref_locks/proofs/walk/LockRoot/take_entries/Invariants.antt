@@ -1,10 +1,10 @@
-use Rattle.std.proofs.Common.{ℕ, ◌<◌, List}
+use Rattle.std.proofs.Common.{ℕ, ◌<◌}
 use Rattle.std.specs.List.{All, slice_index_or}
 use Rattle.gix_ref_files.specs.declared.files.Entry.{Entry}
 use Rattle.gix_ref_files.specs.Tree.{Tree}
 use Rattle.gix_ref_lookup.specs.Lookups.{meaning_in}
-use Rattle.gix_ref_listing.specs.Walks.{IsInnerPath, IsBelow}
-use Rattle.gix_ref_locks.specs.LockFiles.{IsLockFile}
+use Rattle.gix_ref_listing.specs.Walks.{AddsFolders}
+use Rattle.gix_ref_locks.specs.LockFiles.{AddsOnlyLocks}
 use Rattle.gix_ref_locks.specs.LockWalks.{IsFileIn, IsTaken, StaysFound}
 use Rattle.gix_ref_locks.proofs.walk.LockRoot.take_entries.Given as goal
 
@@ -15,8 +15,7 @@ invariant-loop-entry l =
     let front = l.self.front.now in
     record {
       stays : StaysFound l.fn.found.keys l.found.keys;
-      stays_below : (name : List ℕ) → IsBelow l.fn.next.items name → IsBelow l.next.items name;
+      adds : AddsFolders l.fn.next.items l.next.items;
       taken : (k : ℕ) (d : Entry) → k < l.entry-index → IsTaken s front l.folder l.found.keys l.next.items (slice_index_or l.entries k d);
-      paths : All (λ f. IsInnerPath f.items) l.fn.next.items → All (λ f. IsInnerPath f.items) l.next.items;
-      only : (T : Tree) → All (IsFileIn T front l.folder) l.entries → All (λ p. IsLockFile s T p.items) l.fn.found.keys → All (λ p. IsLockFile s T p.items) l.found.keys;
+      only : (T : Tree) → All (IsFileIn T front l.folder) l.entries → AddsOnlyLocks s T l.fn.found.keys l.found.keys;
     }

@@ -9,8 +9,13 @@ use Rattle.gix_ref_listing.specs.Walks.{IsBelow, IsInnerPath}
 use Rattle.gix_ref_listing.proofs.WalkLemmas.{among_before, among_pushed, not_both}
 use Rattle.gix_ref_locks.proofs.walk.LockRoot.take_entry.Goals as goal
 
-pub returns-then-entry-clause-stays_below : goal.returns-then-entry-clause-stays_below
-returns-then-entry-clause-stays_below c name had = subst (λ fs. IsBelow fs name) (sym c.in_ok-push-2.ensures.items) (among_before (λ f. BeginsWith name f.items) c.args.next.now.items _ had)
+pub returns-then-entry-clause-adds : goal.returns-then-entry-clause-adds
+returns-then-entry-clause-adds c =
+    let P = λ (f : Vec ℕ Global). IsInnerPath f.items in
+    record {
+      stays = λ name had. subst (λ fs. IsBelow fs name) (sym c.in_ok-push-2.ensures.items) (among_before (λ f. BeginsWith name f.items) c.args.next.now.items _ had);
+      inner = λ all. subst (All P) (sym c.in_ok-push-2.ensures.items) (All-append P c.args.next.now.items (c.push.new.self ∷ []) all (All-cons P c.push.new.self [] (c.in_ok-path.path.items, c.in_ok-push.ensures.items) (All-nil P)));
+    }
 
 pub returns-then-entry-clause-taken : goal.returns-then-entry-clause-taken
 returns-then-entry-clause-taken c =
@@ -22,11 +27,6 @@ returns-then-entry-clause-taken c =
       file = λ not_folder stem is lock. absurd (not_both c.args.entry.now.is_folder c.if-entry.true not_folder);
       leads = λ is_folder name begins. subst (λ fs. IsBelow fs name) (sym c.in_ok-push-2.ensures.items) (among_pushed (λ f. BeginsWith name f.items) c.args.next.now.items c.push.new.self (begins.0, begins.1 ∙ ap (λ t. t ++ begins.0) (sym pushed)));
     }
-
-pub returns-then-entry-clause-paths : goal.returns-then-entry-clause-paths
-returns-then-entry-clause-paths c all =
-    let P = λ (f : Vec ℕ Global). IsInnerPath f.items in
-    subst (All P) (sym c.in_ok-push-2.ensures.items) (All-append P c.args.next.now.items (c.push.new.self ∷ []) all (All-cons P c.push.new.self [] (c.in_ok-path.path.items, c.in_ok-push.ensures.items) (All-nil P)))
 
 pub returns-clause-taken : goal.returns-clause-taken
 returns-clause-taken c =

@@ -5,7 +5,7 @@ use Rattle.gix_ref_files.specs.Lock.{lock_of}
 use Rattle.gix_ref_lookup.specs.Lookups.{meaning_in}
 use Rattle.gix_ref_files.specs.ReadOnly.{OnlyReads}
 use Rattle.gix_ref_listing.specs.Walks.{IsFolderPath, IsBelow}
-use Rattle.gix_ref_locks.specs.LockFiles.{IsLockFile, HasPath}
+use Rattle.gix_ref_locks.specs.LockFiles.{AddsOnlyLocks, HasPath}
 use Rattle.gix_ref_locks.specs.LockWalks.{IsLockBelow, StaysFound}
 use Rattle.gix_ref_locks.proofs.walk.LockRoot.walk.Given as goal
 
@@ -20,6 +20,6 @@ invariant-loop g l =
       stays : StaysFound l.fn.found.keys l.found.keys;
       reaches : F.honest → (stem : List ℕ) → IsLockBelow s front T stem → BeginsWith stem l.start → HasPath (front ++ lock_of stem) l.found.keys ⊎ IsBelow l.folders.items stem;
       paths : All (λ f. IsFolderPath f.items) l.folders.items;
-      only : F.honest → All (λ p. IsLockFile s T p.items) l.fn.found.keys → All (λ p. IsLockFile s T p.items) l.found.keys;
+      only : F.honest → AddsOnlyLocks s T l.fn.found.keys l.found.keys;
       looks : OnlyReads F.honest F.means F.faults l.fn.files l.files;
     }

@@ -48,9 +48,8 @@ returns g c =
     let way = path_of_folder c.args.self.front.now c.args.folder.now c.requires.root c.requires.path in
     record {
       stays = _;
-      stays_below = _;
+      adds = _;
       reaches = λ h. _;
-      paths = _;
       only = λ h. _;
       looks = record { leaves = c.list.ensures.leaves; passes = c.list.ensures.passes; no_fewer = counts_up c.in-Err.source _ _ c.in-Err.ensures.count };
       failed = (other, met_after c.in-Err.source _ _ other c.in-Err.ensures.count, (c.args.folder.now, ap (λ p. p ++ 47 ∷ []) (c.in-Ok.ensures way.0 way.2) ∙ sym way.2));

@@ -32,10 +32,10 @@ loop-folder-preserved g c =
           let here : BeginsWith stem folder.items → HasPath (front ++ lock_of stem) found ⊎ (IsBelow next stem ⊎ IsBelow (drop (i + 1) folders) stem) =
           λ begins. ⊎_elim (λ is. inl is) (λ later. inr (inl later)) (done.reaches h stem in_mid (subst (BeginsWith stem) (sym c.deref.ensures.value) begins)) in
           ⊎_elim (λ is. inl (done.stays (front ++ lock_of stem) is))
-          (λ more. ⊎_elim (λ later. inr (inl (done.stays_below stem later)))
+          (λ more. ⊎_elim (λ later. inr (inl (done.adds.stays stem later)))
           (λ rest. ⊎_elim here (λ others. inr (inr others)) (among_next (λ (f : Vec ℕ Global). BeginsWith stem f.items) folders i folder c.loop-folder-test.true c.folder-item.is rest)) more)
           (before.reaches h stem lock below);
-      paths = done.paths before.paths;
+      paths = done.adds.inner before.paths;
       only = λ h all. subst (λ (T : Tree). All (λ p. IsLockFile s T p.items) found) (before.looks.leaves h).tree (done.only h (subst (λ (T : Tree). All (λ p. IsLockFile s T p.items) c.loop-folder.found.keys) (sym (before.looks.leaves h).tree) (before.only h all)));
       looks = reads_more _ _ _ _ _ _ before.looks step.looks;
     }

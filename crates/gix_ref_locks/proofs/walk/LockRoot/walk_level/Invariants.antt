@@ -4,7 +4,7 @@ use Rattle.gix_ref_files.specs.Lock.{lock_of}
 use Rattle.gix_ref_lookup.specs.Lookups.{meaning_in}
 use Rattle.gix_ref_files.specs.ReadOnly.{OnlyReads}
 use Rattle.gix_ref_listing.specs.Walks.{IsInnerPath, IsBelow}
-use Rattle.gix_ref_locks.specs.LockFiles.{IsLockFile, HasPath}
+use Rattle.gix_ref_locks.specs.LockFiles.{AddsOnlyLocks, HasPath}
 use Rattle.gix_ref_locks.specs.LockWalks.{IsLockBelow, StaysFound}
 use Rattle.gix_ref_locks.proofs.walk.LockRoot.walk_level.Given as goal
 
@@ -19,6 +19,6 @@ invariant-loop-folder g l =
       stays : StaysFound l.fn.found.keys l.found.keys;
       reaches : F.honest → (stem : List ℕ) → IsLockBelow s front T stem → IsBelow l.folders stem → HasPath (front ++ lock_of stem) l.found.keys ⊎ (IsBelow l.next.items stem ⊎ IsBelow (drop l.folder-index l.folders) stem);
       paths : All (λ f. IsInnerPath f.items) l.next.items;
-      only : F.honest → All (λ p. IsLockFile s T p.items) l.fn.found.keys → All (λ p. IsLockFile s T p.items) l.found.keys;
+      only : F.honest → AddsOnlyLocks s T l.fn.found.keys l.found.keys;
       looks : OnlyReads F.honest F.means F.faults l.fn.files l.files;
     }
