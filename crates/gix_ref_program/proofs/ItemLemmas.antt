@@ -56,6 +56,16 @@ rest_printed a b c text all before written = Appends-kept a (append_known b text
     by (Some x) None w = absurd w
     by (Some x) (Some y) w = w
 
+-- one item more
+pub yields_more : {S A : Type 0} (steps : S → Option A → S → Type 0) (s t u : S) (items : List A) (item : A) → Yields steps s items t → steps t (Some item) u → Yields steps s (items ++ item ∷ []) u
+yields_more steps s t u [] item gave next = (u, subst (λ x. steps x (Some item) u) (sym gave) next, refl)
+yields_more steps s t u (first ∷ items) item (mid, one, gave) next = (mid, one, yields_more steps mid t u items item gave next)
+
+-- nothing is printed yet
+pub none_printed : (out : Option (List ℕ)) → Appends out (append_known out []) []
+none_printed None = _
+none_printed (Some x) = refl
+
 -- what a loop was given is a whole run
 pub whole_run : {S A : Type 0} (steps : S → Option A → S → Type 0) (s t u : S) (items : List A) → Yields steps s items t → steps t None u → WholeRun steps s (λ run. run.items ≡ items)
 unfolding Trigger YieldsRun

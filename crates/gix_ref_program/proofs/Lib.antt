@@ -6,6 +6,7 @@ pub mod WordLemmas
 pub mod ItemLemmas
 pub mod Listing
 pub mod ListLoop
+pub mod LogLoop
 pub mod LentLines
 pub mod Writing
 pub mod ScriptWords

@@ -18,18 +18,8 @@ use Rattle.gix_ref_store.specs.declared.file.iter.LooseThenPacked.{LooseThenPack
 use Rattle.gix_ref_store.specs.declared.file.iter.Remaining.{Remaining}
 use Rattle.gix_ref_program.specs.ListPrinting.{item_text, list_text, next_text, PrintsAll, PrintsNext}
 use Rattle.gix_ref_program.specs.Printed.{items_status}
-use Rattle.gix_ref_program.proofs.ItemLemmas.{status_fault, status_line, item_printed, rest_printed}
+use Rattle.gix_ref_program.proofs.ItemLemmas.{status_fault, status_line, item_printed, rest_printed, yields_more, none_printed}
 use Rattle.gix_ref_program.proofs.Listing.{looks_on}
-
--- one item more
-yields_more : {S A : Type 0} (steps : S → Option A → S → Type 0) (s t u : S) (items : List A) (item : A) → Yields steps s items t → steps t (Some item) u → Yields steps s (items ++ item ∷ []) u
-yields_more steps s t u [] item gave next = (u, subst (λ x. steps x (Some item) u) (sym gave) next, refl)
-yields_more steps s t u (first ∷ items) item (mid, one, gave) next = (mid, one, yields_more steps mid t u items item gave next)
-
--- nothing is printed yet
-none_printed : (out : Option (List ℕ)) → Appends out (append_known out []) []
-none_printed None = _
-none_printed (Some x) = refl
 
 module _ {F : Type 0} (honest : Type 0) (means : F → Meaning) (faults : F → FaultCounts) where
   -- from one state of an iterator to another: the same store, with the same files

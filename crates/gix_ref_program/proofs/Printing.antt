@@ -7,8 +7,8 @@ use Rattle.gix_ref_name.specs.NameGrammar.{full_error}
 use Rattle.gix_ref_files.specs.Files.{Meaning}
 use Rattle.gix_ref_files.specs.Tree.{Content, is_file, bytes_of}
 use Rattle.gix_ref_files.specs.declared.files.ReadAt.{Ghosts}
-use Rattle.gix_ref_log.specs.LogItems.{IsRun, items_from}
-use Rattle.gix_ref_log.specs.LogWindows.{NextStep}
+use Rattle.gix_ref_log.specs.LogItems.{IsLentRun, items_from}
+use Rattle.gix_ref_log.specs.LogWindows.{NextRefStep}
 use Rattle.gix_ref_log.specs.declared.log.iter.backward.Reverse.{Reverse}
 use Rattle.gix_ref_lookup.specs.declared.reflog.error.Error.{Error as LogError}
 use Rattle.gix_ref_lookup.specs.declared.reflog.error.Error.TheVariants as log_errors
@@ -34,7 +34,7 @@ prints_more Does More out now status more p = record { ran = p.ran; does = more 
 -- the items of a log are printed
 pub logged : {F R E : Type 0} (G : Ghosts R) (honest : Type 0) (means : F → Meaning) (old new : Store F) (name : List ℕ) (lines : Reverse R) (out now : Option (List ℕ)) (status : Result ℕ E) →
     full_error name ≡ None → (honest → ReadsBackward G (reflog_at means old name) 4096 (Some lines)) → EndsAtErrors G (Some lines) →
-    IfOk status (λ s. WholeRun (NextStep G.honest G.bytes G.faults) lines (λ run. (s ≡ items_status run.items) × Appends out now (log_text run.items))) →
+    IfOk status (λ s. WholeRun (NextRefStep G.honest G.bytes G.faults) lines (λ run. (s ≡ items_status run.items) × Appends out now (log_text run.items))) →
     Prints (LogRan honest means old new name) out now status
 logged G honest means old new name lines out now (Ok s) full reads ends ran =
     let run = ran.0 in
@@ -42,8 +42,8 @@ logged G honest means old new name lines out now (Ok s) full reads ends ran =
       ran = Logged true run.items;
       does = (
         full,
-        λ h. inr ((reads h).0, subst (λ (w : Bool). IsRun (w ≡ true) (items_from 4096 1 (bytes_of (reflog_at means old name))) run.items) ran.2 ((reads h).1 run run.seen ran.1)),
-        ends run run.seen ran.1,
+        λ h. inr ((reads h).0, subst (λ (w : Bool). IsLentRun (w ≡ true) (items_from 4096 1 (bytes_of (reflog_at means old name))) run.items) ran.2 ((reads h).2 run run.seen ran.1)),
+        ends.1 run run.seen ran.1,
       );
       prints = (refl, ran.3.0, ran.3.1);
     }

@@ -33,7 +33,7 @@ use Rattle.gix_ref_listing.specs.declared.error.Error.{Error as ListError}
 use Rattle.gix_ref_listing.specs.declared.list.LooseNames.{LooseNames}
 use Rattle.gix_ref_listing.specs.declared.prefix.Error.TheVariants as no_list
 use Rattle.gix_ref_log.specs.LogItems.{EndsAtError}
-use Rattle.gix_ref_log.specs.declared.log.line.Line.{Line as LogLine}
+use Rattle.gix_ref_log.specs.declared.log.line.LineRef.{LineRef}
 use Rattle.gix_ref_log.specs.declared.log.iter.error.ReverseError.{ReverseError}
 use Rattle.gix_ref_store.specs.declared.file.store.Store.{Store}
 use Rattle.gix_ref_reflog.specs.declared.write_reflog.WriteReflog.TheVariants.{Normal, Disable}
@@ -79,7 +79,7 @@ IsCommitterOf line committer = option_map signature_ref_who committer ≡ line.c
 pub data Ran : Type 0 where
   Said : Outcome → Ran
   Listed : (whole : Bool) (items : List (Result Reference ListError)) → Ran
-  Logged : (whole : Bool) (items : List (Result LogLine ReverseError)) → Ran
+  Logged : (whole : Bool) (items : List (Result LineRef ReverseError)) → Ran
   Scripted : (end : ScriptEnd) (said : List Outcome) → Ran
 
 -- what is printed of it, and the status
