@@ -10,6 +10,7 @@ ghost use Rattle.gix_ref_program.specs.ListPrinting.{fault_word, item_text, Prin
 use crate::block::{push_fault, write_block};
 use crate::outcome::push_reference;
 use gix_ref_files::files::Files;
+use gix_ref_hash::hash::push_lower_hex;
 use gix_ref_listing::own_records::OwnRecord;
 use gix_ref_store::file::iter::LooseThenPacked;
 use gix_ref_store::file::iter::loose_then_packed::Error;
@@ -61,7 +62,7 @@ fn print_item<W: Write>(
 fn push_record(text: &mut Vec<u8>, own: OwnRecord<'_>) -> Result<(), AllocError>
     ensures { OnOk result (PushesRecord own.entry text.old.items text.new.items) }
 {
-    own.record.target().push_hex(text)?;
+    push_lower_hex(own.record.target, text)?;
     text.extend_from_slice(b" ")?;
     text.extend_from_slice(own.name.to_path())?;
     text.extend_from_slice(b"\n")?;
