@@ -114,11 +114,14 @@ begins_slash f p slash begins =
     let whole : p ≡ f ++ rest = (starts_is Decides-eqb p f (starts_with nat_eq p f) refl).0 begins in
     ap (list_any is_slash) whole ∙ slash rest
 
+pub refs_slash : (p : List ℕ) → starts_with nat_eq p (codes "refs/") ≡ true → list_any is_slash p ≡ true
+refs_slash p = begins_slash (codes "refs/") p (λ r. refl)
+
 rooted_slash : (p : List ℕ) → is_full_ref_path p ≡ true → list_any is_slash p ≡ true
 rooted_slash p rooted = go (starts_with nat_eq p (codes "refs/")) (starts_with nat_eq p (codes "main-worktree/")) (starts_with nat_eq p (codes "worktrees/")) refl refl refl rooted
   where
     go : (a b c : Bool) → starts_with nat_eq p (codes "refs/") ≡ a → starts_with nat_eq p (codes "main-worktree/") ≡ b → starts_with nat_eq p (codes "worktrees/") ≡ c → ((a || b) || c) ≡ true → list_any is_slash p ≡ true
-    go true b c e f g h = begins_slash (codes "refs/") p (λ r. refl) e
+    go true b c e f g h = refs_slash p e
     go false true c e f g h = begins_slash (codes "main-worktree/") p (λ r. refl) f
     go false false true e f g h = begins_slash (codes "worktrees/") p (λ r. refl) g
     go false false false e f g h = absurd (cc)

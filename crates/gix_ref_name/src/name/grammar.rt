@@ -2,7 +2,7 @@
 ghost use Rattle.std.specs.Prelude.{◌≡◌, ◌≤◌, ◌+◌, length, ◌==◌, ◌&&◌, codes, IfOk, IfErr, OnOk, IfNone, Some, None, Ok, Err, find, false};
 ghost use Rattle.std.specs.Bool.{OnTrue};
 ghost use Rattle.std.specs.List.{list_any, list_all};
-ghost use Rattle.gix_ref_hash.specs.Bytes.{occurs, components};
+ghost use Rattle.gix_ref_hash.specs.Bytes.{is_slash, occurs, components};
 ghost use Rattle.gix_ref_name.specs.NameGrammar.{AllFollow, is_plain, may_follow, is_invalid, is_pseudo_byte, is_dotted, is_locked, byte_error, IsPartialName, partial_error, full_error};
 
 use crate::name::Error;
@@ -241,6 +241,14 @@ pub fn broken_partial_rule(name: &[u8]) -> Option<Error>
     }
 }
 
+/// Whether a name has a slash. Most full names begin with `refs/`, which is seen at once.
+#[tactic(auto, using(crate::proofs::CandidateNames::refs_slash))]
+fn has_slash(name: &[u8]) -> bool
+    ensures { result ≡ list_any is_slash name.now }
+{
+    name.starts_with(b"refs/") || name.contains(&b'/')
+}
+
 /// The first of the rules for full names that the name breaks (`git check-ref-format`). As gix-validate's
 /// `reference::name`.
 #[tactic(auto, unfolding(crate::specs::NameGrammar::full_error))]
@@ -251,7 +259,7 @@ pub fn broken_full_rule(name: &[u8]) -> Option<Error>
     if let Some(error) = broken_partial_rule(name) {
         return Some(error);
     }
-    if name.contains(&b'/') || is_pseudo_name(name) {
+    if has_slash(name) || is_pseudo_name(name) {
         None
     } else {
         Some(Error::SomeLowercase)
