@@ -36,53 +36,8 @@ tied_over Reading log buf pos end n is = absurd (cc)
 tied_over Done log buf pos end n is = tt
 
 module _ {F T : Type 0} (R : ℕ → List ℕ → T → Type 0) (honest : Type 0) (bytes : F → List ℕ) (faults : F → FaultCounts) (buf : List ℕ) (s t : Reverse F) where
-  -- where no line comes it is the same, whatever a line is
-  pub none_step : StepOf (ReadsPlace buf) honest bytes faults s None t → StepOf R honest bytes faults s None t
-  none_step a = record {
-    same_reference = a.same_reference;
-    same_bytes = a.same_bytes;
-    counts = a.counts;
-    done = a.done;
-    stays_done = λ is. (refl, (a.stays_done is).1);
-    gives = λ h tied. a.gives h tied;
-  }
-
   not_some : {A B : Type 0} (x : A) (e : Some x ≡ None) → B
   not_some x e = absurd (cc)
-
-  pub error_step : (e : ReverseError) → StepOf (ReadsPlace buf) honest bytes faults s (Some (Err e)) t → StepOf R honest bytes faults s (Some (Err e)) t
-  error_step (Decode d) a = record {
-    same_reference = a.same_reference;
-    same_bytes = a.same_bytes;
-    counts = a.counts;
-    done = a.done;
-    stays_done = λ is. not_some _ (a.stays_done is).0;
-    gives = λ h tied. a.gives h tied;
-  }
-  error_step (Io d) a = record {
-    same_reference = a.same_reference;
-    same_bytes = a.same_bytes;
-    counts = a.counts;
-    done = a.done;
-    stays_done = λ is. not_some _ (a.stays_done is).0;
-    gives = λ h tied. a.gives h tied;
-  }
-  error_step BufferTooSmall a = record {
-    same_reference = a.same_reference;
-    same_bytes = a.same_bytes;
-    counts = a.counts;
-    done = a.done;
-    stays_done = λ is. not_some _ (a.stays_done is).0;
-    gives = λ h tied. a.gives h tied;
-  }
-  error_step Memory a = record {
-    same_reference = a.same_reference;
-    same_bytes = a.same_bytes;
-    counts = a.counts;
-    done = a.done;
-    stays_done = λ is. not_some _ (a.stays_done is).0;
-    gives = λ h tied. a.gives h tied;
-  }
 
   module _ (p : Place) (a : StepOf (ReadsPlace buf) honest bytes faults s (Some (Ok p)) t) where
     -- a line, or a text that is none

@@ -1,7 +1,9 @@
 -- Whole runs backwards.
-use Rattle.std.proofs.Common.{◌≡◌, ℕ, ◌+◌, true, List, [], ◌∷◌, refl, sym, ◌∙◌, ap, subst, Some, None, Result, Ok, Err}
+use Rattle.std.proofs.Common.{◌≡◌, ◌≢◌, ℕ, ◌+◌, true, List, [], ◌∷◌, refl, sym, ◌∙◌, ap, subst, Some, None, Result, Ok, Err}
 use Rattle.gix_ref_files.specs.Files.{FaultCounts}
 use Rattle.std.specs.Iterator.{Yields}
+use Rattle.std.specs.List.{All}
+use Rattle.std.proofs.lemmas.List.Elements.{All-cons, All-nil}
 use Rattle.std.specs.Iterator.Runs.{YieldsRun, EachRunFrom}
 use Rattle.gix_ref_log.specs.declared.log.iter.error.ReverseError.{ReverseError}
 use Rattle.gix_ref_log.specs.declared.log.iter.error.ReverseError.TheVariants.{Io, Decode, BufferTooSmall, Memory}
@@ -11,9 +13,9 @@ use Rattle.gix_ref_log.specs.declared.log.iter.decode.Error as decode
 use Rattle.gix_ref_log.specs.declared.log.iter.forwards.Forward.{Forward}
 use Rattle.gix_ref_log.specs.LogCuts.{log_lines}
 use Rattle.gix_ref_log.specs.LogForward.{ForwardStep}
-use Rattle.gix_ref_log.specs.LogItems.{Item, GivesLine, IsRunOf, IsAnswer, IsForwardRun, EndsAtError, count_of, faults_after}
+use Rattle.gix_ref_log.specs.LogItems.{Item, GivesLine, IsRunOf, IsLentRun, ReadsLent, IsAnswer, IsForwardRun, EndsAtError, count_of, faults_after}
 use Rattle.gix_ref_log.specs.declared.log.iter.stage.Stage.TheVariants.{Done}
-use Rattle.gix_ref_log.specs.LogWindows.{IsTied, items_left, StepOf}
+use Rattle.gix_ref_log.specs.LogWindows.{IsTied, items_left, StepOf, NextRefStep}
 
 -- where nothing is to come, no item comes
 ended : {T : Type 0} (R : ℕ → List ℕ → T → Type 0) (r : Result T ReverseError) (rest : List Item) → GivesLine R [] (Some r) rest → ⊥
@@ -85,6 +87,34 @@ module _ {F T : Type 0} (R : ℕ → List ℕ → T → Type 0) (honest : Type 0
       let gave = p.gave.0 in
       let start : Yields (StepOf R honest bytes faults) s p.items gave.0 = subst (λ (x : Reverse F). Yields (StepOf R honest bytes faults) x p.items gave.0) from gave.1 in
       subst (λ (l : List Item). IsRunOf R (p.whole ≡ true) l p.items) is (run_law (p.whole ≡ true) p.items s gave.0 tied start gave.2)
+
+-- runs of lent lines: their steps, and that none lacks memory
+module _ {F : Type 0} (honest : Type 0) (bytes : F → List ℕ) (faults : F → FaultCounts) where
+  lent_steps : (xs : List (Result LineRef ReverseError)) (s t : Reverse F) → Yields (NextRefStep honest bytes faults) s xs t
+      → Yields (StepOf ReadsLent honest bytes faults) s xs t × All (λ r. r ≢ Err Memory) xs
+  lent_steps [] s t y = (y, All-nil (λ r. r ≢ Err Memory))
+  lent_steps (x ∷ xs) s t y =
+      let rest = lent_steps xs y.0 t y.2 in
+      ((y.0, y.1.0, rest.0), All-cons (λ r. r ≢ Err Memory) x xs (λ is. y.1.1 (ap Some is)) rest.1)
+
+  pub lent_faults_law : (xs : List (Result LineRef ReverseError)) (s t : Reverse F) (n : FaultCounts) → faults s.reader ≡ n → Yields (NextRefStep honest bytes faults) s xs t → faults t.reader ≡ faults_after n xs
+  lent_faults_law xs s t n is y = faults_law ReadsLent honest bytes faults xs s t n is (lent_steps xs s t y).0
+
+  pub each_lent_ends : (s : Reverse F) → EachRunFrom (NextRefStep honest bytes faults) s (λ p. EndsAtError p.items)
+  unfolding YieldsRun
+  each_lent_ends s p seen from = let gave = p.gave.0 in ends_law ReadsLent honest bytes faults p.items p.from gave.0 (lent_steps p.items p.from gave.0 gave.1).0
+
+  pub each_lent_run : honest → (s : Reverse F) (items : List Item) → IsTied bytes s → items_left bytes s ≡ items
+      → EachRunFrom (NextRefStep honest bytes faults) s (λ p. IsLentRun (p.whole ≡ true) items p.items)
+  unfolding YieldsRun
+  each_lent_run ho s items tied is p seen from =
+      let gave = p.gave.0 in
+      let start : Yields (NextRefStep honest bytes faults) s p.items gave.0 = subst (λ (x : Reverse F). Yields (NextRefStep honest bytes faults) x p.items gave.0) from gave.1 in
+      let steps = lent_steps p.items s gave.0 start in (
+        subst (λ (l : List Item). IsRunOf ReadsLent (p.whole ≡ true) l p.items) is
+            (run_law ReadsLent honest bytes faults ho (p.whole ≡ true) p.items s gave.0 tied steps.0 (λ end. let last = gave.2 end in (last.0, last.1.0))),
+        steps.1,
+      )
 
 -- forward
 pub forward_law : (Ended : Type 0) (n : ℕ) (xs : List (Result LineRef decode.Error)) (s t : Forward) → s.count + 1 ≡ n → Yields ForwardStep s xs t

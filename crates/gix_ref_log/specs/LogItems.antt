@@ -1,5 +1,6 @@
 -- The items of a log: forward, and newest first through a buffer.
 use Rattle.std.specs.Prelude.{ℕ, ◌+◌, ◌-◌, ◌≡◌, ◌≢◌, ◌==◌, ◌&&◌, nat_lt, nat_le, List, [], ◌∷◌, length, reverse, slice_index, if◌then◌else◌, Option, Some, None, Result, Ok, Err, ⊤}
+use Rattle.std.specs.List.{All}
 use Rattle.bstr.specs.Text.{lines_of, without_terminator}
 use Rattle.gix_ref_files.specs.Files.{FaultCounts, count_with}
 use Rattle.gix_ref_files.specs.declared.files.FileError.TheVariants as faults_of
@@ -92,9 +93,9 @@ ReadsLent n text l = IsLine text (line_ref_parts l)
 abbrev pub IsRun : Type 0 → List Item → List (Result Line ReverseError) → Type 0
 IsRun = IsRunOf ReadsOwned
 
--- a run of `next_ref`
+-- a run of `next_ref`, which takes no memory
 abbrev pub IsLentRun : Type 0 → List Item → List (Result LineRef ReverseError) → Type 0
-IsLentRun = IsRunOf ReadsLent
+IsLentRun Ended items rs = IsRunOf ReadsLent Ended items rs × All (λ r. r ≢ Err Memory) rs
 
 module _ {T : Type 0} where
   -- after any error but a decode fault there is nothing; `Io` is never `Memory`, which a reader does not return

@@ -1,5 +1,5 @@
 -- What a window on a log is to give.
-use Rattle.std.specs.Prelude.{ℕ, ◌+◌, ◌-◌, ◌≡◌, ◌≢◌, Bool, true, false, slice_index, slice_range, ◌≤◌, ◌<◌, ◌^◌, List, [], ◌∷◌, ◌++◌, length, take, drop, Option, Result, None, IsErrOf}
+use Rattle.std.specs.Prelude.{ℕ, ◌+◌, ◌-◌, ◌≡◌, ◌≢◌, Bool, true, false, slice_index, slice_range, ◌≤◌, ◌<◌, ◌^◌, List, [], ◌∷◌, ◌++◌, length, take, drop, Option, Result, Some, None, Err, IsErrOf}
 use Rattle.gix_ref_files.specs.Files.{count_after, FaultCounts}
 use Rattle.gix_ref_files.specs.declared.files.FileError.{FileError}
 use Rattle.gix_ref_files.specs.declared.files.FileError.TheVariants as faulty
@@ -9,6 +9,7 @@ use Rattle.gix_ref_log.specs.LogItems.{Item, items_from, GivesLine, count_of, Re
 use Rattle.gix_ref_log.specs.declared.log.line.Line.{Line}
 use Rattle.gix_ref_log.specs.declared.log.line.LineRef.{LineRef}
 use Rattle.gix_ref_log.specs.declared.log.iter.error.ReverseError.{ReverseError}
+use Rattle.gix_ref_log.specs.declared.log.iter.error.ReverseError.TheVariants.{Memory}
 use Rattle.gix_ref_log.specs.declared.log.iter.backward.Reverse.{Reverse}
 use Rattle.gix_ref_log.specs.declared.log.iter.stage.Place.{Place}
 use Rattle.gix_ref_log.specs.declared.log.iter.stage.Stage.{Stage}
@@ -125,6 +126,6 @@ module _ {F : Type 0} (honest : Type 0) (bytes : F → List ℕ) (faults : F →
   abbrev pub NextStep : Reverse F → Option (Result Line ReverseError) → Reverse F → Type 0
   NextStep = StepOf ReadsOwned honest bytes faults
 
-  -- and one of `next_ref`
+  -- and one of `next_ref`, which takes no memory
   abbrev pub NextRefStep : Reverse F → Option (Result LineRef ReverseError) → Reverse F → Type 0
-  NextRefStep = StepOf ReadsLent honest bytes faults
+  NextRefStep s r t = StepOf ReadsLent honest bytes faults s r t × (r ≢ Some (Err Memory))

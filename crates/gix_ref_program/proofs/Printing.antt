@@ -1,8 +1,9 @@
 -- What a run prints, put together.
-use Rattle.std.proofs.Common.{◌≡◌, inl, inr, ℕ, List, [], Bool, true, false, Option, Some, None, Result, Ok, Err, refl, sym, subst, append-nil}
+use Rattle.std.proofs.Common.{◌≡◌, ◌≢◌, inl, inr, ℕ, List, [], Bool, true, false, Option, Some, None, Result, Ok, Err, refl, sym, subst, append-nil}
 use Rattle.std.specs.Prelude.{IfOk, OnOk}
 use Rattle.std.specs.Iterator.Runs.{WholeRun}
 use Rattle.std.specs.Io.KnownBytes.{Appends}
+use Rattle.std.proofs.lemmas.List.Elements.{All-nil}
 use Rattle.gix_ref_name.specs.NameGrammar.{full_error}
 use Rattle.gix_ref_files.specs.Files.{Meaning}
 use Rattle.gix_ref_files.specs.Tree.{Content, is_file, bytes_of}
@@ -10,6 +11,9 @@ use Rattle.gix_ref_files.specs.declared.files.ReadAt.{Ghosts}
 use Rattle.gix_ref_log.specs.LogItems.{IsLentRun, items_from}
 use Rattle.gix_ref_log.specs.LogWindows.{NextRefStep}
 use Rattle.gix_ref_log.specs.declared.log.iter.backward.Reverse.{Reverse}
+use Rattle.gix_ref_log.specs.declared.log.iter.error.ReverseError.{ReverseError}
+use Rattle.gix_ref_log.specs.declared.log.iter.error.ReverseError.TheVariants.{Memory}
+use Rattle.gix_ref_log.specs.declared.log.line.LineRef.{LineRef}
 use Rattle.gix_ref_lookup.specs.declared.reflog.error.Error.{Error as LogError}
 use Rattle.gix_ref_lookup.specs.declared.reflog.error.Error.TheVariants as log_errors
 use Rattle.gix_ref_store.specs.Reflogs.{reflog_at, ReadsBackward, EndsAtErrors, IsNoReverse, IsNoReflog}
@@ -48,7 +52,8 @@ logged G honest means old new name lines out now (Ok s) full reads ends ran =
       prints = (refl, ran.3.0, ran.3.1);
     }
 logged G honest means old new name lines out now (Err e) full reads ends ran =
-    record { ran = Logged false []; does = (full, λ h. inr ((reads h).0, λ never. absurd (cc)), _); prints = _ }
+    let none = All-nil (λ (r : Result LineRef ReverseError). r ≢ Err Memory) in
+    record { ran = Logged false []; does = (full, λ h. inr ((reads h).0, ((λ never. absurd (cc)), none)), _); prints = _ }
 
 -- nothing is printed where there is no log
 pub no_log : {F E : Type 0} (honest : Type 0) (means : F → Meaning) (old new : Store F) (name : List ℕ) (out : Option (List ℕ)) → full_error name ≡ None → (honest → is_file (reflog_at means old name) ≡ false) →

@@ -1,14 +1,13 @@
 -- What the calls of a store return for reflogs (`git reflog`).
-use Rattle.std.specs.Prelude.{◌≡◌, ℕ, List, Bool, true, false, Option, Some, None, Result}
+use Rattle.std.specs.Prelude.{◌≡◌, ℕ, List, Bool, true, false, Option, Some, None}
 use Rattle.std.specs.Iterator.Runs.{EachRunFrom}
 use Rattle.gix_ref_files.specs.Files.{Meaning}
 use Rattle.gix_ref_files.specs.Tree.{Content, is_file, bytes_of}
 use Rattle.gix_ref_files.specs.declared.files.ReadAt.{Ghosts}
 use Rattle.gix_ref_log.specs.LogCuts.{log_lines}
 use Rattle.gix_ref_log.specs.LogForward.{ForwardStep}
-use Rattle.gix_ref_log.specs.LogItems.{IsRun, IsLentRun, IsForwardRun, EndsAtError, ReadsOwned, ReadsLent, items_from}
-use Rattle.gix_ref_log.specs.LogWindows.{StepOf}
-use Rattle.gix_ref_log.specs.declared.log.iter.error.ReverseError.{ReverseError}
+use Rattle.gix_ref_log.specs.LogItems.{IsRun, IsLentRun, IsForwardRun, EndsAtError, items_from}
+use Rattle.gix_ref_log.specs.LogWindows.{NextStep, NextRefStep}
 use Rattle.gix_ref_log.specs.declared.log.iter.backward.Reverse.{Reverse}
 use Rattle.gix_ref_log.specs.declared.log.iter.forwards.Forward.{Forward}
 use Rattle.gix_ref_lookup.specs.Reflogs as reflogs
@@ -46,25 +45,20 @@ IsNoReverse honest content room store name EmptyBuffer = (room ≡ 0)
     × (honest → is_file content ≡ true)
 IsNoReverse honest content room store name other = IsNoReflog store name other
 
--- runs backward that read lines in this way: each by the steps of the iterator has this
-abbrev pub EachRunBackward : {R T : Type 0} (G : Ghosts R) (Reads : ℕ → List ℕ → T → Type 0) →
-    (List (Result T ReverseError) → Type 0 → Type 0) → Reverse R → Type 0
-EachRunBackward G Reads P lines = EachRunFrom (StepOf Reads G.honest G.bytes G.faults) lines
-    (λ run. P run.items (run.whole ≡ true))
-
 -- newest first: each run of `next` gives the items for which a buffer of this length has room, or a beginning of them and
--- one fault of reading or of memory, and each of `next_ref` the same, lent; or there is no log
+-- one fault of reading or of memory, and each of `next_ref` the same, lent, and never a fault of memory; or there is no log
 abbrev pub ReadsBackward : {R : Type 0} (G : Ghosts R) → Option Content → (room : ℕ) →
     Option (Reverse R) → Type 0
 ReadsBackward G content room None = is_file content ≡ false
 ReadsBackward G content room (Some lines) = (is_file content ≡ true)
-    × EachRunBackward G ReadsOwned
-    (λ items ended. IsRun ended (items_from room 1 (bytes_of content)) items) lines
-    × EachRunBackward G ReadsLent
-    (λ items ended. IsLentRun ended (items_from room 1 (bytes_of content)) items) lines
+    × EachRunFrom (NextStep G.honest G.bytes G.faults) lines
+    (λ run. IsRun (run.whole ≡ true) (items_from room 1 (bytes_of content)) run.items)
+    × EachRunFrom (NextRefStep G.honest G.bytes G.faults) lines
+    (λ run. IsLentRun (run.whole ≡ true) (items_from room 1 (bytes_of content)) run.items)
 
 -- nothing follows an error but a decode fault
 abbrev pub EndsAtErrors : {R : Type 0} (G : Ghosts R) → Option (Reverse R) → Type 0
 EndsAtErrors G None = Unit {0}
-EndsAtErrors G (Some lines) = EachRunBackward G ReadsOwned (λ items ended. EndsAtError items) lines
-    × EachRunBackward G ReadsLent (λ items ended. EndsAtError items) lines
+EndsAtErrors G (Some lines) = EachRunFrom (NextStep G.honest G.bytes G.faults) lines
+    (λ run. EndsAtError run.items)
+    × EachRunFrom (NextRefStep G.honest G.bytes G.faults) lines (λ run. EndsAtError run.items)

@@ -234,7 +234,8 @@ impl<'a, F: ReadAt> Reverse<'a, F> {
     /// ```
     #[inline(always)]
     pub fn next_ref(&mut self) -> Option<Result<LineRef<'_>, ReverseError>>
-        ensures* steps { sem 𝓛 (Rests (the_row (record { mir = named 0; lft = [] }) F.row) self.entry
+        ensures* steps { sem 𝓛 (Rests
+            (the_row (record { mir = named 0; lft = [] }) F.row) self.entry
             (λ t. NextRefStep F.honest F.bytes F.faults self.old result t
             × (option_len result + most_left t ≤ most_left self.old))) }
         ensures memory { result ≢ Some (Err ReverseError.Memory) }

@@ -18,6 +18,6 @@ returns-in-Some-Ok g c =
     let passed = subst (λ r. StepOf (ReadsPlace t.buf.now) R.honest R.bytes R.faults s (Some r) t) c.in-Some-Ok.field-0-is c.in-Some-Ok.ensures.step in
     let e = c.line_at.ensures in
     let step = line_step ReadsLent R.honest R.bytes R.faults t.buf.now s t c.in-Some-Ok.place passed c.line_at.result e.memory e.line in (
-      (refl, (λ n. tt), (step, c.in-Some-Ok.ensures.left)),
+      (refl, (λ n. tt), ((step, inside c.line_at.result e.memory), c.in-Some-Ok.ensures.left)),
       record { steps = tt; memory = inside c.line_at.result e.memory },
     )
