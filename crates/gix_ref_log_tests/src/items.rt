@@ -1,7 +1,6 @@
 //! The items of logs from either end.
 use crate::made::{ONES, ZEROS, joined};
 use crate::reader::{Counted, Tally};
-use gix_ref_files::faults::Faults;
 use gix_ref_files::files::FileError;
 use gix_ref_log::log::iter::{EmptyBuffer, ReverseError, decode, forward, reverse};
 use std::alloc::Global;
@@ -66,11 +65,7 @@ fn seen_lent(item: Result<gix_ref_log::log::LineRef<'_>, ReverseError>) -> Seen 
 pub fn read(rt: &impl Abort, alloc: Global, log: &[u8], room: usize, tally: &Tally) -> Vec<Seen> {
     let mut buf = vec![in alloc; 0u8; room].expect(rt, "memory");
     let mut items = Vec::new(alloc);
-    let reader = Counted {
-        text: log,
-        tally,
-        faults: Faults::new(),
-    };
+    let reader = Counted::new(log, tally);
     let mut lines = reverse(alloc, reader, buf.as_mut_slice()).expect(rt, "room");
     for _ in 0..1000000 {
         match lines.next() {
@@ -95,11 +90,7 @@ fn read_lent(
 ) -> Vec<Seen> {
     let mut buf = vec![in alloc; 0u8; room].expect(rt, "memory");
     let mut items = Vec::new(alloc);
-    let reader = Counted {
-        text: log,
-        tally,
-        faults: Faults::new(),
-    };
+    let reader = Counted::new(log, tally);
     let mut lines = reverse(alloc, reader, buf.as_mut_slice()).expect(rt, "room");
     for turn in 0..1000000u64 {
         let seen = if mixed && turn % 3 == 2 {
@@ -165,11 +156,7 @@ fn lines_that_are_none(rt: HostRuntime) {
 #[test]
 fn an_empty_buffer(rt: HostRuntime) {
     let tally = Tally::new(0);
-    let reader = Counted {
-        text: b"a",
-        tally: &tally,
-        faults: Faults::new(),
-    };
+    let reader = Counted::new(b"a", &tally);
     assert!(rt;
         matches!(reverse(rt.alloc(), reader, &mut []), Err(EmptyBuffer)),
         "no room"
@@ -180,11 +167,7 @@ fn an_empty_buffer(rt: HostRuntime) {
 #[test]
 fn faults_take_no_memory(rt: HostRuntime) {
     let tally = Tally::new(0);
-    let reader = Counted {
-        text: b"a\nbb\n",
-        tally: &tally,
-        faults: Faults::new(),
-    };
+    let reader = Counted::new(b"a\nbb\n", &tally);
     let mut buf = [0u8; 3];
     let mut lines = reverse(rt.alloc(), reader, &mut buf).expect(&rt, "room");
     for number in 1..3u64 {
@@ -278,12 +261,9 @@ fn lent_items_are_the_items(rt: HostRuntime) {
 #[test]
 fn lent_lines_take_no_memory(rt: HostRuntime) {
     let tally = Tally::new(0);
-    let reader = Counted {
-        text: b"0000000000000000000000000000000000000000 1111111111111111111111111111111111111111 \
-            C <c@example.com> 1234 +0800\tm\na\n",
-        tally: &tally,
-        faults: Faults::new(),
-    };
+    let log = b"0000000000000000000000000000000000000000 1111111111111111111111111111111111111111 \
+        C <c@example.com> 1234 +0800\tm\na\n";
+    let reader = Counted::new(log, &tally);
     let mut buf = [0u8; 120];
     let mut lines = reverse(rt.alloc(), reader, &mut buf).expect(&rt, "room");
     let fault = lines.next_ref().map(|item| seen_lent(item));
@@ -312,11 +292,7 @@ fn ten_lines_of_a_long_log(rt: HostRuntime) {
     }
     let tally = Tally::new(0);
     let mut buf = [0u8; 1024];
-    let reader = Counted {
-        text: &log,
-        tally: &tally,
-        faults: Faults::new(),
-    };
+    let reader = Counted::new(&log, &tally);
     let mut lines = reverse(alloc, reader, &mut buf).expect(&rt, "room");
     for _ in 0..10 {
         assert!(rt; matches!(lines.next(), Some(Ok(_))), "a line");

@@ -36,6 +36,17 @@ pub struct Counted<'a> {
     pub faults: Faults,
 }
 
+impl<'a> Counted<'a> {
+    /// A reader of the text, which counts its reads in the tally.
+    pub fn new(text: &'a [u8], tally: &'a Tally) -> Counted<'a> {
+        Counted {
+            text,
+            tally,
+            faults: Faults::new(),
+        }
+    }
+}
+
 impl<'a> ReadAt for Counted<'a> {
     ghost honest = { ⊥ };
 
