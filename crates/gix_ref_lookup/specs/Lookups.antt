@@ -1,10 +1,11 @@
 -- What the calls of this crate return: candidates, the records that they ask, and lookups (`gitrevisions`).
-use Rattle.std.specs.Prelude.{◌≡◌, ◌≢◌, ◌⊎◌, ℕ, List, [], ◌∷◌, ◌++◌, Bool, true, Option, Some, None, IfOk, IfSome, Result, Ok, Err, if◌then◌else◌, nat_eq, option_to_list}
+use Rattle.std.specs.Prelude.{◌≡◌, ◌≢◌, ◌⊎◌, ℕ, List, [], ◌∷◌, ◌++◌, Bool, true, Option, Some, None, IfOk, IfSome, MatchOption, Result, Ok, Err, if◌then◌else◌, nat_eq, option_to_list}
 use Rattle.std.specs.List.{AllByRecursion}
 use Rattle.std.specs.Option.{option_map}
 use Rattle.std.specs.Cmp.Lexicographic.{pointwise}
 use Rattle.gix_ref_hash.specs.declared.hash.Kind.{Kind}
-use Rattle.gix_ref_name.specs.Names.{full_bytes}
+use Rattle.gix_ref_name.specs.Names.{full_bytes, partial_bytes}
+use Rattle.gix_ref_name.specs.declared.name.PartialName.{PartialName}
 use Rattle.gix_ref_name.specs.NameGrammar.{IsFullName}
 use Rattle.gix_ref_name.specs.Namespaces.{stripped}
 use Rattle.gix_ref_name.specs.Candidates.{candidates, remote_head}
@@ -158,6 +159,12 @@ module _ (settings : Settings) (files : Meaning) where
   abbrev pub IsSearchedWith : {R : Type 0} {G : Ghosts R} → Records R G → Kind → List ℕ → Type 0
   IsSearchedWith asked of_kind text =
       IsSearched settings.kind (packed_refs_in settings files) asked of_kind text
+
+  -- the text that is searched in records that are open is that of `packed-refs`
+  abbrev pub SearchesOpened : {R : Type 0} {G : Ghosts R} → Records R G → Type 0
+  SearchesOpened asked = (kind : Kind) (text : List ℕ) →
+      IsSearched settings.kind None asked kind text →
+      IsOpenedText settings.kind (packed_refs_in settings files) kind text
 
 -- the error of a lookup where opening has this one
 abbrev pub of_opening : OpenError → Error
@@ -395,13 +402,28 @@ IsHitAmong settings view records names found =
 abbrev pub MemoryOr : (Error → Type 0) → Error → Type 0
 MemoryOr P error = (error ≡ Memory) ⊎ P error
 
+-- the fault of a lookup among these names
+abbrev pub IsFaultAmong : {R : Type 0} {G : Ghosts R} → (honest : Type 0) → Settings → Tree →
+    Records R G → (before now : FaultCounts) → List (List ℕ) → Error → Type 0
+IsFaultAmong honest settings T asked before now names =
+    MemoryOr (FailsAmong honest settings T asked before now names)
+
+-- the name of the head of the remote that a partial name may be, if there is one
+abbrev pub head_names : List ℕ → List (List ℕ)
+head_names p = option_to_list (remote_head p)
+
 -- the names that a lookup of a partial name asks for: its candidates, and the head of a remote
 abbrev pub asked_names : List ℕ → List (List ℕ)
-asked_names p = candidates p ++ option_to_list (remote_head p)
+asked_names p = candidates p ++ head_names p
 
 -- the name that is asked for a partial name: its composed form, where names are composed
 abbrev pub name_asked : (composes : Bool) → List ℕ → List ℕ
 name_asked composes p = if composes then composed p else p
+
+-- the composed name that is asked, where it is another one than the caller's
+abbrev pub IsComposedName : (composes : Bool) → List ℕ → Option PartialName → Type 0
+IsComposedName composes p found = MatchOption found (name_asked composes p ≡ p)
+    (λ n. (partial_bytes n ≡ name_asked composes p) × (name_asked composes p ≢ p))
 
 -- the name that is given of a hit: the decomposed form, where another name was asked than the caller's
 abbrev pub name_given : (asked p : List ℕ) → (name : List ℕ) → List ℕ

@@ -11,13 +11,13 @@ use Rattle.gix_ref_target.specs.PackedRecords.{Record}
 use Rattle.gix_ref_hash.specs.declared.hash.Kind.{Kind}
 use Rattle.gix_ref_packed.specs.Buffers.{buffer_text, HoldsRecords}
 use Rattle.gix_ref_packed.specs.declared.packed.buffer.Buffer.{Buffer}
-use Rattle.gix_ref_packed_transaction.specs.Changes.{ChangeValue, IsChanged}
+use Rattle.gix_ref_packed_transaction.specs.Changes.{AreDistinct, ChangeValue, IsChanged}
 use Rattle.gix_ref_packed_transaction.specs.declared.error.Error.{Error}
 use Rattle.gix_ref_packed_transaction.specs.declared.error.Error.TheVariants.{Commit, Iteration, Io, Memory}
 use Rattle.gix_ref_packed_text.specs.declared.outcome.Rewrite.{Rewrite}
 use Rattle.gix_ref_packed_text.specs.declared.outcome.Rewrite.TheVariants.{Unchanged, Removed, Text}
 use Rattle.gix_ref_transaction.specs.PrepareSteps.{FillsLock}
-use Rattle.gix_ref_packed_transaction.specs.PackedTransactions.{AreDistinct, IsMadeOf, IsOldOrRewritten, IsRewritten, IsUnbegun, OnlyAt, OnlyLockChanges, OnlyLockGoes, HoldsRewrite, IsBeforeOrRewritten, SaysWhyPacked}
+use Rattle.gix_ref_packed_transaction.specs.PackedTransactions.{IsMadeOf, IsOldOrRewritten, IsRewritten, IsUnbegun, OnlyAt, OnlyLockChanges, OnlyLockGoes, HoldsRewrite, IsBeforeOrRewritten, SaysWhyPacked}
 use Rattle.gix_ref_packed_transaction.specs.internal.LockSteps.{IsUnlocked, IsWhyNotPut}
 
 pub lock_elsewhere : (place : Path) → place ≢ lock_of place

@@ -1,7 +1,10 @@
 -- Changes of records by their keys: what becomes of the records of `packed-refs` by them.
-use Rattle.std.specs.Prelude.{◌≡◌, ◌≢◌, ◌||◌, ℕ, Bool, true, false, List, [], ◌∷◌, Option, Some, is_some, map, if◌then◌else◌, bytes_eq}
+use Rattle.std.specs.Prelude.{◌≡◌, ◌≢◌, ◌||◌, ℕ, Bool, true, false, List, [], ◌∷◌, Option, Some, is_some, map, if◌then◌else◌, bytes_eq, MatchResult, Result}
 use Rattle.std.specs.List.{All, list_any}
+use Rattle.std.specs.Cmp.Lexicographic.{slice_cmp}
+use Rattle.std.specs.List.Sorted.{IsStrictlySortedBy}
 use Rattle.std.specs.Option.{option_map}
+use Rattle.std.specs.Ordering.{nat_cmp}
 use Rattle.gix_ref_hash.specs.declared.hash.Kind.{Kind}
 use Rattle.gix_ref_target.specs.PackedRecords.{Record, record_named, written_text}
 use Rattle.gix_ref_packed_text.specs.OpenedText.{IsWellFormed}
@@ -35,6 +38,10 @@ edit_values edits = map edit_value edits
 -- the keys
 abbrev pub keys_in : List ChangeValue → List (List ℕ)
 keys_in changes = map (λ (c : ChangeValue). c.0) changes
+
+-- changes in the order of their keys, each of which has one
+abbrev pub AreDistinct : List ChangeValue → Type 0
+AreDistinct changes = IsStrictlySortedBy (slice_cmp nat_cmp) (keys_in changes)
 
 -- the record that a change leaves under its key
 abbrev pub record_left : ChangeValue → Option Record
@@ -78,3 +85,9 @@ IsChanged kind changes old Unchanged = change_some changes old ≡ false
 IsChanged kind changes old Removed = (change_some changes old ≡ true) × AreChanged changes old []
 IsChanged kind changes old (Text text) = (change_some changes old ≡ true)
     × IsChangedText kind changes old text.items
+
+-- the records become this by changes, where these are distinct; or why not
+abbrev pub BecomesBy : {E : Type 0} → Kind → List KeyChange → List Record → (E → Type 0) →
+    Result Rewrite E → Type 0
+BecomesBy kind changes rs Fails result = AreDistinct (change_values changes) →
+    MatchResult result (IsChanged kind (change_values changes) rs) Fails

@@ -9,7 +9,8 @@ use Rattle.gix_ref_packed.specs.declared.packed.buffer.Buffer.{Buffer}
 use Rattle.gix_ref_packed_transaction.specs.Changes.{ChangeValue}
 use Rattle.gix_ref_packed_text.specs.declared.outcome.Rewrite.{Rewrite}
 use Rattle.gix_ref_packed_text.specs.declared.outcome.Rewrite.TheVariants.{Unchanged, Removed, Text}
-use Rattle.gix_ref_packed_transaction.specs.PackedTransactions.{IsMadeOf}
+use Rattle.gix_ref_packed_transaction.specs.PackedTransactions.{IsMadeOf, changes_of, records_of, transaction_kind, transaction_place}
+use Rattle.gix_ref_packed_transaction.specs.declared.transaction.Transaction.{Transaction}
 
 -- the file as the rewrite makes it: its bytes, or none
 abbrev pub BecomesFile : Rewrite → (before now : Option (List ℕ)) → Type 0
@@ -47,6 +48,10 @@ IsLostOf kind records changes place D T =
     × ((file_of (T place) ≡ file_of (D.tree place))
     ⊎ ((rewrite : Rewrite) × IsMadeOf kind records changes rewrite
     × BecomesFile rewrite (file_of (D.tree place)) (file_of (T place))))
+
+-- and so of a commit of the transaction
+abbrev pub IsLostBy : Transaction → Disk → Tree → Type 0
+IsLostBy t = IsLostOf (transaction_kind t) (records_of t) (changes_of t) (transaction_place t)
 
 -- A commit that succeeds settles `packed-refs`: each later loss of power leaves it as it is then, and the others too.
 abbrev pub SettlesPackedRefs : (place : Path) → (D E : Disk) → Type 0

@@ -1,11 +1,9 @@
 -- A transaction of `packed-refs` alone: what it keeps, and what its commit leaves.
-use Rattle.std.specs.Prelude.{◌≡◌, ◌≢◌, ◌⊎◌, List, Option, Some, None, true, false, []}
-use Rattle.std.specs.Cmp.Lexicographic.{slice_cmp}
-use Rattle.std.specs.List.Sorted.{IsStrictlySortedBy}
-use Rattle.std.specs.Ordering.{nat_cmp}
+use Rattle.std.specs.Prelude.{◌≡◌, ◌≢◌, ◌⊎◌, ℕ, List, Option, Some, None, Vec, MatchOption, true, false, []}
+use Rattle.std.specs.declared.alloc.Global.{Global}
 use Rattle.gix_ref_hash.specs.declared.hash.Kind.{Kind}
 use Rattle.gix_ref_target.specs.PackedRecords.{Record}
-use Rattle.gix_ref_files.specs.Files.{FaultCounts, IsMet}
+use Rattle.gix_ref_files.specs.Files.{FaultCounts, HasRisen, IsMet}
 use Rattle.gix_ref_files.specs.Lock.{lock_of}
 use Rattle.gix_ref_files.specs.Tree.{Tree, Path, Content, is_file, is_folder}
 use Rattle.gix_ref_files.specs.Tree.Content.{File}
@@ -14,7 +12,7 @@ use Rattle.gix_ref_packed.specs.Buffers.{buffer_text, buffer_line, HoldsRecords}
 use Rattle.gix_ref_packed.specs.declared.packed.buffer.Buffer.{Buffer}
 use Rattle.gix_ref_packed_text.specs.declared.outcome.Rewrite.{Rewrite}
 use Rattle.gix_ref_packed_text.specs.declared.outcome.Rewrite.TheVariants.{Unchanged, Removed, Text}
-use Rattle.gix_ref_packed_transaction.specs.Changes.{ChangeValue, IsChanged, change_values, keys_in}
+use Rattle.gix_ref_packed_transaction.specs.Changes.{AreDistinct, ChangeValue, IsChanged, change_values}
 use Rattle.gix_ref_packed_transaction.specs.Refusals.{IsReadText, IsStuckIn}
 use Rattle.gix_ref_packed_transaction.specs.declared.error.Error.{Error}
 use Rattle.gix_ref_packed_transaction.specs.declared.error.Error.TheVariants.{Commit, Iteration, Io, Memory}
@@ -34,10 +32,6 @@ transaction_kind t = t.kind
 -- the changes of records that it makes
 abbrev pub changes_of : Transaction → List ChangeValue
 changes_of t = change_values t.changes.items
-
--- changes in the order of their keys, each of which has one
-abbrev pub AreDistinct : List ChangeValue → Type 0
-AreDistinct changes = IsStrictlySortedBy (slice_cmp nat_cmp) (keys_in changes)
 
 -- what becomes of the file by the changes: of no records, where there is none; else of these, where it holds them in the order of
 -- their names
@@ -93,6 +87,23 @@ module _ (kind : Kind) (records : Option Buffer) (changes : List ChangeValue) (p
       OnlyAt place before T
       × ((T place ≡ before place) ⊎ ((rewrite : Rewrite) × IsMadeOf kind records changes rewrite
       × HoldsRewrite rewrite (before place) (T place)))
+
+-- a commit of the transaction that succeeds
+abbrev pub CommitsBy : Transaction → (before T : Tree) → Type 0
+CommitsBy t = CommitsRewrite (transaction_kind t) (records_of t) (changes_of t)
+    (transaction_place t)
+
+-- and what a stop in it leaves
+abbrev pub IsBeforeOrCommitted : Transaction → (before T : Tree) → Type 0
+IsBeforeOrCommitted t = IsBeforeOrRewritten (transaction_kind t) (records_of t) (changes_of t)
+    (transaction_place t)
+
+-- the lock of the transaction is gone; or its path is returned, and a fault of files was counted
+abbrev pub LockIsGoneOrNamed : (honest : Type 0) → Transaction →
+    (left : Option (Vec ℕ Global)) → (before now : FaultCounts) → Tree → Type 0
+LockIsGoneOrNamed honest t left before now T = MatchOption left
+    (honest → is_file (T (lock_of (transaction_place t))) ≡ false)
+    (λ path. (path.items ≡ lock_of (transaction_place t)) × HasRisen before now)
 
 -- each line of the records is one
 abbrev pub IsReadBuffer : Kind → Option Buffer → Type 0

@@ -64,11 +64,15 @@ abbrev pub CanBeTaken : Kind → (ObjectId → Stored) → RefEdit → Type 0
 CanBeTaken kind meaning edit = IfObject (object_put edit.change)
     (λ id. (id_kind id ≡ kind) × CanPeel kind meaning id)
 
--- an edit is at fault: the object that it puts is of another kind or cannot be peeled
+-- why an object cannot be put: it is of another kind, or cannot be peeled
+abbrev pub IsNoPut : Kind → (ObjectId → Stored) → ObjectId → Error → Type 0
+IsNoPut kind meaning id error = ((id_kind id ≢ kind) × (error ≡ OtherHashKind))
+    ⊎ ((id_kind id ≡ kind) × IsUnpeeled kind id (peel meaning 1000 id) error)
+
+-- an edit is at fault: it puts such an object
 abbrev pub IsNotTaken : Kind → (ObjectId → Stored) → RefEdit → Error → Type 0
 IsNotTaken kind meaning edit error = IsObjectAnd (object_put edit.change)
-    (λ id. ((id_kind id ≢ kind) × (error ≡ OtherHashKind))
-    ⊎ ((id_kind id ≡ kind) × IsUnpeeled kind id (peel meaning 1000 id) error))
+    (λ id. IsNoPut kind meaning id error)
 
 -- the fault of the first edit that is
 abbrev pub IsFirstNotTaken :

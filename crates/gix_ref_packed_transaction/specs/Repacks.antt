@@ -11,11 +11,17 @@ use Rattle.gix_ref_packed_text.specs.Laws.{IsIdOf, IsIdIfAny}
 use Rattle.gix_ref_packed_text.specs.declared.edit.NewRecord.{NewRecord}
 use Rattle.gix_ref_packed_text.specs.declared.outcome.Rewrite.{Rewrite}
 use Rattle.gix_ref_packed_text.specs.declared.outcome.Rewrite.TheVariants.{Unchanged, Removed, Text}
-use Rattle.gix_ref_theory.specs.Between.{MergesRecords}
+use Rattle.gix_ref_theory.specs.Between.{AreEdits, MergesRecords}
 use Rattle.gix_ref_theory.specs.Edits as plan
 use Rattle.gix_ref_theory.specs.Edits.{Mode, alters_packed, file_of_records}
 use Rattle.gix_ref_theory.specs.Readings.{Store, records_of_file}
+use Rattle.gix_ref_files.specs.Files.{Meaning}
+use Rattle.gix_ref_lookup.specs.Lookups.{ArePackedRecordsWith}
+use Rattle.gix_ref_lookup.specs.declared.settings.Settings.{Settings}
 use Rattle.gix_ref_transaction.specs.Causes.{deletes_reference}
+use Rattle.gix_ref_transaction.specs.PackedCauses.{ids_among}
+use Rattle.gix_ref_transaction.specs.Packing.{HaveTheirPuts, plan_edits}
+use Rattle.gix_ref_transaction.specs.PrepareSteps.{ids_in, setting_of, updates}
 use Rattle.gix_ref_transaction.specs.declared.edit.Edit.{Edit}
 use Rattle.gix_ref_transaction.specs.declared.edit.PackedObject.{PackedObject}
 
@@ -58,3 +64,13 @@ IsRepack s mode kind rs edits Removed = (alters_packed s mode rs edits ≡ true)
     × MergesRecords s mode edits rs []
 IsRepack s mode kind rs edits (Text text) = (alters_packed s mode rs edits ≡ true)
     × IsNewPacked s mode kind rs edits text.items
+
+-- This holds for each mode, and these records of a `packed-refs` that is well formed, where no two edits have one place, each has its id
+-- among the records, and puts what it is to, which can be put.
+abbrev pub OfGoodEdits : Settings → Meaning → List Edit → (Mode → List Record → Type 0) → Type 0
+OfGoodEdits settings meaning edits P =
+    (mode : Mode) → AreEdits (setting_of settings) (plan_edits edits) →
+    (rs : List Record) → ArePackedRecordsWith settings meaning rs →
+    ids_in edits ≡ ids_among (setting_of settings) rs (updates edits) →
+    HaveTheirPuts (setting_of settings) mode edits →
+    AllCanBePut (setting_of settings) settings.kind edits → P mode rs

@@ -1,14 +1,10 @@
 //! `packed-refs` with changes of its records.
-ghost use Rattle.std.specs.Prelude.{◌≡◌, List, [], IfOk, IfErr, MatchResult, OnOk};
-ghost use Rattle.std.specs.Cmp.Lexicographic.{slice_cmp};
-ghost use Rattle.std.specs.List.Sorted.{IsStrictlySortedBy};
-ghost use Rattle.std.specs.Ordering.{nat_cmp};
+ghost use Rattle.std.specs.Prelude.{◌≡◌, List, [], IfOk, IfErr, OnOk};
 ghost use Rattle.gix_ref_target.specs.PackedRecords.{Record};
-ghost use Rattle.gix_ref_files.specs.Calls.{Unchanged};
 ghost use Rattle.gix_ref_files.specs.ReadOnly.{OnlyReads};
 ghost use Rattle.gix_ref_packed.specs.Buffers.{buffer_text, buffer_line, HoldsRecords};
 ghost use Rattle.gix_ref_lookup.specs.Lookups.{ArePackedRecordsWith, meaning_in};
-ghost use Rattle.gix_ref_packed_transaction.specs.Changes.{change_values, keys_in, IsChanged};
+ghost use Rattle.gix_ref_packed_transaction.specs.Changes.{AreDistinct, BecomesBy, IsChanged, change_values};
 ghost use Rattle.gix_ref_packed_transaction.specs.Refusals.{IsCountedRefusal, IsRepackFault, IsReadFile, IsReadText, IsRefusedRewrite, IsStuckIn, of_rewrite, repack_of_opening};
 
 use crate::changes::{KeyChange, record_edits};
@@ -53,9 +49,7 @@ pub fn changed(
     changes: &[KeyChange],
 ) -> Result<Rewrite, Error>
     ensures rewritten { (rs : List Record) → HoldsRecords kind rs (buffer_text buffer.now) →
-        IsStrictlySortedBy (slice_cmp nat_cmp) (keys_in (change_values changes.now)) →
-        MatchResult result (IsChanged kind (change_values changes.now) rs)
-        (λ error. error ≡ Error.Memory) }
+        BecomesBy kind changes.now rs (λ error. error ≡ Error.Memory) result }
     ensures whole { OnOk result (IsReadText kind (buffer_text buffer.now)) }
     ensures refused { IfErr result
         (IsStuckIn kind (buffer_line buffer.now) (buffer_text buffer.now)) }
@@ -69,8 +63,7 @@ pub fn changed(
 
 /// What becomes of no records by changes, which are in the order of their keys.
 pub fn made(alloc: Global, kind: Kind, changes: &[KeyChange]) -> Result<Rewrite, Error>
-    ensures rewritten { IsStrictlySortedBy (slice_cmp nat_cmp)
-        (keys_in (change_values changes.now)) → IfOk result
+    ensures rewritten { AreDistinct (change_values changes.now) → IfOk result
         (IsChanged kind (change_values changes.now) []) }
     ensures memory { IfErr result (λ error. error ≡ Error.Memory) }
 {
@@ -89,9 +82,7 @@ pub fn file_changed<F: Files>(
     changes: &[KeyChange],
 ) -> Result<Rewrite, Error>
     ensures rewritten { F.honest → (rs : List Record) → ArePackedRecordsWith settings.now
-        (F.means files.old) rs → IsStrictlySortedBy (slice_cmp nat_cmp)
-        (keys_in (change_values changes.now)) → MatchResult result (IsChanged settings.now.kind
-        (change_values changes.now) rs) IsRepackFault }
+        (F.means files.old) rs → BecomesBy settings.now.kind changes.now rs IsRepackFault result }
     ensures whole { F.honest → OnOk result (IsReadFile settings.now.kind
         ((F.means files.old).tree (meaning_in settings.now).packed_path)) }
     ensures refused { F.honest → IfErr result (IsRefusedRewrite settings.now.kind

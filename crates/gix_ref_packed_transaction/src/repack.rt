@@ -6,12 +6,10 @@ ghost use Rattle.gix_ref_files.specs.Calls.{Unchanged};
 ghost use Rattle.gix_ref_files.specs.ReadOnly.{OnlyReads};
 ghost use Rattle.gix_ref_lookup.specs.Lookups.{ArePackedRecordsWith};
 ghost use Rattle.gix_ref_theory.specs.Between.{AreEdits};
-ghost use Rattle.gix_ref_theory.specs.Edits.{Mode};
-ghost use Rattle.gix_ref_transaction.specs.PackedCauses.{ids_among};
-ghost use Rattle.gix_ref_transaction.specs.Packing.{HaveTheirPuts, plan_edits};
-ghost use Rattle.gix_ref_transaction.specs.PrepareSteps.{setting_of, updates, ids_in};
+ghost use Rattle.gix_ref_transaction.specs.Packing.{plan_edits};
+ghost use Rattle.gix_ref_transaction.specs.PrepareSteps.{setting_of};
 ghost use Rattle.gix_ref_packed_transaction.specs.Refusals.{IsCountedRefusal, IsRepackFault, IsReadFile, IsRefusedRewrite};
-ghost use Rattle.gix_ref_packed_transaction.specs.Repacks.{alters_record, AllCanBePut, IsRepack};
+ghost use Rattle.gix_ref_packed_transaction.specs.Repacks.{alters_record, IsRepack, OfGoodEdits};
 
 use crate::changed::file_changed;
 use crate::changes::{alter_some, sorted_changes};
@@ -42,12 +40,9 @@ pub fn repack<F: Files>(
 ) -> Result<Rewrite, Error>
     // Of a well-formed file, among whose records the edits have their ids, it is what the edits make of it, where no two have
     // one place, and each puts what it is to; and there is no fault but of files or of memory.
-    ensures repacked { F.honest → (mode : Mode) → AreEdits (setting_of settings.now)
-        (plan_edits edits.now) → (rs : List Record) → ArePackedRecordsWith settings.now
-        (F.means files.old) rs → ids_in edits.now ≡ ids_among (setting_of settings.now) rs
-        (updates edits.now) → HaveTheirPuts (setting_of settings.now) mode edits.now → AllCanBePut
-        (setting_of settings.now) settings.now.kind edits.now → IfOk result (IsRepack
-        (setting_of settings.now) mode settings.now.kind rs (plan_edits edits.now)) }
+    ensures repacked { F.honest → OfGoodEdits settings.now (F.means files.old) edits.now
+        (λ mode rs. IfOk result (IsRepack (setting_of settings.now) mode settings.now.kind rs
+        (plan_edits edits.now))) }
     ensures sound { F.honest → AreEdits (setting_of settings.now) (plan_edits edits.now) →
         (rs : List Record) → ArePackedRecordsWith settings.now (F.means files.old) rs → IfErr result
         IsRepackFault }

@@ -1,6 +1,6 @@
 //! A transaction of `packed-refs` alone, for a caller who holds its lock: records are put into it and removed from it, and all others stay
 //! as they are written. As gix-ref's `packed::Transaction`.
-ghost use Rattle.std.specs.Prelude.{◌≡◌, ◌≤◌, ◌⊎◌, [], Some, None, false, Option, OnOk, OnErr, IfErr, MatchOption};
+ghost use Rattle.std.specs.Prelude.{◌≡◌, ◌⊎◌, [], Some, None, false, Option, OnOk, OnErr, IfErr, MatchOption};
 ghost use Rattle.std.specs.List.{All};
 ghost use Rattle.gix_ref_name.specs.NameGrammar.{IsFullName};
 ghost use Rattle.gix_ref_edits.specs.RefEdits.{name_of};
@@ -82,8 +82,8 @@ pub struct Failed {
 impl Transaction {
     ghost use Rattle.gix_ref_transaction.specs.declared.prepare.packed.Error.TheVariants.{Memory as no_memory};
     ghost use Rattle.gix_ref_packed_transaction.specs.RecordChanges.{AreSortedChangesOf, IsFirstNotTaken};
-    ghost use Rattle.gix_ref_packed_transaction.specs.PackedLosses.{IsLostOf, IsReadyOn, OnlyLockIsLost, SettlesPackedRefs};
-    ghost use Rattle.gix_ref_packed_transaction.specs.PackedTransactions.{records_of, transaction_place, transaction_kind, changes_of, CommitsRewrite, IsBeforeOrRewritten, IsLockEmpty, IsReadBuffer, IsUnbegun, SaysWhyPacked};
+    ghost use Rattle.gix_ref_packed_transaction.specs.PackedLosses.{IsLostBy, IsReadyOn, OnlyLockIsLost, SettlesPackedRefs};
+    ghost use Rattle.gix_ref_packed_transaction.specs.PackedTransactions.{records_of, transaction_place, transaction_kind, changes_of, CommitsBy, IsBeforeOrCommitted, LockIsGoneOrNamed, IsLockEmpty, IsReadBuffer, IsUnbegun, SaysWhyPacked};
 
     /// A transaction of the file whose lock is held, and whose records these are: `None` where there is no such file. The ids of the file
     /// are of the kind. Not public in gix-ref.
@@ -160,16 +160,13 @@ impl Transaction {
     pub fn commit<F: Files>(self, alloc: Global, files: &mut F) -> Result<(), Failed>
         ensures committed { F.honest → IsLockEmpty (transaction_place self)
             (F.means files.old).tree → OnOk result
-            (CommitsRewrite (transaction_kind self) (records_of self) (changes_of self)
-            (transaction_place self) (F.means files.old).tree (F.means files.new).tree) }
+            (CommitsBy self (F.means files.old).tree (F.means files.new).tree) }
         ensures read { OnOk result (IsReadBuffer (transaction_kind self) (records_of self)) }
         ensures leaves { F.honest → IsLockEmpty (transaction_place self) (F.means files.old).tree →
-            AtEveryStop F.means files.old files.new (IsBeforeOrRewritten (transaction_kind self)
-            (records_of self) (changes_of self) (transaction_place self)) }
+            AtEveryStop F.means files.old files.new (IsBeforeOrCommitted self) }
         ensures lost { F.honest → IsReadyOn (transaction_place self) (disk_of (F.means files.old)) →
             Loses (F.means files.old) (F.means files.new)
-            (IsLostOf (transaction_kind self) (records_of self) (changes_of self)
-            (transaction_place self) (disk_of (F.means files.old))) }
+            (IsLostBy self (disk_of (F.means files.old))) }
         ensures settled { F.honest → IsReadyOn (transaction_place self)
             (disk_of (F.means files.old)) → OnOk result (SettlesPackedRefs (transaction_place self)
             (disk_of (F.means files.old)) (disk_of (F.means files.new))) }
@@ -178,10 +175,8 @@ impl Transaction {
             (F.means files.new).tree f.error) }
         ensures kept { F.honest → IfErr result (λ f. IsUnbegun f.error → OnlyLockGoes
             (transaction_place self) (F.means files.old).tree (F.means files.new).tree) }
-        ensures named { IfErr result (λ f. MatchOption f.lock_left (F.honest →
-            is_file ((F.means files.new).tree (lock_of (transaction_place self))) ≡ false)
-            (λ path. (path.items ≡ lock_of (transaction_place self))
-            × HasRisen (F.faults files.old) (F.faults files.new))) }
+        ensures named { IfErr result (λ f. LockIsGoneOrNamed F.honest self f.lock_left
+            (F.faults files.old) (F.faults files.new) (F.means files.new).tree) }
     {
         let Transaction {
             buffer,
@@ -212,10 +207,8 @@ impl Transaction {
             (OnlyLockGoes (transaction_place self)) }
         ensures lost { F.honest → Loses (F.means files.old) (F.means files.new)
             (OnlyLockIsLost (transaction_place self) (disk_of (F.means files.old))) }
-        ensures named { MatchOption result (F.honest →
-            is_file ((F.means files.new).tree (lock_of (transaction_place self))) ≡ false)
-            (λ path. (path.items ≡ lock_of (transaction_place self))
-            × HasRisen (F.faults files.old) (F.faults files.new)) }
+        ensures named { LockIsGoneOrNamed F.honest self result (F.faults files.old)
+            (F.faults files.new) (F.means files.new).tree }
     {
         let Transaction {
             buffer: _,

@@ -4,12 +4,11 @@ ghost use Rattle.std.specs.Option.{option_map};
 ghost use Rattle.gix_ref_files.specs.ReadOnly.{OnlyReads};
 ghost use Rattle.gix_ref_files.specs.Tree.{node_at};
 ghost use Rattle.gix_ref_theory.specs.OnRealTrees.{contents};
-ghost use Rattle.gix_ref_theory.specs.Views.{View};
 ghost use Rattle.gix_ref_transaction.specs.CommitRenames.{SeesItsLog, SeeLogs, path_in};
 ghost use Rattle.gix_ref_reflog.specs.AskedEdits.{asked, asked_edit, all_but_logs, but_log, outcome_of, outcomes_of};
 ghost use Rattle.gix_ref_reflog.specs.DueLines.{due_line, log_outcome, log_outcomes, outcome_by, asked_log, rules_of, with_log};
 ghost use Rattle.gix_ref_reflog.specs.LineCauses.{AllHaveNoCause, IsCountedCause, IsRefusal, IsRefusalAt, HasNoCause};
-ghost use Rattle.gix_ref_reflog.specs.internal.LineSteps.{log_rules, Sees};
+ghost use Rattle.gix_ref_reflog.specs.internal.LineSteps.{log_rules, OfSeen, Sees};
 ghost use Rattle.gix_ref_reflog.specs.internal.SeenLogs.{due_paths, IsBounded};
 
 use crate::error::Error;
@@ -64,21 +63,18 @@ fn due_line<F: Files>(
     requires path { path.now ≡ asked_log (log_rules rules) (asked_edit edit.now leaf) }
     requires bounded { IsBounded due.old }
     ensures bounded { OnOk result (IsBounded due.new) }
-    ensures line { F.honest → (view : View) → Sees view (F.means files.old).tree
-        (due_paths due.old) → IfOk result (λ due. option_map vec_items due.line
-        ≡ due_line (log_rules rules.entry) view (asked_edit edit.now leaf)) }
+    ensures line { F.honest → OfSeen (F.means files.old).tree due.old (λ view. IfOk result (λ due.
+        option_map vec_items due.line ≡ due_line (log_rules rules.entry) view
+        (asked_edit edit.now leaf))) }
     ensures there { F.honest → IfOk result (λ due. (node : Node) → due.log_seen ≡ Some node →
         IsSome due.line × (node ≡ node_at (F.means files.old).tree path.now)) }
-    ensures passed { F.honest → (view : View) →
-        Sees view (F.means files.old).tree (due_paths due.old) →
-        OnOk result (HasNoCause (log_rules rules.entry) view (asked_edit edit.now leaf)) }
-    ensures seen { F.honest → (view : View) →
-        Sees view (F.means files.old).tree (due_paths due.old) →
-        OnOk result (Sees (with_log (log_rules rules.entry) view (asked_edit edit.now leaf))
-        (F.means files.old).tree (due_paths due.new)) }
-    ensures refused { F.honest → (view : View) →
-        Sees view (F.means files.old).tree (due_paths due.old) →
-        IfErr result (IsRefusalAt (log_rules rules.entry) view (asked_edit edit.now leaf)) }
+    ensures passed { F.honest → OfSeen (F.means files.old).tree due.old (λ view. OnOk result
+        (HasNoCause (log_rules rules.entry) view (asked_edit edit.now leaf))) }
+    ensures seen { F.honest → OfSeen (F.means files.old).tree due.old (λ view. OnOk result (Sees
+        (with_log (log_rules rules.entry) view (asked_edit edit.now leaf)) (F.means files.old).tree
+        (due_paths due.new))) }
+    ensures refused { F.honest → OfSeen (F.means files.old).tree due.old (λ view. IfErr result
+        (IsRefusalAt (log_rules rules.entry) view (asked_edit edit.now leaf))) }
     ensures reads { OnlyReads F.honest F.means F.faults files.old files.new }
     ensures counted { IfErr result (IsCountedCause (F.faults files.old) (F.faults files.new)) }
 {
@@ -123,20 +119,17 @@ fn decide_log<F: Files>(
     requires { IsBounded due.old }
     ensures bounded { OnOk result (IsBounded due.new) }
     ensures but_log { but_log edit.new ≡ but_log edit.old }
-    ensures log { F.honest → (view : View) → Sees view (F.means files.old).tree
-        (due_paths due.old) → OnOk result (outcome_of edit.new.log
-        ≡ log_outcome (log_rules rules.entry) view (asked_edit edit.old leaf)) }
+    ensures log { F.honest → OfSeen (F.means files.old).tree due.old (λ view. OnOk result
+        (outcome_of edit.new.log ≡ log_outcome (log_rules rules.entry) view
+        (asked_edit edit.old leaf))) }
     ensures there { F.honest → OnOk result (SeesItsLog (F.means files.old).tree edit.new) }
-    ensures passed { F.honest → (view : View) →
-        Sees view (F.means files.old).tree (due_paths due.old) →
-        OnOk result (HasNoCause (log_rules rules.entry) view (asked_edit edit.old leaf)) }
-    ensures seen { F.honest → (view : View) →
-        Sees view (F.means files.old).tree (due_paths due.old) →
-        OnOk result (Sees (with_log (log_rules rules.entry) view (asked_edit edit.old leaf))
-        (F.means files.old).tree (due_paths due.new)) }
-    ensures refused { F.honest → (view : View) →
-        Sees view (F.means files.old).tree (due_paths due.old) →
-        IfErr result (IsRefusalAt (log_rules rules.entry) view (asked_edit edit.old leaf)) }
+    ensures passed { F.honest → OfSeen (F.means files.old).tree due.old (λ view. OnOk result
+        (HasNoCause (log_rules rules.entry) view (asked_edit edit.old leaf))) }
+    ensures seen { F.honest → OfSeen (F.means files.old).tree due.old (λ view. OnOk result (Sees
+        (with_log (log_rules rules.entry) view (asked_edit edit.old leaf)) (F.means files.old).tree
+        (due_paths due.new))) }
+    ensures refused { F.honest → OfSeen (F.means files.old).tree due.old (λ view. IfErr result
+        (IsRefusalAt (log_rules rules.entry) view (asked_edit edit.old leaf))) }
     ensures reads { OnlyReads F.honest F.means F.faults files.old files.new }
     ensures counted { IfErr result (IsCountedCause (F.faults files.old) (F.faults files.new)) }
 {

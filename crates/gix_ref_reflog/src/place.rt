@@ -1,5 +1,5 @@
 //! What there is at the path of a log.
-ghost use Rattle.std.specs.Prelude.{◌≡◌, ◌||◌, ℕ, IfOk, IfErr, is_some};
+ghost use Rattle.std.specs.Prelude.{◌≡◌, ◌||◌, IfOk, IfErr, is_some};
 ghost use Rattle.std.specs.List.{list_any};
 ghost use Rattle.gix_ref_files.specs.ReadOnly.{OnlyReads};
 ghost use Rattle.gix_ref_files.specs.Files.{count_with, FaultCounts};

@@ -19,7 +19,8 @@ use Rattle.gix_ref_target.specs.PackedRecords.{Record, record_named, id_read}
 use Rattle.gix_ref_hash.specs.declared.hash.ObjectId.{ObjectId}
 use Rattle.gix_ref_packed.specs.Buffers.{IsRefusedFile}
 use Rattle.gix_ref_packed.specs.declared.packed.buffer.open.Error.TheVariants.{Io as unread}
-use Rattle.gix_ref_lookup.specs.Lookups.{ArePackedRecords, HasNoKey, IsOpenedText, OfKey}
+use Rattle.gix_ref_lookup.specs.Lookups.{meaning_in, ArePackedRecords, HasNoKey, IsOpenedText, OfKey}
+use Rattle.gix_ref_lookup.specs.declared.settings.Settings.{Settings}
 use Rattle.gix_ref_packed.specs.declared.packed.find.Error.TheVariants.{Parse}
 use Rattle.gix_ref_packed_text.specs.Positions.{CannotRead, IsNotMalformed}
 use Rattle.gix_ref_packed_text.specs.Windows.{HitsRecord}
@@ -262,6 +263,10 @@ deletes_reference (Delete expected log) = is_of_reference log
 abbrev pub IsHidden : Store → View → RefEdit → Type 0
 IsHidden s view edit = (deletes_reference edit.change ≡ false)
     × IsSome (decoded s (view (s.place (name_of edit))))
+
+-- of honest files: it is not
+abbrev pub NotHidden : (honest : Type 0) → Settings → View → RefEdit → Type 0
+NotHidden honest settings view edit = honest → IsHidden (meaning_in settings) view edit → ⊥
 
 -- the text of records of an open `packed-refs` has this
 pub record OfOpened (kind : Kind) (packed : Option (List ℕ))

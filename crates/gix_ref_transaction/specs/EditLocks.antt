@@ -3,15 +3,17 @@ use Rattle.std.specs.Prelude.{◌≡◌, ◌⊎◌, ℕ, List, [], ◌∷◌, So
 use Rattle.gix_ref_files.specs.Files.{Meaning, disk_of, Leaves, Passes, FaultCounts, NoFewer}
 use Rattle.gix_ref_files.specs.Lock.{lock_of, LockingOn}
 use Rattle.gix_ref_files.specs.Settled.{IsWholeAt}
-use Rattle.gix_ref_files.specs.Tree.{Tree, Path}
+use Rattle.gix_ref_files.specs.Tree.{Tree, Path, put}
 use Rattle.gix_ref_files.specs.Tree.Content.{File}
 use Rattle.gix_ref_theory.specs.OnRealTrees.{view_of}
 use Rattle.gix_ref_theory.specs.Edits.{Mode}
 use Rattle.gix_ref_theory.specs.Readings.{Store}
+use Rattle.gix_ref_theory.specs.Views.{View}
+use Rattle.gix_ref_lookup.specs.declared.settings.Settings.{Settings}
 use Rattle.gix_ref_edits.specs.RefEdits.{name_of}
-use Rattle.gix_ref_transaction.specs.Causes.{packed_of, IsCounted, IsIoOrMemory, IsPossible}
+use Rattle.gix_ref_transaction.specs.Causes.{found, packed_of, IsCounted, IsIoOrMemory, IsMismatch, IsPossible}
 use Rattle.gix_ref_transaction.specs.OwnLocks.{AddsLocks}
-use Rattle.gix_ref_transaction.specs.PrepareSteps.{FillingOn, FillsLock, IsDecided, IsNewLock, IsRefusedLock, IsSomeWhole}
+use Rattle.gix_ref_transaction.specs.PrepareSteps.{effect_value, lock_text, setting_of, FillingOn, FillsLock, IsDecided, IsNewLock, IsRefusedLock, IsSomeWhole}
 use Rattle.gix_ref_transaction.specs.declared.edit.Edit.{Edit}
 use Rattle.gix_ref_transaction.specs.declared.prepare.error.Error.{Error}
 
@@ -76,3 +78,13 @@ pub record IsWritten
       IsDecided s mode old.tree new.tree before now
   pub whole : IsWholeAt (disk_of old) (lock_of before.lock) [] →
       IsSomeWhole (disk_of new) (lock_of before.lock)
+
+-- the lock of an edit gets the text that is to be written, and nothing else changes
+abbrev pub GetsItsText : Edit → (old new : Tree) → Type 0
+GetsItsText edit old new = new ≡ put old (lock_of edit.lock)
+    (Some (File (lock_text (effect_value edit.update.change edit.effect))))
+
+-- what is found is not what the edit expects, in a store of these settings
+abbrev pub IsNotAsExpected : Settings → View → Edit → Error → Type 0
+IsNotAsExpected settings view edit error = IsMismatch settings.kind edit.update
+    (found (setting_of settings) view (name_of edit.update)) error

@@ -8,12 +8,14 @@ use Rattle.gix_ref_files.specs.Lock.{lock_of}
 use Rattle.gix_ref_files.specs.Tree.{Tree, Path}
 use Rattle.gix_ref_theory.specs.OnRealTrees.{view_of}
 use Rattle.gix_ref_theory.specs.Edits.{Mode}
+use Rattle.gix_ref_lookup.specs.Lookups.{packed_refs_in}
+use Rattle.gix_ref_lookup.specs.declared.settings.Settings.{Settings}
 use Rattle.gix_ref_theory.specs.Readings.{Store}
 use Rattle.gix_ref_edits.specs.declared.transaction.RefEdit.{RefEdit}
 use Rattle.gix_ref_transaction.specs.Causes.{locks_of, packed_taken, AllValid, IsCounted, IsCountedWith, IsFindCause, IsFirstCause, IsIoOrMemory, IsPackedLocked, IsPackedRefusal, IsPackedWell, LocksAreApart}
 use Rattle.gix_ref_transaction.specs.LeftLocks.{AreNamedOnce}
 use Rattle.gix_ref_transaction.specs.OwnLocks.{paths_of, is_in, AddsLocks, OnlyLocks}
-use Rattle.gix_ref_transaction.specs.PrepareSteps.{all_asked, ids_in, packed_ids, packed_places, place_paths, places_of, updates, AreEmpty, AreLockable, AreSettled, AreWholeLocks, IsPackedPlace}
+use Rattle.gix_ref_transaction.specs.PrepareSteps.{all_asked, ids_in, own_locks, packed_ids, packed_places, place_paths, places_of, possible_locks, setting_of, updates, AreEmpty, AreLockable, AreSettled, AreWholeLocks, IsPackedPlace}
 use Rattle.gix_ref_transaction.specs.declared.edit.Edit.{Edit}
 use Rattle.gix_ref_transaction.specs.declared.prepare.error.Error.{Error}
 use Rattle.gix_ref_transaction.specs.declared.release.Remains.{Remains}
@@ -50,6 +52,46 @@ pub record HoldAllLocks
   pub remains : rest ≡ room
   pub adds : honest → AddsLocks locks locks old.tree new.tree
   pub taken : honest → AreTaken known s mode kind locks old new before now
+
+-- the locks of these edits, in a store of these settings
+abbrev pub edit_locks : Settings → List Edit → List Path
+edit_locks settings edits = locks_of (setting_of settings) (updates edits)
+
+-- and that of `packed-refs` before them, where it is due
+abbrev pub due_locks : Settings → Mode → Tree → List Edit → List Path
+due_locks settings mode T edits = own_locks (setting_of settings) mode T (updates edits)
+
+-- the edits have the ids of their records
+abbrev pub HaveTheirIds : Settings → Tree → List Edit → Type 0
+HaveTheirIds settings T edits = ids_in edits ≡ packed_ids (setting_of settings) T (updates edits)
+
+-- `packed-refs` of a store of these settings is well formed, or there is none
+abbrev pub HasPackedWell : Settings → Meaning → Type 0
+HasPackedWell settings meaning = IsPackedWell settings.kind (packed_refs_in settings meaning)
+
+module _ (honest : Type 0) (settings : Settings) (mode : Mode) (old new : Meaning) where
+  -- the locks of edits that have the ids of their records are taken
+  abbrev pub AreTakenByIds : (before now : List Edit) → Type 0
+  AreTakenByIds before now = AreTaken (HaveTheirIds settings old.tree before) (setting_of settings)
+      mode settings.kind (edit_locks settings before) old new before now
+
+  -- and all are held
+  abbrev pub HoldAllByIds : (before now : List Edit) → (room rest : Remains) → Type 0
+  HoldAllByIds before now room rest = HoldAllLocks honest (HaveTheirIds settings old.tree before)
+      (setting_of settings) mode settings.kind (edit_locks settings before) old new before now
+      room rest
+
+  -- the locks of edits whose records are found in a `packed-refs` that is well formed are held
+  abbrev pub HoldAllFound : (before now : List Edit) → (room rest : Remains) → Type 0
+  HoldAllFound before now room rest = HoldAllLocks honest (HasPackedWell settings old)
+      (setting_of settings) mode settings.kind (edit_locks settings before) old new before now
+      room rest
+
+  -- and with that of `packed-refs`, where it is due
+  abbrev pub HoldAllDue : (before now : List Edit) → (room rest : Remains) → Type 0
+  HoldAllDue before now room rest = HoldAllLocks honest (HasPackedWell settings old)
+      (setting_of settings) mode settings.kind (due_locks settings mode old.tree before) old new
+      before now room rest
 
 -- So many edits at the beginning have their locks: these were free, and nothing else was added but folders that lead to a lock.
 pub record FirstAreTaken (honest : Type 0) (s : Store) (edits : List Edit) (n : ℕ)
@@ -94,3 +136,23 @@ module _ {F : Type 0} (honest : Type 0) (means : F → Meaning) (faults : F → 
     pub opened : honest → IsPackedRefusal kind ((means before).tree s.packed_path) error
     pub unread : honest → IsFindCause s kind (view_of (means before).tree) edits error
     pub counted : IsCountedWith honest read (faults before) (faults now) error
+
+  -- The same of edits in a store of these settings; the cause is one of the tree before.
+  abbrev pub NoneIsHeld : (read : FileError → Type 0) → Settings → List Edit →
+      (Cause : Tree → List RefEdit → Error → Type 0) → (before now : F) → Error → Type 0
+  NoneIsHeld read settings edits Cause before now error =
+      IsHeldBack read (setting_of settings) settings.kind (updates edits)
+      (Cause (means before).tree (updates edits)) before now error
+
+  -- The locks of these edits, which were taken, are removed again.
+  abbrev pub RemovesAgain : Settings → List Edit → (left : Vec (Vec ℕ Global) Global) →
+      (before now : F) → Type 0
+  RemovesAgain settings edits left before now = AreRemovedAgain (edit_locks settings edits)
+      (edit_locks settings edits) left before now
+
+  -- So is that of `packed-refs`, where it is due.
+  abbrev pub RemovesDueAgain : Settings → Mode → List Edit → (left : Vec (Vec ℕ Global) Global) →
+      (before now : F) → Type 0
+  RemovesDueAgain settings mode edits left before now = AreRemovedAgain
+      (due_locks settings mode (means before).tree edits)
+      (possible_locks (setting_of settings) (updates edits)) left before now

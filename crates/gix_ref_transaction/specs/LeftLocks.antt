@@ -1,12 +1,12 @@
 -- What the end of a transaction leaves: its edits, and the locks that could not be removed.
-use Rattle.std.specs.Prelude.{◌≡◌, ◌≤◌, ◌<◌, ◌+◌, ◌⊎◌, ℕ, List, [], ◌∷◌, ◌++◌, Bool, true, Vec, vec_len, if◌then◌else◌}
+use Rattle.std.specs.Prelude.{◌≡◌, ◌≤◌, ◌<◌, ◌+◌, ◌⊎◌, ℕ, List, [], ◌∷◌, ◌++◌, Bool, true, false, Vec, vec_len, if◌then◌else◌}
 use Rattle.std.specs.Vec.{vec_capacity}
 use Rattle.std.specs.declared.alloc.Global.{Global}
 use Rattle.gix_ref_files.specs.Files.{Meaning, Leaves, HasRisenBy, FaultCounts, NoFewer}
 use Rattle.gix_ref_files.specs.Lock.{lock_of}
-use Rattle.gix_ref_files.specs.Tree.{Path}
+use Rattle.gix_ref_files.specs.Tree.{Path, Tree, is_file}
 use Rattle.gix_ref_transaction.specs.OwnLocks.{paths_of, is_in, times, OnlyRemoves, RemovesLocks}
-use Rattle.gix_ref_transaction.specs.CommitRenames.{log_at, path_in, place_at}
+use Rattle.gix_ref_transaction.specs.CommitRenames.{lock_at, log_at, path_in, place_at, stays_at}
 use Rattle.gix_ref_transaction.specs.PrepareSteps.{updates}
 use Rattle.gix_ref_transaction.specs.declared.edit.Edit.{Edit}
 use Rattle.gix_ref_transaction.specs.declared.release.Remains.{Remains}
@@ -69,3 +69,10 @@ pub record AddsEdit (edit : Edit) (removed : Bool) (old new : Remains) : Type 0 
   pub room_for_edits : vec_capacity new.edits ≡ vec_capacity old.edits
   pub len : vec_len new.left ≤ vec_len old.left + 1
   pub len_of_edits : vec_len new.edits ≡ vec_len old.edits + 1
+
+-- The locks of these edits that were not renamed are gone, except for those that are named, where the edits before `done` are done.
+abbrev pub OthersAreGone : Vec Edit Global → (done : ℕ) → (left : Vec (Vec ℕ Global) Global) →
+    Tree → Type 0
+OthersAreGone edits done left T = (k : ℕ) → k < vec_len edits → stays_at edits.items done k ≡ true →
+    is_in (paths_of left.items) (lock_at edits.items k) ≡ false →
+    is_file (T (lock_at edits.items k)) ≡ false

@@ -16,9 +16,12 @@ use Rattle.gix_ref_edits.specs.declared.transaction.RefEdit.{RefEdit}
 use Rattle.gix_ref_files.specs.Tree.{Tree}
 use Rattle.gix_ref_transaction.specs.Causes.{packs_edit, IsFirstCause, IsPackedCause, IsPackedLocked}
 use Rattle.gix_ref_transaction.specs.First.{AllPass, FirstFault}
-use Rattle.gix_ref_transaction.specs.Packing.{new_object, peeled_in, put_by}
+use Rattle.gix_ref_transaction.specs.Packing.{ends_of, mode_in, new_object, peeled_in, put_by, OfFinder}
+use Rattle.gix_ref_transaction.specs.PrepareSteps.{setting_of, updates}
+use Rattle.gix_ref_lookup.specs.declared.settings.Settings.{Settings}
 use Rattle.gix_ref_transaction.specs.declared.edit.Edit.{Edit}
 use Rattle.gix_ref_transaction.specs.declared.edit.PackedObject.{PackedObject}
+use Rattle.gix_ref_transaction.specs.declared.packing.PackedRefs.{PackedRefs}
 use Rattle.gix_ref_transaction.specs.declared.prepare.error.Error.{Error}
 use Rattle.gix_ref_transaction.specs.declared.prepare.error.Error.TheVariants.{PackedTransactionPrepare, OtherHashKind, Memory}
 use Rattle.gix_ref_transaction.specs.declared.prepare.packed.Error.{Error as PackedError}
@@ -150,3 +153,41 @@ abbrev pub ArePut : (claims : Type 0) → (ObjectId → Stored) → Store → Mo
 ArePut claims meaning s mode kind [] = Unit {0}
 ArePut claims meaning s mode kind (e ∷ edits) =
     IsPut claims meaning s mode kind e.update e.put × ArePut claims meaning s mode kind edits
+
+-- the cause, or no memory
+abbrev pub OrMemory : (Error → Type 0) → Error → Type 0
+OrMemory Cause error = (error ≡ Memory) ⊎ Cause error
+
+-- By the finder of objects that a use of `packed-refs` has, in a store of these settings:
+module _ {T : Type 0} (claims : T → Type 0) (meaning : T → ObjectId → Stored) (settings : Settings)
+    (packed_refs : PackedRefs T) where
+  -- why an edit puts no object
+  abbrev pub PutsNone : RefEdit → Error → Type 0
+  PutsNone edit error = IsUnpeeledEdit (setting_of settings) (mode_in packed_refs) settings.kind
+      (ends_of meaning packed_refs) edit error
+
+  -- why the first of these edits that puts no object does not
+  abbrev pub FirstPutsNone : List RefEdit → Error → Type 0
+  FirstPutsNone edits error = IsFirstUnpeeled (setting_of settings) (mode_in packed_refs)
+      settings.kind (ends_of meaning packed_refs) [] edits error
+
+  -- what is put for each of these edits is decided
+  abbrev pub ArePutBy : List Edit → Type 0
+  ArePutBy edits = ArePut (OfFinder claims packed_refs) (ends_of meaning packed_refs)
+      (setting_of settings) (mode_in packed_refs) settings.kind edits
+
+  -- the cause of the objects that are put, of edits whose records are found, and of the locks
+  abbrev pub CausesNoPut : Tree → List RefEdit → Error → Type 0
+  CausesNoPut tree edits error = IsPeelCause (OfFinder claims packed_refs)
+      (ends_of meaning packed_refs) (setting_of settings) (mode_in packed_refs) settings.kind edits
+      error
+
+  abbrev pub CausesNoHold : Tree → List RefEdit → Error → Type 0
+  CausesNoHold tree edits error = IsHoldCause (OfFinder claims packed_refs)
+      (ends_of meaning packed_refs) (setting_of settings) (mode_in packed_refs) settings.kind tree
+      edits error
+
+  abbrev pub CausesNoLock : Tree → List RefEdit → Error → Type 0
+  CausesNoLock tree edits error = IsLockCause (OfFinder claims packed_refs)
+      (ends_of meaning packed_refs) (setting_of settings) (mode_in packed_refs) settings.kind tree
+      edits error

@@ -13,10 +13,10 @@ ghost use Rattle.gix_ref_lookup.specs.StoreLayout.{namespace_text};
 ghost use Rattle.gix_ref_theory.specs.OnRealTrees.{contents};
 ghost use Rattle.gix_ref_edits.specs.RefEdits.{name_of, new_of, is_of_reference};
 ghost use Rattle.gix_ref_transaction.specs.CommitRenames.{is_file_seen, is_no_folder_seen};
-ghost use Rattle.gix_ref_transaction.specs.Causes.{deletes_reference, found, found_by, decoded, IsCounted, IsNotIo, IsMismatch, IsIoOrMemory};
-ghost use Rattle.gix_ref_transaction.specs.EditLocks.{IsInPlace, IsLockTaken, IsNotAccepted, IsNotTaken, IsFileOrMemoryFault, IsWritten, OnlyFills, TakesItsLock};
+ghost use Rattle.gix_ref_transaction.specs.Causes.{deletes_reference, found, found_by, decoded, IsCounted, IsNotIo, IsIoOrMemory};
+ghost use Rattle.gix_ref_transaction.specs.EditLocks.{GetsItsText, IsInPlace, IsLockTaken, IsNotAsExpected, IsNotAccepted, IsNotTaken, IsFileOrMemoryFault, IsWritten, OnlyFills, TakesItsLock};
 ghost use Rattle.gix_ref_transaction.specs.Packing.{mode_of_packing};
-ghost use Rattle.gix_ref_transaction.specs.PrepareSteps.{setting_of, value_of, lock_text, effect_value, text_of_new, decision, decision_of, given, is_new, is_damaged, is_loose_file, is_undecodable, target_by, IsSomeWhole, IsRefusedLock};
+ghost use Rattle.gix_ref_transaction.specs.PrepareSteps.{setting_of, value_of, text_of_new, decision, decision_of, given, is_new, is_damaged, is_loose_file, is_undecodable, target_by, IsSomeWhole, IsRefusedLock};
 
 use crate::packing::{Packing, is_packed_alone};
 use crate::prepare::Error;
@@ -398,8 +398,7 @@ impl Edit {
     fn write<F: Files>(&self, alloc: Global, files: &mut F) -> Result<(), Error>
         ensures filled { F.honest → (F.means files.old).tree
             (lock_of self.now.lock) ≡ Some (File []) → OnOk result
-            ((F.means files.new).tree ≡ put (F.means files.old).tree (lock_of self.now.lock)
-            (Some (File (lock_text (effect_value self.now.update.change self.now.effect))))) }
+            (GetsItsText self.now (F.means files.old).tree (F.means files.new).tree) }
         ensures whole { F.honest → IsWholeAt (disk_of (F.means files.old)) (lock_of self.now.lock)
             [] → OnOk result (IsSomeWhole (disk_of (F.means files.new)) (lock_of self.now.lock)) }
         ensures failed { IfErr result
@@ -431,8 +430,8 @@ impl Edit {
             (mode_of_packing packing) (F.means files.old) (F.means files.new) self.old self.new) }
         ensures refused { IfErr result
             (IsNotAccepted F.honest F.means F.faults (setting_of settings.now) self.old
-            (IsMismatch settings.now.kind self.old.update (found (setting_of settings.now)
-            (contents F.means files.old) (name_of self.old.update))) files.old files.new) }
+            (IsNotAsExpected settings.now (contents F.means files.old) self.old)
+            files.old files.new) }
         ensures fills { OnlyFills F.honest F.means F.faults
             (lock_of self.old.lock) files.old files.new }
     {

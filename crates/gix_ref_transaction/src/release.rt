@@ -1,5 +1,5 @@
 //! The locks of a transaction, removed: those that a commit has not renamed, or all.
-ghost use Rattle.std.specs.Prelude.{◌≡◌, ◌≤◌, ◌<◌, ◌+◌, ◌⊎◌, ℕ, [], ◌∷◌, ◌++◌, IfOk, IsTrue, true, false, not, ◌&&◌, map, nat_lt, vec_len, if◌then◌else◌};
+ghost use Rattle.std.specs.Prelude.{◌≡◌, ◌≤◌, ◌<◌, ◌+◌, ◌⊎◌, ℕ, [], ◌++◌, IfOk, IsTrue, true, false, not, ◌&&◌, map, nat_lt, vec_len, if◌then◌else◌};
 ghost use Rattle.std.specs.Vec.{vec_capacity};
 ghost use Rattle.std.specs.Bool.{OnFalse};
 ghost use Rattle.gix_ref_files.specs.Lock.{lock_of};
@@ -7,9 +7,9 @@ ghost use Rattle.gix_ref_files.specs.Tree.{Path, is_file};
 ghost use Rattle.gix_ref_files.specs.Files.{OnEveryDisk, HasRisen, NoFewer};
 ghost use Rattle.gix_ref_files.specs.DiskCalls.{RemovingFileOn};
 ghost use Rattle.gix_ref_transaction.specs.OwnLocks.{paths_of, is_in};
-ghost use Rattle.gix_ref_transaction.specs.CommitRenames.{lock_at, path_in, stays_at};
+ghost use Rattle.gix_ref_transaction.specs.CommitRenames.{path_in, stays_at};
 ghost use Rattle.gix_ref_transaction.specs.Effects.{is_write};
-ghost use Rattle.gix_ref_transaction.specs.LeftLocks.{AddsEdit, AreNamedOnce, HandsBack, HasRoom, HasRoomForEdits, NamesMore, OnlyReleases};
+ghost use Rattle.gix_ref_transaction.specs.LeftLocks.{OthersAreGone, AddsEdit, AreNamedOnce, HandsBack, HasRoom, HasRoomForEdits, NamesMore, OnlyReleases};
 ghost use Rattle.gix_ref_transaction.specs.PrepareSteps.{held_locks, lock_paths, packed_places};
 
 use crate::edit::{Edit, LogEffect};
@@ -164,9 +164,7 @@ pub fn release_locks<F: Files>(
     ensures back { HandsBack edits done result }
     ensures renamed { ((k : ℕ) → k < vec_len edits → stays_at edits.items done k ≡ false) →
         files.new ≡ files.old }
-    ensures gone { F.honest → (k : ℕ) → k < vec_len edits → stays_at edits.items done k ≡ true →
-        is_in (paths_of result.left.items) (lock_at edits.items k) ≡ false →
-        is_file ((F.means files.new).tree (lock_at edits.items k)) ≡ false }
+    ensures gone { F.honest → OthersAreGone edits done result.left (F.means files.new).tree }
     ensures named { NamesMore (lock_paths edits.items) (vec_len edits) remains.left result.left
         (F.faults files.old) (F.faults files.new) }
     ensures releases { OnlyReleases F.honest F.means F.faults
@@ -191,9 +189,7 @@ pub fn release_all<F: Files>(
 ) -> Remains
     requires room { HasRoom edits remains }
     ensures back { HandsBack edits done result }
-    ensures gone { F.honest → (k : ℕ) → k < vec_len edits → stays_at edits.items done k ≡ true →
-        is_in (paths_of result.left.items) (lock_at edits.items k) ≡ false →
-        is_file ((F.means files.new).tree (lock_at edits.items k)) ≡ false }
+    ensures gone { F.honest → OthersAreGone edits done result.left (F.means files.new).tree }
     ensures packed_gone { F.honest → (q : Path) → is_in (map lock_of (packed_places packed)) q
         ≡ true → is_in (paths_of result.left.items) q ≡ false →
         is_file ((F.means files.new).tree q) ≡ false }

@@ -1,5 +1,5 @@
 //! One candidate of a lookup: its loose file, or else its record in `packed-refs`.
-ghost use Rattle.std.specs.Prelude.{◌≡◌, false, ℕ, List, Option, None, IfOk, IfErr, IfNone, IfSome, OnOk};
+ghost use Rattle.std.specs.Prelude.{◌≡◌, false, List, Option, None, IfOk, IfErr, IfNone, IfSome, OnOk};
 ghost use Rattle.gix_ref_hash.specs.declared.hash.Kind.{Kind};
 ghost use Rattle.gix_ref_name.specs.Names.{full_bytes, full_ref_bytes};
 ghost use Rattle.gix_ref_name.specs.Namespaces.{stripped};
@@ -152,13 +152,20 @@ fn find_at_key<F: Files>(
     key: FullNameRef<'_>,
     records: &mut Records<'_, F::Reader>,
 ) -> Result<Option<Reference>, Error>
-    ensures found { OfAsked settings.entry (F.means files.old) F.honest records.old (λ rs. OfNames settings.entry (full_ref_bytes key.entry) (λ name. IfOk result (IsByRecord (meaning_in settings.entry) rs name))) }
-    ensures sound { OfAsked settings.entry (F.means files.old) F.honest records.old (λ rs. IfErr result IsFaultOrMemory) }
-    ensures hit { F.honest → AreHonest records.old → OfNames settings.entry (full_ref_bytes key.entry) (λ name. IfOk result (λ r. IfSome r (IsRecordHit settings.entry (contents F.means files.old) records.old name))) }
+    ensures found { OfAsked settings.entry (F.means files.old) F.honest records.old (λ rs. OfNames
+        settings.entry (full_ref_bytes key.entry) (λ name. IfOk result
+        (IsByRecord (meaning_in settings.entry) rs name))) }
+    ensures sound { OfAsked settings.entry (F.means files.old) F.honest records.old (λ rs. IfErr
+        result IsFaultOrMemory) }
+    ensures hit { F.honest → AreHonest records.old → OfNames settings.entry
+        (full_ref_bytes key.entry) (λ name. IfOk result (λ r. IfSome r (IsRecordHit settings.entry
+        (contents F.means files.old) records.old name))) }
     ensures none { F.honest → AreHonest records.old →
         IfOk result (λ r. IfNone r (FindsNone settings.entry.kind
         (packed_refs_in settings.entry (F.means files.old)) records.old)) }
-    ensures failed { OfNames settings.entry (full_ref_bytes key.entry) (λ name. IfErr result (RecordFails F.honest settings.entry (F.means files.old).tree records.old (F.faults files.old) (F.faults files.new) name)) }
+    ensures failed { OfNames settings.entry (full_ref_bytes key.entry) (λ name. IfErr result
+        (RecordFails F.honest settings.entry (F.means files.old).tree records.old
+        (F.faults files.old) (F.faults files.new) name)) }
     ensures still { F.honest → AreStillAskedWith settings.entry (F.means files.old)
         records.old records.new }
     ensures no_fault { OnOk result (F.faults files.new ≡ F.faults files.old) }
@@ -178,8 +185,10 @@ fn find_packed<F: Files>(
     name: FullNameRef<'_>,
     records: &mut Records<'_, F::Reader>,
 ) -> Result<Option<Reference>, Error>
-    ensures found { OfAsked settings.entry (F.means files.old) F.honest records.old (λ rs. IfOk result (IsByRecord (meaning_in settings.entry) rs (full_ref_bytes name.entry))) }
-    ensures sound { OfAsked settings.entry (F.means files.old) F.honest records.old (λ rs. IfErr result IsFaultOrMemory) }
+    ensures found { OfAsked settings.entry (F.means files.old) F.honest records.old (λ rs. IfOk
+        result (IsByRecord (meaning_in settings.entry) rs (full_ref_bytes name.entry))) }
+    ensures sound { OfAsked settings.entry (F.means files.old) F.honest records.old (λ rs. IfErr
+        result IsFaultOrMemory) }
     ensures hit { F.honest → AreHonest records.old → IfOk result (λ r. IfSome r
         (IsRecordHit settings.entry (contents F.means files.old) records.old
         (full_ref_bytes name.entry))) }
@@ -212,8 +221,11 @@ pub fn find_candidate<F: Files>(
     name: FullNameRef<'_>,
     records: &mut Records<'_, F::Reader>,
 ) -> Result<Option<Reference>, Error>
-    ensures found { OfAsked settings.entry (F.means files.old) F.honest records.old (λ rs. IfOk result (IsCandidate (meaning_in settings.entry) (contents F.means files.old) rs (full_ref_bytes name.entry))) }
-    ensures sound { OfAsked settings.entry (F.means files.old) F.honest records.old (λ rs. IfErr result IsSound) }
+    ensures found { OfAsked settings.entry (F.means files.old) F.honest records.old (λ rs. IfOk
+        result (IsCandidate (meaning_in settings.entry) (contents F.means files.old) rs
+        (full_ref_bytes name.entry))) }
+    ensures sound { OfAsked settings.entry (F.means files.old) F.honest records.old (λ rs. IfErr
+        result IsSound) }
     ensures hit { F.honest → AreHonest records.old →
         IfOk result (λ r. IfSome r (IsHit settings.entry (contents F.means files.old) records.old
         (full_ref_bytes name.entry))) }

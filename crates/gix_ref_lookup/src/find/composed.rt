@@ -1,11 +1,10 @@
 //! Lookups of names in composed Unicode (`core.precomposeUnicode` of `git config`).
-ghost use Rattle.std.specs.Prelude.{◌≡◌, ◌≢◌, ◌⊎◌, List, IfOk, IfErr, IfNone, IfSome, OnOk, MatchOption};
+ghost use Rattle.std.specs.Prelude.{◌≡◌, IfOk, IfErr, IfNone, IfSome, OnOk};
 ghost use Rattle.gix_ref_name.specs.ComposedNames.{decomposed};
-ghost use Rattle.gix_ref_name.specs.Names.{full_bytes, partial_bytes, partial_ref_bytes};
-ghost use Rattle.gix_ref_target.specs.PackedRecords.{Record};
+ghost use Rattle.gix_ref_name.specs.Names.{full_bytes, partial_ref_bytes};
 ghost use Rattle.gix_ref_files.specs.ReadOnly.{OnlyReads};
 ghost use Rattle.gix_ref_theory.specs.OnRealTrees.{contents};
-ghost use Rattle.gix_ref_lookup.specs.Lookups.{AreHonest, AreMissing, AreStillAskedWith, FailsAmong, Finds, IsGivenOf, IsHitOf, IsSound, MemoryOr, OfAsked, asked_names, lookup_of, meaning_in, name_asked};
+ghost use Rattle.gix_ref_lookup.specs.Lookups.{AreHonest, AreMissing, AreStillAskedWith, Finds, IsComposedName, IsFaultAmong, IsGivenOf, IsHitOf, IsSound, OfAsked, asked_names, lookup_of, meaning_in, name_asked};
 
 use crate::find::Error;
 use crate::find::lookup::find_asked;
@@ -24,9 +23,7 @@ pub fn composed_name(
     composes: bool,
     name: PartialNameRef<'_>,
 ) -> Result<Option<PartialName>, AllocError>
-    ensures { let asked = name_asked composes (partial_ref_bytes name.entry) in IfOk result
-        (λ r. MatchOption r (asked ≡ partial_ref_bytes name.entry)
-        (λ n. (partial_bytes n ≡ asked) × (asked ≢ partial_ref_bytes name.entry))) }
+    ensures { IfOk result (IsComposedName composes (partial_ref_bytes name.entry)) }
 {
     if composes {
         compose(alloc, name)
@@ -70,14 +67,19 @@ pub fn find_reference<F: Files>(
     name: PartialNameRef<'_>,
     records: &mut Records<'_, F::Reader>,
 ) -> Result<Option<Reference>, Error>
-    ensures found { OfAsked settings.entry (F.means files.old) F.honest records.old (λ rs. Finds (lookup_of composes (meaning_in settings.entry) (contents F.means files.old) rs (partial_ref_bytes name.entry)) result) }
-    ensures sound { OfAsked settings.entry (F.means files.old) F.honest records.old (λ rs. IfErr result IsSound) }
+    ensures found { OfAsked settings.entry (F.means files.old) F.honest records.old (λ rs. Finds
+        (lookup_of composes (meaning_in settings.entry) (contents F.means files.old) rs
+        (partial_ref_bytes name.entry)) result) }
+    ensures sound { OfAsked settings.entry (F.means files.old) F.honest records.old (λ rs. IfErr
+        result IsSound) }
     ensures hit { F.honest → AreHonest records.old → IfOk result (λ r. IfSome r (IsHitOf composes
         settings.entry (contents F.means files.old) records.old (partial_ref_bytes name.entry))) }
     ensures missing { F.honest → AreHonest records.old → IfOk result (λ r. IfNone r
         (AreMissing settings.entry (contents F.means files.old) records.old
         (name_asked composes (partial_ref_bytes name.entry)))) }
-    ensures failed { IfErr result (MemoryOr (FailsAmong F.honest settings.entry (F.means files.old).tree records.old (F.faults files.old) (F.faults files.new) (asked_names (name_asked composes (partial_ref_bytes name.entry))))) }
+    ensures failed { IfErr result (IsFaultAmong F.honest settings.entry (F.means files.old).tree
+        records.old (F.faults files.old) (F.faults files.new)
+        (asked_names (name_asked composes (partial_ref_bytes name.entry)))) }
     ensures asked { F.honest → OnOk result (AreStillAskedWith settings.entry (F.means files.old)
         records.old records.new) }
     ensures no_fault { OnOk result (F.faults files.new ≡ F.faults files.old) }

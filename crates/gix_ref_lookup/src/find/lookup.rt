@@ -1,13 +1,12 @@
 //! The lookup of a partial name (`gitrevisions`): its candidates, one after the other.
-ghost use Rattle.std.specs.Prelude.{◌≡◌, ◌⊎◌, None, List, IfOk, IfErr, IfNone, IfSome, OnOk, option_to_list};
+ghost use Rattle.std.specs.Prelude.{◌≡◌, None, IfOk, IfErr, IfNone, OnOk};
 ghost use Rattle.std.specs.List.{AllByRecursion};
 ghost use Rattle.gix_ref_name.specs.Candidates.{candidates, remote_head};
 ghost use Rattle.gix_ref_name.specs.Names.{partial_ref_bytes};
-ghost use Rattle.gix_ref_target.specs.PackedRecords.{Record};
 ghost use Rattle.gix_ref_files.specs.ReadOnly.{OnlyReads};
 ghost use Rattle.gix_ref_theory.specs.Lookups.{first_hit, hit_or_head};
 ghost use Rattle.gix_ref_theory.specs.OnRealTrees.{contents};
-ghost use Rattle.gix_ref_lookup.specs.Lookups.{AreHonest, AreMissing, AreStillAskedWith, FailsAmong, Finds, IsHitAmong, IsMissing, IsSound, MemoryOr, OfAsked, asked_names, lookup_as, meaning_in};
+ghost use Rattle.gix_ref_lookup.specs.Lookups.{AreHonest, AreMissing, AreStillAskedWith, FailsAmong, Finds, IsFaultAmong, IsHitAmong, IsMissing, IsSound, OfAsked, asked_names, head_names, lookup_as, meaning_in};
 
 use crate::find::Error;
 use crate::find::candidate::find_candidate;
@@ -27,9 +26,13 @@ fn find_first<F: Files>(
     name: PartialNameRef<'_>,
     records: &mut Records<'_, F::Reader>,
 ) -> Result<Option<Reference>, Error>
-    ensures found { OfAsked settings.entry (F.means files.old) F.honest records.old (λ rs. Finds (first_hit (meaning_in settings.entry) (contents F.means files.old) rs (candidates (partial_ref_bytes name.entry))) result) }
-    ensures sound { OfAsked settings.entry (F.means files.old) F.honest records.old (λ rs. IfErr result IsSound) }
-    ensures hit { F.honest → AreHonest records.old → IfOk result (IsHitAmong settings.entry (contents F.means files.old) records.old (candidates (partial_ref_bytes name.entry))) }
+    ensures found { OfAsked settings.entry (F.means files.old) F.honest records.old (λ rs. Finds
+        (first_hit (meaning_in settings.entry) (contents F.means files.old) rs
+        (candidates (partial_ref_bytes name.entry))) result) }
+    ensures sound { OfAsked settings.entry (F.means files.old) F.honest records.old (λ rs. IfErr
+        result IsSound) }
+    ensures hit { F.honest → AreHonest records.old → IfOk result (IsHitAmong settings.entry
+        (contents F.means files.old) records.old (candidates (partial_ref_bytes name.entry))) }
     ensures missing { F.honest → AreHonest records.old → IfOk result (λ r. IfNone r
         (AllByRecursion (IsMissing settings.entry (contents F.means files.old) records.old)
         (candidates (partial_ref_bytes name.entry)))) }
@@ -62,13 +65,17 @@ fn find_head<F: Files>(
     settings: Settings<'_>,
     name: PartialNameRef<'_>,
 ) -> Result<Option<Reference>, Error>
-    ensures found { F.honest → Finds (hit_or_head (meaning_in settings.entry) (contents F.means files.old) None (remote_head (partial_ref_bytes name.entry))) result }
+    ensures found { F.honest → Finds (hit_or_head (meaning_in settings.entry)
+        (contents F.means files.old) None (remote_head (partial_ref_bytes name.entry))) result }
     ensures sound { F.honest → IfErr result IsSound }
     ensures missing { F.honest → IfOk result (λ r. IfNone r (AllByRecursion
         (λ n. contents F.means files.old ((meaning_in settings.entry).place n) ≡ None)
-        (option_to_list (remote_head (partial_ref_bytes name.entry))))) }
-    ensures failed { IfErr result (MemoryOr (FailsAmong {G = F.Reader.ReadAt} F.honest settings.entry (F.means files.old).tree Records.None (F.faults files.old) (F.faults files.new) (option_to_list (remote_head (partial_ref_bytes name.entry))))) }
-    ensures hit { F.honest → IfOk result (IsHitAmong {G = F.Reader.ReadAt} settings.entry (contents F.means files.old) Records.None (option_to_list (remote_head (partial_ref_bytes name.entry)))) }
+        (head_names (partial_ref_bytes name.entry)))) }
+    ensures failed { IfErr result (IsFaultAmong {G = F.Reader.ReadAt} F.honest settings.entry
+        (F.means files.old).tree Records.None (F.faults files.old) (F.faults files.new)
+        (head_names (partial_ref_bytes name.entry))) }
+    ensures hit { F.honest → IfOk result (IsHitAmong {G = F.Reader.ReadAt} settings.entry
+        (contents F.means files.old) Records.None (head_names (partial_ref_bytes name.entry))) }
     ensures no_fault { OnOk result (F.faults files.new ≡ F.faults files.old) }
     ensures reads { OnlyReads F.honest F.means F.faults files.old files.new }
 {
@@ -90,13 +97,19 @@ pub fn find_asked<F: Files>(
     name: PartialNameRef<'_>,
     records: &mut Records<'_, F::Reader>,
 ) -> Result<Option<Reference>, Error>
-    ensures found { OfAsked settings.entry (F.means files.old) F.honest records.old (λ rs. Finds (lookup_as (meaning_in settings.entry) (contents F.means files.old) rs (partial_ref_bytes name.entry)) result) }
-    ensures sound { OfAsked settings.entry (F.means files.old) F.honest records.old (λ rs. IfErr result IsSound) }
-    ensures hit { F.honest → AreHonest records.old → IfOk result (IsHitAmong settings.entry (contents F.means files.old) records.old (asked_names (partial_ref_bytes name.entry))) }
+    ensures found { OfAsked settings.entry (F.means files.old) F.honest records.old (λ rs. Finds
+        (lookup_as (meaning_in settings.entry) (contents F.means files.old) rs
+        (partial_ref_bytes name.entry)) result) }
+    ensures sound { OfAsked settings.entry (F.means files.old) F.honest records.old (λ rs. IfErr
+        result IsSound) }
+    ensures hit { F.honest → AreHonest records.old → IfOk result (IsHitAmong settings.entry
+        (contents F.means files.old) records.old (asked_names (partial_ref_bytes name.entry))) }
     ensures missing { F.honest → AreHonest records.old → IfOk result (λ r. IfNone r
         (AreMissing settings.entry (contents F.means files.old) records.old
         (partial_ref_bytes name.entry))) }
-    ensures failed { IfErr result (MemoryOr (FailsAmong F.honest settings.entry (F.means files.old).tree records.old (F.faults files.old) (F.faults files.new) (asked_names (partial_ref_bytes name.entry)))) }
+    ensures failed { IfErr result (IsFaultAmong F.honest settings.entry (F.means files.old).tree
+        records.old (F.faults files.old) (F.faults files.new)
+        (asked_names (partial_ref_bytes name.entry))) }
     ensures asked { F.honest → OnOk result (AreStillAskedWith settings.entry (F.means files.old)
         records.old records.new) }
     ensures no_fault { OnOk result (F.faults files.new ≡ F.faults files.old) }

@@ -1,5 +1,5 @@
 //! The records that a lookup asks for a name: those of `packed-refs`, which is opened when the first name is asked for.
-ghost use Rattle.std.specs.Prelude.{◌≡◌, ◌⊎◌, ℕ, List, Option, None, IfOk, IfErr, OnOk};
+ghost use Rattle.std.specs.Prelude.{◌≡◌, ℕ, List, Option, None, IfOk, IfErr, OnOk};
 ghost use Rattle.gix_ref_hash.specs.declared.hash.Kind.{Kind};
 ghost use Rattle.gix_ref_name.specs.Names.{full_ref_bytes};
 ghost use Rattle.gix_ref_target.specs.PackedRecords.{Record};
@@ -7,7 +7,7 @@ ghost use Rattle.gix_ref_files.specs.ReadOnly.{OnlyReads};
 ghost use Rattle.gix_ref_packed.specs.Buffers.{buffer_text, buffer_kind};
 ghost use Rattle.gix_ref_packed.specs.FileSearches.{FindsInFile};
 ghost use Rattle.gix_ref_packed.specs.OpenFiles.{HasReadFault};
-ghost use Rattle.gix_ref_lookup.specs.Lookups.{AreAsked, AreAskedWith, AreHonest, ArePackedRecordsWith, IsFaultOf, IsFaultOrMemory, IsNotOpened, IsNotPacked, IsOpenedText, IsReady, IsSearched, IsSearchedWith, SearchesNone, as_found, of_opening, of_search, packed_refs_in};
+ghost use Rattle.gix_ref_lookup.specs.Lookups.{AreAsked, AreAskedWith, AreHonest, ArePackedRecordsWith, IsFaultOf, IsFaultOrMemory, IsNotOpened, IsNotPacked, IsReady, IsSearched, IsSearchedWith, SearchesNone, SearchesOpened, as_found, of_opening, of_search, packed_refs_in};
 
 use crate::find::Error;
 use crate::settings::Settings;
@@ -97,13 +97,13 @@ fn open_records<'b, F: Files>(
         (λ r. AreAsked settings.entry.kind None r records) }
     ensures sound { F.honest → (records : List Record) → ArePackedRecordsWith settings.entry
         (F.means files.old) records → IfErr result IsFaultOrMemory }
-    ensures searched { F.honest → IfOk result (λ r. (kind : Kind) (text : List ℕ) →
-        IsSearched settings.entry.kind None r kind text → IsOpenedText settings.entry.kind
-        (packed_refs_in settings.entry (F.means files.old)) kind text) }
+    ensures searched { F.honest →
+        IfOk result (SearchesOpened settings.entry (F.means files.old)) }
     ensures honest { F.honest → IfOk result AreHonest }
     ensures none { F.honest → IfOk result (λ r. SearchesNone None r →
         packed_refs_in settings.entry (F.means files.old) ≡ None) }
-    ensures refused { IfErr result (IsNotOpened F.honest (IsFaultOf F.Reader.faults (F.faults files.old) (F.faults files.new)) settings.entry (F.means files.old).tree) }
+    ensures refused { IfErr result (IsNotOpened F.honest (IsFaultOf F.Reader.faults
+        (F.faults files.old) (F.faults files.new)) settings.entry (F.means files.old).tree) }
     ensures no_fault { OnOk result (F.faults files.new ≡ F.faults files.old) }
     ensures reads { OnlyReads F.honest F.means F.faults files.old files.new }
 {
@@ -116,14 +116,14 @@ fn open_records<'b, F: Files>(
 }
 
 impl<R: ReadAt + Drop> Records<'_, R> {
-    ghost use Rattle.std.specs.Prelude.{◌≡◌, ◌⊎◌, ℕ, List, Option, OnOk, OnErr, IfErr, IfOk, IfSome, IfNone, MatchResult, None};
+    ghost use Rattle.std.specs.Prelude.{◌≡◌, ℕ, List, Option, OnOk, OnErr, IfErr, IfOk, IfSome, IfNone, MatchResult, None};
     ghost use Rattle.gix_ref_name.specs.Names.{full_ref_bytes};
     ghost use Rattle.gix_ref_target.specs.PackedRecords.{Record, record_named};
     ghost use Rattle.gix_ref_hash.specs.declared.hash.Kind.{Kind};
     ghost use Rattle.gix_ref_packed_text.specs.Positions.{CannotRead};
     ghost use Rattle.gix_ref_packed_text.specs.Windows.{AreFound, HitsRecord};
     ghost use Rattle.gix_ref_packed.specs.OpenFiles.{HasReadFault};
-    ghost use Rattle.gix_ref_lookup.specs.Lookups.{AreAsked, AreAskedWith, AreHonest, ArePackedRecordsWith, AreStillAsked, FindsNone, IsFaultOf, IsFaultOrMemory, IsNotPacked, IsReady, IsSearched, IsSearchedWith, OfSearched, SearchesNone, packed_refs_in};
+    ghost use Rattle.gix_ref_lookup.specs.Lookups.{AreAsked, AreAskedWith, AreHonest, AreStillAsked, FindsNone, IsFaultOf, IsFaultOrMemory, IsNotPacked, IsReady, IsSearched, IsSearchedWith, OfSearched, SearchesNone, packed_refs_in};
 
     /// Opens `packed-refs`, if it is asked for the first time. `PackedOpen` where it cannot be opened, and `Memory`.
     pub fn open<F: Files<Reader = R>>(
@@ -145,7 +145,8 @@ impl<R: ReadAt + Drop> Records<'_, R> {
         ensures honest { F.honest → AreHonest self.old → OnOk result (AreHonest self.new) }
         ensures none { F.honest → OnOk result (SearchesNone None self.new →
             SearchesNone (packed_refs_in settings.entry (F.means files.old)) self.old) }
-        ensures refused { IfErr result (IsNotOpened F.honest (IsFaultOf R.faults (F.faults files.old) (F.faults files.new)) settings.entry (F.means files.old).tree) }
+        ensures refused { IfErr result (IsNotOpened F.honest (IsFaultOf R.faults
+            (F.faults files.old) (F.faults files.new)) settings.entry (F.means files.old).tree) }
         ensures no_fault { OnOk result (F.faults files.new ≡ F.faults files.old) }
         ensures reads { OnlyReads F.honest F.means F.faults files.old files.new }
     {

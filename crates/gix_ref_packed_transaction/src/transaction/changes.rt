@@ -8,8 +8,8 @@ ghost use Rattle.gix_ref_edits.specs.RefEdits.{name_of};
 ghost use Rattle.gix_ref_object.specs.Peeling.{peel};
 ghost use Rattle.gix_ref_packed_text.specs.Laws.{IsIdOf};
 ghost use Rattle.gix_ref_packed_transaction.specs.Changes.{AreReadable, change_value, change_values};
-ghost use Rattle.gix_ref_transaction.specs.Peels.{HasEnd, IsPeeledOfKind, IsUnpeeled};
-ghost use Rattle.gix_ref_packed_transaction.specs.RecordChanges.{AreChangesOf, AreSortedChangesOf, IsChangeOf, IsFirstNotTaken, IsNotTaken, object_put};
+ghost use Rattle.gix_ref_transaction.specs.Peels.{HasEnd, IsPeeledOfKind};
+ghost use Rattle.gix_ref_packed_transaction.specs.RecordChanges.{AreChangesOf, AreSortedChangesOf, IsChangeOf, IsFirstNotTaken, IsNoPut, IsNotTaken, object_put};
 
 use crate::changes::KeyChange;
 use crate::transaction::prepare::Error;
@@ -55,10 +55,8 @@ fn record_of<T: Find>(
     ensures peeled { IfOk result (λ new. IsPeeledOfKind kind new.peeled) }
     ensures end { T.claims objects.now →
         IfOk result (λ new. HasEnd (T.meaning objects.now) target new.peeled) }
-    ensures refused { T.claims objects.now → IfErr result
-        (λ error. ((id_kind target ≢ kind) × (error ≡ Error.OtherHashKind))
-        ⊎ ((id_kind target ≡ kind)
-        × IsUnpeeled kind target (peel (T.meaning objects.now) 1000 target) error)) }
+    ensures refused { T.claims objects.now →
+        IfErr result (IsNoPut kind (T.meaning objects.now) target) }
 {
     if !is_id_of(&target, kind) {
         return Err(Error::OtherHashKind);

@@ -1,6 +1,6 @@
 //! The commit of a transaction of `packed-refs`: the new text goes into the lock, which is synced and then renamed to the file; or, where no
 //! record is left, the file is removed.
-ghost use Rattle.std.specs.Prelude.{◌≡◌, ◌≤◌, ◌⊎◌, OnOk, IfOk, IfErr, true, false};
+ghost use Rattle.std.specs.Prelude.{◌≡◌, ◌⊎◌, OnOk, IfOk, IfErr, true, false};
 ghost use Rattle.gix_ref_files.specs.Calls.{Renaming, Unchanged};
 ghost use Rattle.gix_ref_files.specs.Disk.{folder_of, folder_synced};
 ghost use Rattle.gix_ref_files.specs.DiskCalls.{RemovingFileOn, RenamingOn, SyncingOn};

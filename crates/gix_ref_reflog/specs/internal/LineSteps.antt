@@ -9,6 +9,8 @@ use Rattle.gix_ref_theory.specs.OnRealTrees.{view_of}
 use Rattle.gix_ref_theory.specs.Views.{View}
 use Rattle.gix_ref_reflog.specs.DueLines.{LogRules, rules_of}
 use Rattle.gix_ref_reflog.specs.LineCauses.{CannotMake, CannotAdd}
+use Rattle.gix_ref_reflog.specs.internal.SeenLogs.{due_paths}
+use Rattle.gix_ref_reflog.specs.declared.logs.DueLogs.{DueLogs}
 use Rattle.gix_ref_reflog.specs.declared.rules.ReflogPolicy.{ReflogPolicy}
 use Rattle.gix_ref_reflog.specs.declared.create_or_update.Error.TheVariants.{CreateLeadingDirectories, MessageWithNewlines, SignatureUnwritable}
 use Rattle.gix_ref_reflog.specs.declared.error.Error.{Error as Refusal}
@@ -51,3 +53,7 @@ IsInPath path Memory = Unit {0}
 -- the files are those of a tree, and logs that have a line due
 abbrev pub Sees : View → Tree → List Path → Type 0
 Sees files T due = (q : Path) → is_some (files q) ≡ (is_some (view_of T q) || is_in due q)
+
+-- this holds of all files that are seen so, where these logs have a line due
+abbrev pub OfSeen : Tree → DueLogs → (View → Type 0) → Type 0
+OfSeen T due P = (view : View) → Sees view T (due_paths due) → P view

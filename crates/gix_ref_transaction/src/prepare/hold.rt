@@ -1,5 +1,5 @@
 //! All locks of a transaction, or none.
-ghost use Rattle.std.specs.Prelude.{◌≡◌, ◌<◌, ℕ, List, [], None, true, OnOk, IfOk, IfErr, vec_len};
+ghost use Rattle.std.specs.Prelude.{◌≡◌, ◌<◌, ℕ, List, None, true, OnOk, IfOk, IfErr, vec_len};
 ghost use Rattle.std.specs.Vec.{vec_capacity};
 ghost use Rattle.gix_ref_files.specs.Files.{disk_of};
 ghost use Rattle.gix_ref_files.specs.Settled.{IsWholeAt};
@@ -9,14 +9,14 @@ ghost use Rattle.gix_ref_target.specs.PackedRecords.{Record};
 ghost use Rattle.gix_ref_files.specs.ReadOnly.{OnlyReads};
 ghost use Rattle.gix_ref_theory.specs.OnRealTrees.{contents};
 ghost use Rattle.gix_ref_lookup.specs.Lookups.{ArePackedRecordsWith, IsOpenableWith, packed_refs_in};
-ghost use Rattle.gix_ref_transaction.specs.Causes.{AreRecordIds, IsPackedWell, locks_of};
-ghost use Rattle.gix_ref_transaction.specs.HeldLocks.{HoldAllLocks, AreReady, AreRemovedAgain, HoldsPackedLock, IsHeldBack, IsTakingFault, OnlyTakes};
+ghost use Rattle.gix_ref_transaction.specs.Causes.{AreRecordIds};
+ghost use Rattle.gix_ref_transaction.specs.HeldLocks.{HoldAllByIds, HoldAllFound, HoldAllDue, NoneIsHeld, RemovesAgain, RemovesDueAgain, due_locks, edit_locks, AreReady, HoldsPackedLock, IsTakingFault, OnlyTakes};
 ghost use Rattle.gix_ref_transaction.specs.LeftLocks.{HasRoom};
 ghost use Rattle.gix_ref_transaction.specs.Parents.{parents_in};
 ghost use Rattle.gix_ref_transaction.specs.PackedCauses.{ids_among};
-ghost use Rattle.gix_ref_transaction.specs.Packing.{ends_of, mode_in, mode_of_packing, OfFinder};
-ghost use Rattle.gix_ref_transaction.specs.Peels.{ArePut, IsHoldCause, IsLockCause, IsPeelCause};
-ghost use Rattle.gix_ref_transaction.specs.PrepareSteps.{setting_of, updates, all_asked, all_given, ids_in, packed_ids, place_paths, places_of, own_locks, possible_locks};
+ghost use Rattle.gix_ref_transaction.specs.Packing.{mode_in, mode_of_packing};
+ghost use Rattle.gix_ref_transaction.specs.Peels.{ArePutBy, CausesNoHold, CausesNoLock, CausesNoPut};
+ghost use Rattle.gix_ref_transaction.specs.PrepareSteps.{setting_of, updates, all_asked, all_given, ids_in, place_paths, places_of};
 
 use crate::edit::Edit;
 use crate::packing::{PackedRefs, Packing};
@@ -85,23 +85,20 @@ fn lock_all_or_none<F: Files>(
 ) -> Result<HeldEdits, Failure<Error>>
     requires ready { AreReady (setting_of settings.now) settings.now.kind edits.items }
     requires room { HasRoom edits remains }
-    ensures held { IfOk result (λ held. HoldAllLocks F.honest (ids_in edits.items
-        ≡ packed_ids (setting_of settings.now) (F.means files.old).tree (updates edits.items))
-        (setting_of settings.now) (mode_of_packing packing) settings.now.kind
-        (locks_of (setting_of settings.now) (updates edits.items)) (F.means files.old)
-        (F.means files.new) edits.items held.edits.items remains held.remains) }
+    ensures held { IfOk result (λ held. HoldAllByIds F.honest settings.now (mode_of_packing packing)
+        (F.means files.old) (F.means files.new) edits.items held.edits.items remains
+        held.remains) }
     ensures given { IfOk result (λ held. all_given held.edits.items ≡ all_given edits.items) }
     ensures wholes { F.honest → (q : Path) (text : List ℕ) → IsWholeAt (disk_of (F.means files.old))
         q text → OnOk result (IsWholeAt (disk_of (F.means files.new)) q text) }
     ensures refused { IfErr result (λ failure. IsTakingFault F.honest F.means F.faults
         (setting_of settings.now) settings.now.kind edits.items files.old files.new failure.error) }
-    ensures removed { IfErr result (λ failure. AreRemovedAgain F.honest F.means F.faults
-        (locks_of (setting_of settings.now) (updates edits.items)) (locks_of
-        (setting_of settings.now) (updates edits.items)) failure.locks_left files.old files.new) }
+    ensures removed { IfErr result (λ failure. RemovesAgain F.honest F.means F.faults settings.now
+        edits.items failure.locks_left files.old files.new) }
     ensures room { IfErr result (λ failure. vec_len failure.locks_left
         < vec_capacity failure.locks_left) }
-    ensures takes { OnlyTakes F.honest F.means F.faults
-        (locks_of (setting_of settings.now) (updates edits.items)) files.old files.new }
+    ensures takes { OnlyTakes F.honest F.means F.faults (edit_locks settings.now edits.items)
+        files.old files.new }
 {
     let mut taken = 0;
     match take_locks(alloc, files, settings, packing, &mut edits, &mut taken) {
@@ -137,14 +134,10 @@ fn find_and_peel<F: Files, T: Find>(
     ensures found { F.honest → (rs : List Record) → ArePackedRecordsWith settings.now
         (F.means files.old) rs → OnOk result (ids_in edits.new ≡ ids_among (setting_of settings.now)
         rs (updates edits.old)) }
-    ensures put { OnOk result (ArePut (OfFinder T.claims packed_refs.now)
-        (ends_of T.meaning packed_refs.now) (setting_of settings.now) (mode_in packed_refs.now)
-        settings.now.kind edits.new) }
-    ensures failed { IfErr result (IsHeldBack F.honest F.means F.faults
-        (HasReadFault F.Reader.faults) (setting_of settings.now) settings.now.kind
-        (updates edits.old) (IsPeelCause (OfFinder T.claims packed_refs.now)
-        (ends_of T.meaning packed_refs.now) (setting_of settings.now) (mode_in packed_refs.now)
-        settings.now.kind (updates edits.old)) files.old files.new) }
+    ensures put { OnOk result (ArePutBy T.claims T.meaning settings.now packed_refs.now edits.new) }
+    ensures failed { IfErr result (NoneIsHeld F.honest F.means F.faults
+        (HasReadFault F.Reader.faults) settings.now edits.old
+        (CausesNoPut T.claims T.meaning settings.now packed_refs.now) files.old files.new) }
     ensures reads { OnlyReads F.honest F.means F.faults files.old files.new }
 {
     find_records(alloc, files, settings, known_missing, edits)?;
@@ -166,32 +159,27 @@ fn find_and_lock<F: Files, T: Find>(
         packed_refs_in settings.now (F.means files.old) ≡ None }
     requires ready { AreReady (setting_of settings.now) settings.now.kind edits.items }
     requires room { HasRoom edits remains }
-    ensures held { IfOk result (λ held. HoldAllLocks
-        F.honest (IsPackedWell settings.now.kind (packed_refs_in settings.now (F.means files.old)))
-        (setting_of settings.now) (mode_in packed_refs.now)
-        settings.now.kind (locks_of (setting_of settings.now) (updates edits.items))
-        (F.means files.old) (F.means files.new) edits.items held.edits.items remains held.remains) }
+    ensures held { IfOk result (λ held. HoldAllFound F.honest settings.now (mode_in packed_refs.now)
+        (F.means files.old) (F.means files.new) edits.items held.edits.items remains
+        held.remains) }
     ensures opened { F.honest → IfOk result (λ _. IsOpenableWith settings.now (F.means files.old)) }
     ensures read { F.honest → IfOk result (λ held. AreRecordIds (setting_of settings.now)
         settings.now.kind (contents F.means files.old) (updates edits.items)
         (ids_in held.edits.items)) }
-    ensures put { IfOk result (λ held. ArePut (OfFinder T.claims packed_refs.now)
-        (ends_of T.meaning packed_refs.now) (setting_of settings.now) (mode_in packed_refs.now)
-        settings.now.kind held.edits.items) }
+    ensures put { IfOk result (λ held. ArePutBy T.claims T.meaning settings.now packed_refs.now
+        held.edits.items) }
     ensures wholes { F.honest → (q : Path) (text : List ℕ) → IsWholeAt (disk_of (F.means files.old))
         q text → OnOk result (IsWholeAt (disk_of (F.means files.new)) q text) }
-    ensures refused { IfErr result (λ failure. IsHeldBack F.honest
-        F.means F.faults (HasReadFault F.Reader.faults) (setting_of settings.now) settings.now.kind
-        (updates edits.items) (IsHoldCause (OfFinder T.claims packed_refs.now) (ends_of T.meaning
-        packed_refs.now) (setting_of settings.now) (mode_in packed_refs.now) settings.now.kind
-        (F.means files.old).tree (updates edits.items)) files.old files.new failure.error) }
-    ensures removed { IfErr result (λ failure. AreRemovedAgain F.honest F.means F.faults
-        (locks_of (setting_of settings.now) (updates edits.items)) (locks_of
-        (setting_of settings.now) (updates edits.items)) failure.locks_left files.old files.new) }
+    ensures refused { IfErr result (λ failure. NoneIsHeld F.honest F.means F.faults
+        (HasReadFault F.Reader.faults) settings.now edits.items
+        (CausesNoHold T.claims T.meaning settings.now packed_refs.now) files.old files.new
+        failure.error) }
+    ensures removed { IfErr result (λ failure. RemovesAgain F.honest F.means F.faults settings.now
+        edits.items failure.locks_left files.old files.new) }
     ensures room { IfErr result (λ failure. vec_len failure.locks_left
         < vec_capacity failure.locks_left) }
-    ensures takes { OnlyTakes F.honest F.means F.faults
-        (locks_of (setting_of settings.now) (updates edits.items)) files.old files.new }
+    ensures takes { OnlyTakes F.honest F.means F.faults (edit_locks settings.now edits.items)
+        files.old files.new }
 {
     match find_and_peel(
         alloc,
@@ -228,33 +216,27 @@ pub fn lock_edits<F: Files, T: Find>(
 ) -> Result<HeldLocks, Failure<Error>>
     requires ready { AreReady (setting_of settings.now) settings.now.kind edits.items }
     requires room { HasRoom edits remains }
-    ensures held { IfOk result (λ held. HoldAllLocks
-        F.honest (IsPackedWell settings.now.kind (packed_refs_in settings.now (F.means files.old)))
-        (setting_of settings.now) (mode_in packed_refs.now) settings.now.kind (own_locks (setting_of
-        settings.now) (mode_in packed_refs.now) (F.means files.old).tree (updates edits.items))
-        (F.means files.old) (F.means files.new) edits.items held.edits.items remains held.remains) }
+    ensures held { IfOk result (λ held. HoldAllDue F.honest settings.now (mode_in packed_refs.now)
+        (F.means files.old) (F.means files.new) edits.items held.edits.items remains
+        held.remains) }
     ensures opened { F.honest → IfOk result (λ _. IsOpenableWith settings.now (F.means files.old)) }
     ensures read { F.honest → IfOk result (λ held. AreRecordIds (setting_of settings.now)
         settings.now.kind (contents F.means files.old) (updates edits.items)
         (ids_in held.edits.items)) }
-    ensures put { IfOk result (λ held. ArePut (OfFinder T.claims packed_refs.now)
-        (ends_of T.meaning packed_refs.now) (setting_of settings.now) (mode_in packed_refs.now)
-        settings.now.kind held.edits.items) }
+    ensures put { IfOk result (λ held. ArePutBy T.claims T.meaning settings.now packed_refs.now
+        held.edits.items) }
     ensures packed { IfOk
         result (λ held. HoldsPackedLock F.honest (setting_of settings.now) (mode_in packed_refs.now)
         (F.means files.old).tree (F.means files.new).tree (updates edits.items) held.packed) }
-    ensures refused { IfErr result (λ failure. IsHeldBack F.honest
-        F.means F.faults (HasReadFault F.Reader.faults) (setting_of settings.now) settings.now.kind
-        (updates edits.items) (IsLockCause (OfFinder T.claims packed_refs.now) (ends_of T.meaning
-        packed_refs.now) (setting_of settings.now) (mode_in packed_refs.now) settings.now.kind
-        (F.means files.old).tree (updates edits.items)) files.old files.new failure.error) }
-    ensures removed { IfErr result
-        (λ failure. AreRemovedAgain F.honest F.means F.faults (own_locks (setting_of settings.now)
-        (mode_in packed_refs.now) (F.means files.old).tree (updates edits.items)) (possible_locks
-        (setting_of settings.now) (updates edits.items)) failure.locks_left files.old files.new) }
-    ensures takes { OnlyTakes
-        F.honest F.means F.faults (own_locks (setting_of settings.now) (mode_in packed_refs.now)
-        (F.means files.old).tree (updates edits.items)) files.old files.new }
+    ensures refused { IfErr result (λ failure. NoneIsHeld F.honest F.means F.faults
+        (HasReadFault F.Reader.faults) settings.now edits.items
+        (CausesNoLock T.claims T.meaning settings.now packed_refs.now) files.old files.new
+        failure.error) }
+    ensures removed { IfErr result (λ failure. RemovesDueAgain F.honest F.means F.faults
+        settings.now (mode_in packed_refs.now) edits.items failure.locks_left files.old files.new) }
+    ensures takes { OnlyTakes F.honest F.means F.faults
+        (due_locks settings.now (mode_in packed_refs.now) (F.means files.old).tree edits.items)
+        files.old files.new }
 {
     let packed = match take_packed(alloc, files, settings, packed_refs.packing(), &edits) {
         Ok(packed) => packed,

@@ -7,12 +7,12 @@ ghost use Rattle.gix_ref_files.specs.Tree.{Tree, has_folders};
 ghost use Rattle.gix_ref_theory.specs.OnRealTrees.{view_of};
 ghost use Rattle.gix_ref_edits.specs.RefEdits.{is_of_reference, mode_of};
 ghost use Rattle.gix_ref_theory.specs.Edits.{Mode};
-ghost use Rattle.gix_ref_transaction.specs.Causes.{is_packable as may_have_record, packed_taken, packs_edit, IsInTheWay, IsPackedCause};
+ghost use Rattle.gix_ref_transaction.specs.Causes.{is_packable as may_have_record, packed_taken, packs_edit, IsInTheWay};
 ghost use Rattle.gix_ref_transaction.specs.EditLocks.{TakesItsLock};
 ghost use Rattle.gix_ref_transaction.specs.HeldLocks.{OnlyTakes};
-ghost use Rattle.gix_ref_transaction.specs.PackedLock.{IsPackedFault, IsPackedTaken, IsPackedTakenWhereDue};
+ghost use Rattle.gix_ref_transaction.specs.PackedLock.{packed_locks_due, IsPackedFault, IsPackedTaken, TakesNoPackedLock, TakesPackedLock};
 ghost use Rattle.gix_ref_transaction.specs.Packing.{mode_of_packing};
-ghost use Rattle.gix_ref_transaction.specs.PrepareSteps.{setting_of, updates, packed_locks, packed_places};
+ghost use Rattle.gix_ref_transaction.specs.PrepareSteps.{setting_of, updates, packed_places};
 
 use crate::edit::{Edit, take_lock as make_lock};
 use crate::packing::{Packing, is_packed};
@@ -133,16 +133,13 @@ pub fn take_packed<F: Files>(
     packing: Packing,
     edits: &[Edit],
 ) -> Result<Option<LockFile>, Error>
-    ensures taken { IfOk
-        result (λ packed. IsPackedTakenWhereDue F.honest (setting_of settings.now) (mode_of_packing
-        packing) (updates edits.now) (F.means files.old) (F.means files.new) packed) }
-    ensures refused { IfErr result (IsPackedFault F.honest F.means F.faults
-        (packed_locks (setting_of settings.now) (mode_of_packing packing) (F.means files.old).tree
-        (updates edits.now)) (IsPackedCause (setting_of settings.now) (mode_of_packing packing)
-        (F.means files.old).tree (updates edits.now)) files.old files.new) }
-    ensures takes { OnlyTakes
-        F.honest F.means F.faults (packed_locks (setting_of settings.now) (mode_of_packing packing)
-        (F.means files.old).tree (updates edits.now)) files.old files.new }
+    ensures taken { IfOk result (λ packed. TakesPackedLock F.honest settings.now packing edits.now
+        (F.means files.old) (F.means files.new) packed) }
+    ensures refused { IfErr result (TakesNoPackedLock F.honest F.means F.faults settings.now packing
+        edits.now files.old files.new) }
+    ensures takes { OnlyTakes F.honest F.means F.faults
+        (packed_locks_due settings.now packing (F.means files.old) edits.now)
+        files.old files.new }
 {
     if !may_touch_packed_refs(settings, edits) {
         return Ok(None);

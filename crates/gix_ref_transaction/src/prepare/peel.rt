@@ -1,10 +1,10 @@
 //! The objects that updates put into `packed-refs`, each with the object at the end of its tags (`git pack-refs`).
-ghost use Rattle.std.specs.Prelude.{◌≡◌, ◌⊎◌, [], Some, IfOk, IfErr, MatchOption, OnOk, None};
+ghost use Rattle.std.specs.Prelude.{◌≡◌, Some, IfOk, IfErr, MatchOption, OnOk, None};
 ghost use Rattle.gix_ref_hash.specs.declared.hash.ObjectId.{ObjectId};
 ghost use Rattle.gix_ref_edits.specs.RefEdits.{name_of, new_of};
 ghost use Rattle.gix_ref_object.specs.Peeling.{peel};
 ghost use Rattle.gix_ref_transaction.specs.Packing.{ends_of, finder_in, mode_in, new_object, peeled_in, put_by, OfFinder};
-ghost use Rattle.gix_ref_transaction.specs.Peels.{cause_of_peeling, ArePut, EndsAt, HasEnd, IsFirstUnpeeled, IsPeelError, IsPeeledOfKind, IsUnpeeled, IsUnpeeledEdit, reported_by_prepare};
+ghost use Rattle.gix_ref_transaction.specs.Peels.{cause_of_peeling, ArePutBy, EndsAt, FirstPutsNone, HasEnd, OrMemory, PutsNone, IsPeelError, IsPeeledOfKind, IsUnpeeled, reported_by_prepare};
 ghost use Rattle.gix_ref_transaction.specs.PrepareSteps.{all_asked, ids_in, setting_of, updates};
 
 use crate::edit::{Edit, PackedObject};
@@ -107,10 +107,8 @@ fn put_of<T: Find>(
     ensures kind { IfOk result (λ put. IsPeeledOfKind settings.now.kind (peeled_in put)) }
     ensures ends { OfFinder T.claims packed_refs.now →
         IfOk result (EndsAt (ends_of T.meaning packed_refs.now)) }
-    ensures refused { OfFinder T.claims packed_refs.now → IfErr result
-        (λ error. (error ≡ Error.Memory) ⊎ IsUnpeeledEdit (setting_of settings.now)
-        (mode_in packed_refs.now) settings.now.kind (ends_of T.meaning packed_refs.now)
-        edit.now.update error) }
+    ensures refused { OfFinder T.claims packed_refs.now → IfErr result (OrMemory
+        (PutsNone T.claims T.meaning settings.now packed_refs.now edit.now.update)) }
     ensures error { IfErr result IsPeelError }
 {
     if !is_packed(settings, packed_refs.packing(), &edit.update) {
@@ -137,13 +135,9 @@ pub fn peel_edits<T: Find>(
 ) -> Result<(), Error>
     ensures asked { all_asked edits.new ≡ all_asked edits.old }
     ensures ids { ids_in edits.new ≡ ids_in edits.old }
-    ensures put { OnOk result (ArePut (OfFinder T.claims packed_refs.now)
-        (ends_of T.meaning packed_refs.now) (setting_of settings.now) (mode_in packed_refs.now)
-        settings.now.kind edits.new) }
-    ensures refused { OfFinder T.claims packed_refs.now → IfErr result
-        (λ error. (error ≡ Error.Memory) ⊎ IsFirstUnpeeled (setting_of settings.now)
-        (mode_in packed_refs.now) settings.now.kind (ends_of T.meaning packed_refs.now) []
-        (updates edits.old) error) }
+    ensures put { OnOk result (ArePutBy T.claims T.meaning settings.now packed_refs.now edits.new) }
+    ensures refused { OfFinder T.claims packed_refs.now → IfErr result (OrMemory
+        (FirstPutsNone T.claims T.meaning settings.now packed_refs.now (updates edits.old))) }
     ensures error { IfErr result IsPeelError }
 {
     for edit in edits.iter_mut() {

@@ -10,7 +10,7 @@ ghost use Rattle.gix_ref_theory.specs.OnRealTrees.{contents};
 ghost use Rattle.gix_ref_packed.specs.OpenFiles.{HasReadFault};
 ghost use Rattle.gix_ref_edits.specs.RefEdits.{name_of};
 ghost use Rattle.gix_ref_lookup.specs.Lookups.{AreAsked, AreHonest, ArePackedRecords, ArePackedRecordsWith, AreStillAsked, IsOpenableWith, IsOpenedText, IsReady, IsSearched, OfKey, SearchesNone, packed_refs_in};
-ghost use Rattle.gix_ref_transaction.specs.Causes.{decoded, id_of_record, packed_id, AllWithIds, AreRecordIds, IsCounted, IsCountedWith, IsHidden, IsIoOrMemory, IsPackedRefusal, OfSomeKey};
+ghost use Rattle.gix_ref_transaction.specs.Causes.{decoded, id_of_record, packed_id, AllWithIds, AreRecordIds, IsCounted, IsCountedWith, IsHidden, NotHidden, IsIoOrMemory, IsPackedRefusal, OfSomeKey};
 ghost use Rattle.gix_ref_transaction.specs.internal.StuckRecords.{AreNotFound, IsAskedId, IsFindError, IsNamedId, IsSearchFault, IsSearchedId, IsStuckKey, is_held};
 ghost use Rattle.gix_ref_transaction.specs.PackedCauses.{as_cause, ids_among};
 ghost use Rattle.gix_ref_transaction.specs.PrepareSteps.{setting_of, updates, all_asked, ids_in, place_paths, places_of};
@@ -202,8 +202,7 @@ fn find_ids<F: Files>(
         (AllWithIds (IsAskedId (setting_of settings.now) kind (contents F.means files.old)
         records.old) (updates edits.old) (ids_in edits.new)) }
     ensures failed { IfErr result (IsSearchFault records.old (λ kind. OfSomeKey
-        (λ edit. F.honest → IsHidden (setting_of settings.now) (contents F.means files.old) edit →
-        ⊥)
+        (NotHidden F.honest settings.now (contents F.means files.old))
         (IsStuckKey kind records.old) (setting_of settings.now) (updates edits.old))) }
     ensures counted { IfErr result (IsCountedWith (AreHonest records.old)
         (HasReadFault F.Reader.faults) (F.faults files.old) (F.faults files.new)) }

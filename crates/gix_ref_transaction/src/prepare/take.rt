@@ -3,10 +3,9 @@ ghost use Rattle.std.specs.Prelude.{◌≡◌, ◌<◌, ◌-◌, ℕ, List, [], 
 ghost use Rattle.gix_ref_files.specs.Tree.{Tree, Path, has_folders};
 ghost use Rattle.gix_ref_files.specs.Files.{disk_of};
 ghost use Rattle.gix_ref_files.specs.Settled.{IsWholeAt};
-ghost use Rattle.gix_ref_transaction.specs.Causes.{locks_of};
-ghost use Rattle.gix_ref_transaction.specs.HeldLocks.{AreReady, AreTaken, FirstAreTaken, IsTakingFault, OnlyTakes};
+ghost use Rattle.gix_ref_transaction.specs.HeldLocks.{edit_locks, AreReady, AreTakenByIds, FirstAreTaken, IsTakingFault, OnlyTakes};
 ghost use Rattle.gix_ref_transaction.specs.Packing.{mode_of_packing};
-ghost use Rattle.gix_ref_transaction.specs.PrepareSteps.{setting_of, updates, place_paths, all_given, ids_in, packed_ids};
+ghost use Rattle.gix_ref_transaction.specs.PrepareSteps.{setting_of, place_paths, all_given};
 
 use crate::edit::Edit;
 use crate::packing::Packing;
@@ -58,16 +57,14 @@ pub fn take_locks<F: Files>(
     ensures first { FirstAreTaken F.honest (setting_of settings.now) edits.old taken.new
         (F.means files.old).tree (F.means files.new).tree }
     ensures every { OnOk result (taken.new ≡ length edits.old) }
-    ensures taken { F.honest → OnOk result (AreTaken (ids_in edits.old ≡ packed_ids (setting_of
-        settings.now) (F.means files.old).tree (updates edits.old)) (setting_of settings.now)
-        (mode_of_packing packing) settings.now.kind (locks_of (setting_of settings.now)
-        (updates edits.old)) (F.means files.old) (F.means files.new) edits.old edits.new) }
+    ensures taken { F.honest → OnOk result (AreTakenByIds F.honest settings.now
+        (mode_of_packing packing) (F.means files.old) (F.means files.new) edits.old edits.new) }
     ensures wholes { F.honest → (q : Path) (text : List ℕ) → IsWholeAt (disk_of (F.means files.old))
         q text → OnOk result (IsWholeAt (disk_of (F.means files.new)) q text) }
     ensures refused { IfErr result (IsTakingFault F.honest F.means F.faults
         (setting_of settings.now) settings.now.kind edits.old files.old files.new) }
-    ensures takes { OnlyTakes F.honest F.means F.faults
-        (locks_of (setting_of settings.now) (updates edits.old)) files.old files.new }
+    ensures takes { OnlyTakes F.honest F.means F.faults (edit_locks settings.now edits.old)
+        files.old files.new }
 {
     for i in 0..edits.len() {
         let is_ready = is_led_to(edits, i);
