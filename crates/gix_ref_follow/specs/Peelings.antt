@@ -2,6 +2,7 @@
 use Rattle.std.specs.Prelude.{◌≡◌, ◌⊎◌, ℕ, List, Option, Some, None, Result, Ok, Err, Bool}
 use Rattle.gix_ref_hash.specs.declared.hash.ObjectId.{ObjectId}
 use Rattle.gix_ref_name.specs.Names.{full_bytes}
+use Rattle.gix_ref_target.specs.PackedRecords.{Record}
 use Rattle.gix_ref_target.specs.Targets.{target_value}
 use Rattle.gix_ref_target.specs.Targets.TargetValue.{object_id}
 use Rattle.gix_ref_files.specs.Files.{Meaning, FaultCounts}
@@ -14,9 +15,9 @@ use Rattle.gix_ref_object.specs.declared.peel.PeelError.TheVariants as peeling_e
 use Rattle.gix_ref_packed_text.specs.declared.raw.Reference.{Reference}
 use Rattle.gix_ref_lookup.specs.declared.find.records.Records.{Records}
 use Rattle.gix_ref_store.specs.declared.file.store.Store.{Store}
-use Rattle.gix_ref_follow.specs.Following.{At, EndOfChain, HitsByName, LeadsWithinLimit, following}
+use Rattle.gix_ref_follow.specs.Following.{At, EndOfChain, HitsByName, LeadsWithinLimit, at_of, following}
 use Rattle.gix_ref_follow.specs.Following.EndOfChain.{Reached}
-use Rattle.gix_ref_follow.specs.Followed.{Follows, HitsNext, IsNotFollowed}
+use Rattle.gix_ref_follow.specs.Followed.{Follows, HitsNext, IsNotFollowed, finds_in}
 use Rattle.gix_ref_follow.specs.declared.peel.to_id.Error.{Error}
 use Rattle.gix_ref_follow.specs.declared.peel.to_id.Error.TheVariants.{FollowToObject, Find, NotFound, TagChainTooLong, Memory}
 
@@ -109,3 +110,12 @@ module _ {F R : Type 0} {G : Ghosts R} (means : F → Meaning) where
     pub reached : Reference
     pub passes : LeadsWithinLimit (HitsNext means asks_records store asked) start reached
     pub name : full_bytes now.name ≡ full_bytes reached.name
+
+-- By lookups in a store, whatever its records are, as far as `Are` says of them:
+module _ {F : Type 0} (Are : List Record → Type 0) (means : F → Meaning)
+    (asks_records : Bool) (store : Store F) where
+  -- the result of a peeling
+  abbrev pub PeelsBy : (ObjectId → Stored) → (start now : Reference) → Result ObjectId Error →
+      Type 0
+  PeelsBy meaning start now result = (records : List Record) → Are records →
+      Peels (finds_in means asks_records store records) meaning (at_of start) (at_of now) result

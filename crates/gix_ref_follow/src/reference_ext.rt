@@ -155,7 +155,7 @@ impl ReferenceExt for Reference {
     ghost use Rattle.gix_ref_store.specs.Store.{files_of};
     ghost use Rattle.gix_ref_follow.specs.Following.{at_of, LeadsWithinLimit};
     ghost use Rattle.gix_ref_follow.specs.Followed.{OnStep, StepFinds, StepHits, StepFails, Follows, finds_in, HitsNext, IsNotFollowed};
-    ghost use Rattle.gix_ref_follow.specs.Peelings.{peeled_to, Peels, IsNotPeeled, HasPassed};
+    ghost use Rattle.gix_ref_follow.specs.Peelings.{peeled_to, PeelsBy, IsNotPeeled, HasPassed};
 
     fn log_iter<'a, 's, F: Files>(
         &'a self,
@@ -193,9 +193,9 @@ impl ReferenceExt for Reference {
         store: &mut Store<F>,
         objects: &T,
     ) -> Result<ObjectId, to_id::Error>
-        ensures peeled { F.honest → T.claims objects.now → (records : List Record) →
-            AreRecordsIn F.means store.old records → Peels (finds_in F.means true store.old records)
-            (T.meaning objects.now) (at_of self.old) (at_of self.new) result }
+        ensures peeled { F.honest → T.claims objects.now →
+            PeelsBy (AreRecordsIn F.means store.old) F.means true store.old
+            (T.meaning objects.now) self.old self.new result }
         ensures at_once { IfSome self.old.peeled
             (λ id. (result ≡ Ok id) × (at_of self.new ≡ peeled_to (at_of self.old) id)) }
         ensures done { IfOk result (λ id. (target_value self.new.target ≡ object_id id)
@@ -217,9 +217,9 @@ impl ReferenceExt for Reference {
         store: &mut Store<F>,
         objects: &T,
     ) -> Result<ObjectId, to_id::Error>
-        ensures peeled { F.honest → T.claims objects.now → (records : List Record) →
-            AreRecordsIn F.means store.old records → Peels (finds_in F.means true store.old records)
-            (T.meaning objects.now) (at_of self.old) (at_of self.new) result }
+        ensures peeled { F.honest → T.claims objects.now →
+            PeelsBy (AreRecordsIn F.means store.old) F.means true store.old
+            (T.meaning objects.now) self.old self.new result }
         ensures at_once { IfSome self.old.peeled
             (λ id. (result ≡ Ok id) × (at_of self.new ≡ peeled_to (at_of self.old) id)) }
         ensures done { IfOk result (λ id. (target_value self.new.target ≡ object_id id)
@@ -243,9 +243,8 @@ impl ReferenceExt for Reference {
         packed: Option<&Buffer>,
     ) -> Result<ObjectId, to_id::Error>
         ensures peeled { F.honest → T.claims objects.now →
-            (records : List Record) → AreHeld packed.entry records →
-            Peels (finds_in F.means (is_some packed.entry) store.old records)
-            (T.meaning objects.now) (at_of self.old) (at_of self.new) result }
+            PeelsBy (AreHeld packed.entry) F.means (is_some packed.entry) store.old
+            (T.meaning objects.now) self.old self.new result }
         ensures at_once { IfSome self.old.peeled
             (λ id. (result ≡ Ok id) × (at_of self.new ≡ peeled_to (at_of self.old) id)) }
         ensures done { IfOk result (λ id. (target_value self.new.target ≡ object_id id)
@@ -279,9 +278,8 @@ impl ReferenceExt for Reference {
         packed: Option<&Buffer>,
     ) -> Result<ObjectId, to_id::Error>
         ensures peeled { F.honest → T.claims objects.now →
-            (records : List Record) → AreHeld packed.entry records →
-            Peels (finds_in F.means (is_some packed.entry) store.old records)
-            (T.meaning objects.now) (at_of self.old) (at_of self.new) result }
+            PeelsBy (AreHeld packed.entry) F.means (is_some packed.entry) store.old
+            (T.meaning objects.now) self.old self.new result }
         ensures at_once { IfSome self.old.peeled
             (λ id. (result ≡ Ok id) × (at_of self.new ≡ peeled_to (at_of self.old) id)) }
         ensures done { IfOk result (λ id. (target_value self.new.target ≡ object_id id)

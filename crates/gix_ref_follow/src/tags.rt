@@ -1,7 +1,6 @@
 //! Peeling a reference: following it, and the tags of its object (`gitrevisions`).
-ghost use Rattle.std.specs.Prelude.{◌≡◌, List, Some, Ok, Err, IfOk, IfErr, IfSome, OnOk, OnErr};
+ghost use Rattle.std.specs.Prelude.{◌≡◌, Some, Ok, Err, IfOk, IfErr, IfSome, OnOk, OnErr};
 ghost use Rattle.gix_ref_name.specs.Names.{full_bytes};
-ghost use Rattle.gix_ref_target.specs.PackedRecords.{Record};
 ghost use Rattle.gix_ref_target.specs.Targets.{target_value};
 ghost use Rattle.gix_ref_target.specs.Targets.TargetValue.{object_id};
 ghost use Rattle.gix_ref_lookup.specs.Lookups.{AreHonest};
@@ -9,8 +8,7 @@ ghost use Rattle.gix_ref_object.specs.Peeling.{peel};
 ghost use Rattle.gix_ref_store.specs.Lookup.{AreAskedIn, LooksUp};
 ghost use Rattle.gix_ref_store.specs.Store.{files_of};
 ghost use Rattle.gix_ref_follow.specs.Following.{at_of};
-ghost use Rattle.gix_ref_follow.specs.Followed.{finds_in};
-ghost use Rattle.gix_ref_follow.specs.Peelings.{peeled_to, PeelsTags, IsTagError, IsOfTags, Peels, IsNotPeeled, HasPassed};
+ghost use Rattle.gix_ref_follow.specs.Peelings.{peeled_to, PeelsTags, IsTagError, IsOfTags, PeelsBy, IsNotPeeled, HasPassed};
 
 use crate::chain::follow_among;
 use crate::peel::to_id::Error;
@@ -73,9 +71,9 @@ pub(crate) fn peel_among<F: Files, T: Find>(
     asks_records: bool,
     asked: &mut Records<'_, F::Reader>,
 ) -> Result<ObjectId, Error>
-    ensures peeled { F.honest → T.claims objects.now → (records : List Record) → AreAskedIn F.means
-        store.old asked.old records → Peels (finds_in F.means asks_records store.old records)
-        (T.meaning objects.now) (at_of reference.old) (at_of reference.new) result }
+    ensures peeled { F.honest → T.claims objects.now →
+        PeelsBy (AreAskedIn F.means store.old asked.old) F.means asks_records store.old
+        (T.meaning objects.now) reference.old reference.new result }
     ensures at_once { IfSome reference.old.peeled
         (λ id. (result ≡ Ok id) × (at_of reference.new ≡ peeled_to (at_of reference.old) id)) }
     ensures done { IfOk result (λ id. (target_value reference.new.target ≡ object_id id)

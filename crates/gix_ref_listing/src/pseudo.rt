@@ -1,15 +1,13 @@
 //! The listing of pseudo references: `HEAD`, `FETCH_HEAD`, `ORIG_HEAD` and the like
 //! (`git for-each-ref --include-root-refs`).
-ghost use Rattle.std.specs.Prelude.{◌≡◌, ◌⊎◌, ℕ, List, IfOk, IfErr, filter};
+ghost use Rattle.std.specs.Prelude.{◌≡◌, IfOk, IfErr, filter};
 ghost use Rattle.std.specs.List.{All};
-ghost use Rattle.gix_ref_files.specs.Files.{HasRisen};
 ghost use Rattle.gix_ref_files.specs.declared.files.FileError.TheVariants.{Memory as no_memory};
 ghost use Rattle.gix_ref_theory.specs.OnRealTrees.{contents};
 ghost use Rattle.gix_ref_listing.specs.PlainSettings.{plain};
 ghost use Rattle.gix_ref_listing.specs.PseudoListings.{is_head_file, is_kept, IsPseudoListed, IsPseudoFound, ListsPseudo};
 ghost use Rattle.gix_ref_listing.specs.Walks.{FindsEach, IsFileOrMet};
 ghost use Rattle.gix_ref_listing.specs.declared.prefix.Error.TheVariants.{Memory};
-ghost use Rattle.gix_ref_lookup.specs.Lookups.{Among};
 ghost use Rattle.gix_ref_files.specs.ReadOnly.{OnlyReads};
 
 use crate::found::{Found, FoundByKey};

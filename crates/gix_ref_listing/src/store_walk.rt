@@ -1,14 +1,12 @@
 //! The loose references of a store.
-ghost use Rattle.std.specs.Prelude.{◌≡◌, ◌≢◌, ◌⊎◌, [], List, ℕ, IfOk, IfErr, OnOk};
+ghost use Rattle.std.specs.Prelude.{◌≡◌, ◌≢◌, [], IfOk, IfErr, OnOk};
 ghost use Rattle.std.specs.List.{All};
 ghost use Rattle.gix_ref_target.specs.Layout.{below};
-ghost use Rattle.gix_ref_files.specs.Files.{HasRisen, FaultCounts, NoFewer};
 ghost use Rattle.gix_ref_files.specs.declared.files.FileError.TheVariants.{Memory};
 ghost use Rattle.gix_ref_theory.specs.OnRealTrees.{contents};
 ghost use Rattle.gix_ref_lookup.specs.StoreLayout.{namespace_text};
 ghost use Rattle.gix_ref_listing.specs.Walks.{AddsOnly, AddsOnlyMet, FindsEach, IsFileOrMet, IsFolderPath, IsRootPath, StaysFound};
 ghost use Rattle.gix_ref_listing.specs.LooseListings.{front_in, IsFront, IsLooseListed, IsFoundIn, LooseIn};
-ghost use Rattle.gix_ref_lookup.specs.Lookups.{Among};
 ghost use Rattle.gix_ref_files.specs.ReadOnly.{OnlyReads};
 
 use crate::found::FoundByKey;

@@ -2,16 +2,16 @@
 ghost use Rattle.std.specs.Prelude.{◌≡◌, ◌≢◌, [], ◌++◌, ◌⊎◌, List, ℕ, IfOk, IfErr, OnOk, MatchOption, IsTrue, ◌↔◌, codes, ◌∷◌, IsSome, Vec};
 ghost use Rattle.std.specs.declared.alloc.Global.{Global};
 ghost use Rattle.std.specs.List.{All};
-ghost use Rattle.gix_ref_hash.specs.Bytes.{BeginsWith, NoByte};
+ghost use Rattle.gix_ref_hash.specs.Bytes.{BeginsWith};
 ghost use Rattle.gix_ref_name.specs.NameGrammar.{IsPartialName};
 ghost use Rattle.gix_ref_name.specs.Names.{full_bytes, full_ref_bytes};
-ghost use Rattle.gix_ref_files.specs.Files.{HasRisen, FaultCounts, NoFewer, IsMet};
+ghost use Rattle.gix_ref_files.specs.Files.{FaultCounts, IsMet};
 ghost use Rattle.gix_ref_files.specs.declared.files.FileError.TheVariants.{Memory};
 ghost use Rattle.gix_ref_theory.specs.OnRealTrees.{contents};
 ghost use Rattle.gix_ref_theory.specs.Views.{View};
 ghost use Rattle.gix_ref_lookup.specs.Lookups.{name_asked, Among};
 ghost use Rattle.gix_ref_files.specs.ReadOnly.{OnlyReads};
-ghost use Rattle.gix_ref_listing.specs.Walks.{AddsFolders, AddsOnly, AddsOnlyFiles, AddsOnlyMet, AddsOnlyThere, FindsEach, FoundEntry, Holds, IsBelow, IsFileOf, IsFileOrMet, IsFolderPath, IsInnerPath, IsListedName, IsLooseName, IsOwnFile, IsOwnName, IsRootPath, IsTaken, LeadsInto, Reaches, StaysFound};
+ghost use Rattle.gix_ref_listing.specs.Walks.{AddsFolders, AddsOnly, AddsOnlyFiles, AddsOnlyMet, AddsOnlyThere, FindsEach, Holds, IsBelow, IsFileOf, IsFileOrMet, IsFolderPath, IsInnerPath, IsListedName, IsLooseName, IsOwnFile, IsOwnName, IsRootPath, IsTaken, LeadsInto, Reaches, StaysFound};
 
 use crate::found::{Found, FoundByKey};
 use gix_ref_files::files::{Entry, FileError, Files};

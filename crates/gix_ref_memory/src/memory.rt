@@ -209,7 +209,7 @@ impl Memory {
 
 impl Files for Memory {
     ghost use Rattle.std.specs.Prelude.{take, false, true, IfOk, OnOk, OnErr, IfSome, IsErrOf};
-    ghost use Rattle.gix_ref_files.specs.Tree.{no_tree, node_at, bytes_of, is_file, appended, moved, removed, is_folder, folders_to, with_folders, IsEmptyFolder};
+    ghost use Rattle.gix_ref_files.specs.Tree.{node_at, bytes_of, is_file, appended, moved, removed, is_folder, folders_to, with_folders, IsEmptyFolder};
     ghost use Rattle.gix_ref_files.specs.Files.{disk_of, Leaves, Adds, Passes, AddsDisks, count_after, no_faults};
     ghost use Rattle.gix_ref_files.specs.Disk.{file_synced, folder_synced};
     ghost use Rattle.gix_ref_files.specs.DiskCalls.{Untouched, after_create, CreatingOn, after_folders, MakingFoldersOn, after_append, AppendingOn, after_rename, RenamingOn, after_removal, RemovingFileOn, RemovingFolderOn, Syncs, SyncingOn};

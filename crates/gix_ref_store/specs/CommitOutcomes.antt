@@ -4,6 +4,7 @@ use Rattle.std.specs.Prelude.{◌≡◌, List, Option, length}
 use Rattle.gix_ref_edits.specs.declared.transaction.RefEdit.{RefEdit}
 use Rattle.gix_ref_files.specs.Files.{Meaning, HasRisenBy, FaultCounts}
 use Rattle.gix_ref_files.specs.Tree.{Path}
+use Rattle.gix_ref_object.specs.declared.object.Find.{Ghosts}
 use Rattle.gix_ref_transaction.specs.PrepareSteps.{updates}
 use Rattle.gix_ref_transaction.specs.declared.edit.Edit.{Edit}
 use Rattle.gix_ref_log.specs.declared.actor.SignatureRef.{SignatureRef}
@@ -11,8 +12,10 @@ use Rattle.gix_ref_commit.specs.declared.error.Error.{Error}
 use Rattle.gix_ref_store.specs.CommitLines.{LinesPass}
 use Rattle.gix_ref_store.specs.CommitResult.{CommitsFrom, EveryLossFrom, EveryStopFrom, FailsFor, NoBadLineFrom, ReadsPacked, SettlesFrom, StaysGoodFrom}
 use Rattle.gix_ref_store.specs.CommittedFolders.{KeepsFolders}
+use Rattle.gix_ref_store.specs.PreparedFields.{held_edits, held_packed}
 use Rattle.gix_ref_store.specs.Store.{files_of}
 use Rattle.gix_ref_store.specs.declared.file.store.Store.{Store}
+use Rattle.gix_ref_store.specs.declared.file.transaction.Plan.{Plan}
 
 module _ {F : Type 0} (honest : Type 0) (means : F → Meaning) (faults : F → FaultCounts) where
   -- A commit that succeeded: it hands back these edits, and names these locks.
@@ -31,6 +34,13 @@ module _ {F : Type 0} (honest : Type 0) (means : F → Meaning) (faults : F → 
     pub good : StaysGoodFrom honest means faults start new packed held
     -- where all was at rest, all is: a later loss of power leaves what was committed
     pub settled : SettlesFrom honest means faults start new packed held
+
+  -- The plan of a prepared transaction is committed so.
+  abbrev pub PlanSucceeds : {T : Type 0} → {G : Ghosts T} → (start new : Store F) →
+      (committer : Option SignatureRef) → Plan T G → (returned : List RefEdit) →
+      (left : List Path) → Type 0
+  PlanSucceeds start new committer plan returned left = HasSucceeded start new committer
+      (held_packed plan) (held_edits plan) returned left
 
   -- A commit that failed with this error.
   pub record HasEndedEarly (start new : Store F) (committer : Option SignatureRef)

@@ -1,5 +1,5 @@
 -- What a listing of a store gives (`git for-each-ref`).
-use Rattle.std.specs.Prelude.{◌≡◌, ◌⊎◌, ℕ, List, [], ◌∷◌, Option, Some, None, Result, Ok, Err, codes}
+use Rattle.std.specs.Prelude.{◌≡◌, ◌⊎◌, ℕ, List, [], ◌∷◌, Option, Some, None, Result, Ok, Err, IfOk, codes}
 use denote.Ref.{Bor}
 use Rattle.std.specs.Iterator.{Yields}
 use Rattle.std.specs.List.{AllByRecursion}
@@ -15,7 +15,7 @@ use Rattle.gix_ref_packed_text.specs.declared.raw.Reference.{Reference}
 use Rattle.gix_ref_listing.specs.CleanPrefixes.{IsRefusedPrefix}
 use Rattle.gix_ref_listing.specs.Items.{IsItem, IsOfRecord}
 use Rattle.gix_ref_listing.specs.Listings.{Listed, IsNotLent, merge_left}
-use Rattle.gix_ref_listing.specs.OwedNames.{Text, IsDue}
+use Rattle.gix_ref_listing.specs.OwedNames.{Text, IsDue, IsTextFor}
 use Rattle.gix_ref_listing.specs.OwnRecords.{own_of}
 use Rattle.gix_ref_listing.specs.PrefixedRecords.{IsHeldFor}
 use Rattle.gix_ref_listing.specs.PseudoListings.{IsPseudoListing}
@@ -29,7 +29,7 @@ use Rattle.gix_ref_lookup.specs.Lookups.{Among, IsOpenedText, packed_refs_in}
 use Rattle.gix_ref_lookup.specs.declared.settings.Settings.{Settings}
 use Rattle.gix_ref_theory.specs.Views.{View}
 use Rattle.gix_ref_store.specs.Store as stores
-use Rattle.gix_ref_store.specs.Lookup.{LooksUp, RefusesBuffer, settings_of, view_in}
+use Rattle.gix_ref_store.specs.Lookup.{AreRecordsIn, LooksUp, RefusesBuffer, settings_of, view_in}
 use Rattle.gix_ref_store.specs.declared.file.store.Store.{Store}
 use Rattle.gix_ref_store.specs.declared.file.iter.LooseThenPacked.{LooseThenPacked}
 use Rattle.gix_ref_store.specs.declared.file.iter.Platform.{Platform}
@@ -185,6 +185,25 @@ module _ {F : Type 0} where
       pub runs : (items : List (Result Reference Error)) (t : LooseThenPacked F Remaining) →
           Yields (NextItem) it items t → GivesFirst store listed it t items
 
+    -- a listing of a prefix of the store, whatever its records are
+    abbrev pub ListsIn : (store : Store F) → (prefix : List ℕ) →
+        Result (LooseThenPacked F Remaining) ListError → Type 0
+    ListsIn store prefix result = (records : List Record) → AreRecordsIn means store records →
+        IfOk result (IteratesListing store records prefix)
+
+    -- and one with the records of a buffer that is given
+    abbrev pub ListsHeld : (store : Store F) → (prefix : List ℕ) → Option (Bor Buffer) →
+        Result (LooseThenPacked F Remaining) ListError → Type 0
+    ListsHeld store prefix packed result = (records : List Record) →
+        AreHeldFor store prefix packed records → IfOk result (IteratesListing store records prefix)
+
+    -- which lacks none that is due by its text
+    abbrev pub LacksNoneHeld : (store : Store F) → (prefix : List ℕ) → Option (Bor Buffer) →
+        Result (LooseThenPacked F Remaining) ListError → Type 0
+    LacksNoneHeld store prefix packed result = (text : Text) →
+        IsTextFor (key_in (settings_of store) prefix) packed text →
+        IfOk result (LacksNone (settings_of store) text)
+
     -- and so over the listing of its pseudo references
     pub record IteratesPseudo (store : Store F) (it : LooseThenPacked F Remaining) : Type 0 where
       pub listed : List Listed
@@ -213,3 +232,18 @@ module _ {F : Type 0} (honest : Type 0) (means : F → Meaning) (faults : F → 
       × CountsRefusal G.faults walked (faults (stores.files_of new)) error)
   IsNoListing G start new prefix Memory = Unit {0}
   IsNoListing G start new prefix error = IsRefusedPrefix start.namespace prefix error
+
+  -- a listing of the names of a walk, with the records of a buffer that is given
+  abbrev pub ListsWalked : (now : Store F) → LooseNames → Option (Bor Buffer) →
+      Result (LooseThenPacked F Remaining) ListError → Type 0
+  ListsWalked now names packed result = (start : Store F) (records : List Record) →
+      IsWalkedIn start now names → AreHeldFor now (walked_prefix names) packed records →
+      IfOk result (IteratesListing honest means faults start records (walked_prefix names))
+
+  -- which lacks none that is due by its text
+  abbrev pub LacksNoneWalked : (now : Store F) → LooseNames → Option (Bor Buffer) →
+      Result (LooseThenPacked F Remaining) ListError → Type 0
+  LacksNoneWalked now names packed result = (start : Store F) (text : Text) →
+      IsWalkedIn start now names →
+      IsTextFor (key_in (settings_of now) (walked_prefix names)) packed text →
+      IfOk result (LacksNone honest means faults (settings_of now) text)

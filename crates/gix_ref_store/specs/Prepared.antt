@@ -15,12 +15,14 @@ use Rattle.gix_ref_theory.specs.OnRealTrees.{view_of}
 use Rattle.gix_ref_theory.specs.Roots.{roots}
 use Rattle.gix_ref_theory.specs.Views.{IsOwnLock}
 use Rattle.gix_ref_lookup.specs.Lookups.{IsOpenable}
-use Rattle.gix_ref_transaction.specs.OwnLocks.{is_in, times, AddsLocks, RemovesLocks, OnlyRemoves}
+use Rattle.gix_ref_transaction.specs.OwnLocks.{is_in, paths_of, times, AddsLocks, RemovesLocks, OnlyRemoves}
 use Rattle.gix_ref_transaction.specs.Causes.{AllValid, AreRecordIds, IsAccepted, IsCountedWith, IsDoubling, IsFindCause, IsIoOrMemory, IsPackedRefusal, IsPackedWell, names_of, packed_taken}
 use Rattle.gix_ref_store.specs.Store.{files_of, kind_of, folders, meaning_of, IsSameStore}
 use Rattle.gix_ref_transaction.specs.PrepareSteps.{AreEmpty, AreLockable, AreWholeLocks, effects_of, effects_on, HoldTexts, ids_in, packed_ids, IsPackedPlace, old_targets, own_locks, own_places, packed_places, place_paths, places_of, possible_locks, targets_of, updates, files_at, seen_files}
 use Rattle.gix_ref_transaction.specs.CarriedEdits.{AreCarried}
-use Rattle.gix_ref_transaction.specs.Packing.{HaveTheirPuts}
+use Rattle.gix_ref_transaction.specs.Packing.{ends_of, mode_in, HaveTheirPuts, OfFinder}
+use Rattle.gix_ref_transaction.specs.declared.packing.PackedRefs.{PackedRefs}
+use Rattle.gix_ref_transaction.specs.declared.release.Failure.{Failure}
 use Rattle.gix_ref_transaction.specs.Peels.{ArePut, IsLockCause}
 use Rattle.gix_ref_packed_transaction.specs.Repacks.{AllCanBePut}
 use Rattle.gix_ref_transaction.specs.Parents.{parents_in, split_parents}
@@ -29,6 +31,7 @@ use Rattle.gix_ref_edits.specs.DoubledNames.{NoneDoubled}
 use Rattle.gix_ref_edits.specs.RefEdits.{AreUpdates}
 use Rattle.gix_ref_edits.specs.declared.transaction.RefEdit.{RefEdit}
 use Rattle.gix_ref_store.specs.declared.file.store.Store.{Store}
+use Rattle.gix_ref_store.specs.declared.file.transaction.outcome.Refused.{Refused}
 use Rattle.gix_ref_transaction.specs.declared.edit.Edit.{Edit}
 use Rattle.gix_ref_transaction.specs.declared.prepare.error.Error.{Error}
 use Rattle.gix_ref_transaction.specs.declared.prepare.error.Error.TheVariants.{Memory}
@@ -283,3 +286,47 @@ module _ {F : Type 0} (honest : Type 0) (means : F → Meaning) (faults : F → 
         ((q : Path) → is_in locks q ≡ true → IsOwnLock places q) →
         LosesNothingBut means old new places
     pub same : IsSameStore old new
+
+-- The same, by the finder of objects that a use of `packed-refs` has.
+module _ {F T : Type 0} (honest : Type 0) (means : F → Meaning) (faults : F → FaultCounts)
+    (claims : T → Type 0) (meaning : T → ObjectId → Stored) (packed_refs : PackedRefs T) where
+  abbrev pub HoldsSplitBy : (old new : Store F) → (split : List RefEdit) → Option Path →
+      List Edit → Type 0
+  HoldsSplitBy = HoldsSplit honest means faults (OfFinder claims packed_refs)
+      (ends_of meaning packed_refs) (mode_in packed_refs)
+
+  abbrev pub HoldsGivenBy : (old new : Store F) → (given : List RefEdit) → Option Path →
+      List Edit → Type 0
+  HoldsGivenBy = HoldsGiven honest means faults (OfFinder claims packed_refs)
+      (ends_of meaning packed_refs) (mode_in packed_refs)
+
+  abbrev pub PreparesBy : (old new : Store F) → (given : List RefEdit) → Option Path →
+      List Edit → Type 0
+  PreparesBy = PreparesGiven honest means faults (OfFinder claims packed_refs)
+      (ends_of meaning packed_refs) (mode_in packed_refs)
+
+  -- and so of failures, which name the locks that are left
+  module _ (read : FileError → Type 0) (old new : Store F) (edits : List RefEdit)
+      (failure : Failure Error) where
+    abbrev pub SplitFails : Type 0
+    SplitFails = RefusesSplit honest read means faults (OfFinder claims packed_refs)
+        (ends_of meaning packed_refs) (mode_in packed_refs) old new edits failure.error
+        (paths_of failure.locks_left.items)
+
+    abbrev pub CheckedFail : Type 0
+    CheckedFail = RefusesFrom honest read means faults (OfFinder claims packed_refs)
+        (ends_of meaning packed_refs) (mode_in packed_refs) old new edits failure.error
+        (paths_of failure.locks_left.items)
+
+    abbrev pub GivenFail : Type 0
+    GivenFail = RefusesGiven honest read means faults (OfFinder claims packed_refs)
+        (ends_of meaning packed_refs) (mode_in packed_refs) old new edits failure.error
+        (paths_of failure.locks_left.items)
+
+  -- and of a refusal of `prepare`, which hands the finder back
+  abbrev pub IsRefusedBy : (read : FileError → Type 0) → (old new : Store F) → List RefEdit →
+      Refused T → Type 0
+  IsRefusedBy read old new edits refused = RefusesGiven honest read means faults
+      (OfFinder claims packed_refs) (ends_of meaning packed_refs) (mode_in packed_refs) old new
+      edits refused.error (paths_of refused.locks_left.items)
+      × (refused.packed_refs ≡ packed_refs)

@@ -1,7 +1,8 @@
 -- A store as `git init` makes it: `HEAD` names a branch, and there is no reference.
-use Rattle.std.specs.Prelude.{ℕ, List}
-use Rattle.gix_ref_files.specs.Files.{Meaning}
+use Rattle.std.specs.Prelude.{◌⊎◌, ℕ, Bool, List, Option}
+use Rattle.gix_ref_files.specs.Files.{FaultCounts, Meaning}
 use Rattle.gix_ref_listing.specs.PristineStores as stores_as_made
+use Rattle.gix_ref_listing.specs.Walks.{IsAnyMet}
 use Rattle.gix_ref_store.specs.Store.{files_of}
 use Rattle.gix_ref_store.specs.Listings.{prefix_of_all}
 use Rattle.gix_ref_store.specs.Lookup.{settings_of, view_in}
@@ -22,3 +23,10 @@ module _ {F : Type 0} (means : F → Meaning) where
   abbrev pub HasNoHead : Store F → Type 0
   HasNoHead store = stores_as_made.ReadsNone (settings_of store) (view_in means store)
       (stores_as_made.head_path (settings_of store))
+
+-- whether the store is as it was made; none is said where `HEAD` has no target, or a fault of files was counted
+abbrev pub SaysIfPristine : {F : Type 0} → (honest : Type 0) → (means : F → Meaning) →
+    (faults : F → FaultCounts) → (old new : Store F) → (name : List ℕ) → Option Bool → Type 0
+SaysIfPristine honest means faults old new name = stores_as_made.Says
+    (honest → IsPristineStore means old name) (honest → IsStoreInUse means old name)
+    ((honest → HasNoHead means old) ⊎ IsAnyMet (faults (files_of old)) (faults (files_of new)))

@@ -1,5 +1,5 @@
 //! A `packed-refs` that is searched where it is: opening it, and the search for a full name.
-ghost use Rattle.std.specs.Prelude.{◌≡◌, ℕ, IfOk, IfErr, Err};
+ghost use Rattle.std.specs.Prelude.{◌≡◌, IfOk, IfErr, Err};
 ghost use Rattle.gix_ref_files.specs.Files.{FaultCounts};
 ghost use Rattle.gix_ref_packed.specs.Buffers.{IsRefusedBytes, count_open};
 ghost use Rattle.gix_ref_packed.specs.FileSearches.{IsNoChange, count_read};

@@ -132,7 +132,7 @@ impl<'a> Iterator for Iter<'a> {
 }
 
 impl Buffer {
-    ghost use Rattle.std.specs.Prelude.{◌≡◌, ◌+◌, ℕ, List, [], None, Some, true};
+    ghost use Rattle.std.specs.Prelude.{◌≡◌, ℕ, List, [], Some, true};
     ghost use Rattle.std.specs.Iterator.Runs.{EachRunFrom};
     ghost use Rattle.gix_ref_target.specs.PackedRecords.{Record};
     ghost use Rattle.gix_ref_packed_text.specs.RecordGrammar.{Records, Rising};

@@ -49,7 +49,7 @@ fn is_records(text: &[u8], kind: Kind) -> bool
 }
 
 impl<R: ReadAt + Drop> SortedFile<R> {
-    ghost use Rattle.std.specs.Prelude.{◌≡◌, ◌≤◌, ◌-◌, List, length, take, drop, IfOk, IfErr};
+    ghost use Rattle.std.specs.Prelude.{◌≡◌, ◌≤◌, ◌-◌, length, take, drop, IfOk, IfErr};
     ghost use Rattle.gix_ref_packed.specs.FilePrefixes.{BufferHoldsAsked, Encloses, EnclosesAsked, HoldsPrefix};
     ghost use Rattle.gix_ref_packed_text.specs.Prefixes.{NamesAscend};
     ghost use Rattle.gix_ref_packed.specs.FileSearches.{IsNoChange, count_read};

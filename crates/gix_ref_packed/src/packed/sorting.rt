@@ -41,8 +41,8 @@ pub fn line_count(reference: &Reference<'_>) -> u64
 /// The first line has the number `first`; the error is `Iter` at the first line that is no record, among those that were read.
 fn names_rise(text: &[u8], kind: Kind, first: u64) -> Result<bool, Error>
     requires { first ≤ 2 }
-    ensures rise { IfOk result (λ rises. rises ≡ true → (rs : List Record) × Records kind text.now rs
-        × Rising rs) }
+    ensures rise { IfOk result (λ rises. rises ≡ true →
+        (rs : List Record) × Records kind text.now rs × Rising rs) }
     ensures fall { IfOk result (λ rises. rises ≡ false → (rs : List Record) →
         Records kind text.now rs → Rising rs → ⊥) }
     ensures refused { IfErr result (IsStuck kind first text.now) }

@@ -121,12 +121,11 @@ pub struct Platform<'s, F, P = Option<Buffer>> {
 }
 
 impl<'s, F: Files> Platform<'s, F> {
-    ghost use Rattle.std.specs.Prelude.{◌≡◌, List, IfOk, IfErr, OnOk};
-    ghost use Rattle.gix_ref_target.specs.PackedRecords.{Record};
+    ghost use Rattle.std.specs.Prelude.{◌≡◌, IfOk, IfErr, OnOk};
     ghost use Rattle.gix_ref_listing.specs.declared.prefix.Error.TheVariants.{Memory};
     ghost use Rattle.gix_ref_listing.specs.CleanPrefixes.{IsAcceptedPrefix, IsRefusedPrefix};
-    ghost use Rattle.gix_ref_store.specs.Lookup.{AreRecordsIn, LooksUp};
-    ghost use Rattle.gix_ref_store.specs.Listings.{IteratesListing, IteratesPseudo, IsNoPlatformListing, LacksNoneIn, prefix_of_all, platform_store};
+    ghost use Rattle.gix_ref_store.specs.Lookup.{LooksUp};
+    ghost use Rattle.gix_ref_store.specs.Listings.{IteratesPseudo, ListsIn, IsNoPlatformListing, LacksNoneIn, prefix_of_all, platform_store};
 
     /// The references below `refs/`, or in a namespace all of its references, as `iter_packed` gives them. The folders are walked
     /// first, and then `packed-refs` is opened. As gix-ref's `Platform::all`.
@@ -143,10 +142,9 @@ impl<'s, F: Files> Platform<'s, F> {
     pub fn all(&mut self, alloc: Global) -> Result<LooseThenPacked<'_, F>, Error>
         ensures looks_up { IfOk result
             (λ it. LooksUp F.honest F.means (platform_store self.entry.now) it.store.now) }
-        ensures lists { F.honest → (records : List Record) →
-            AreRecordsIn F.means (platform_store self.entry.now) records →
-            IfOk result (IteratesListing F.honest F.means F.faults (platform_store self.entry.now)
-            records (prefix_of_all (platform_store self.entry.now).namespace)) }
+        ensures lists { F.honest → ListsIn F.honest F.means F.faults
+            (platform_store self.entry.now)
+            (prefix_of_all (platform_store self.entry.now).namespace) result }
         ensures complete { F.honest → IfOk result (LacksNoneIn F.honest F.means F.faults
             (platform_store self.entry.now)
             (prefix_of_all (platform_store self.entry.now).namespace)) }
@@ -177,10 +175,8 @@ impl<'s, F: Files> Platform<'s, F> {
     ) -> Result<LooseThenPacked<'_, F>, Error>
         ensures looks_up { IfOk result
             (λ it. LooksUp F.honest F.means (platform_store self.entry.now) it.store.now) }
-        ensures lists { F.honest → (records : List Record) →
-            AreRecordsIn F.means (platform_store self.entry.now) records →
-            IfOk result (IteratesListing F.honest F.means F.faults
-            (platform_store self.entry.now) records prefix.now) }
+        ensures lists { F.honest → ListsIn F.honest F.means F.faults
+            (platform_store self.entry.now) prefix.now result }
         ensures complete { F.honest → IfOk result (LacksNoneIn F.honest F.means F.faults
             (platform_store self.entry.now) prefix.now) }
         ensures taken { OnOk result
@@ -224,17 +220,14 @@ fn of_open(error: open::Error) -> Error
 
 impl<F: Files> Store<F> {
     ghost use Rattle.std.specs.Prelude.{◌≡◌, ◌⊎◌, ◌≤◌, ◌+◌, [], List, IfOk, IfErr, IfSome, IfNone, OnOk, OnErr};
-    ghost use Rattle.gix_ref_target.specs.PackedRecords.{Record};
     ghost use Rattle.gix_ref_listing.specs.declared.prefix.Error.TheVariants.{Memory};
-    ghost use Rattle.gix_ref_store.specs.Lookup.{AreRecordsIn, CanBeOpened, LooksUp, settings_of};
+    ghost use Rattle.gix_ref_store.specs.Lookup.{CanBeOpened, LooksUp, settings_of};
     ghost use Rattle.std.specs.Option.{option_len};
     ghost use Rattle.gix_ref_listing.specs.Listings.{Listed, IsNotLent, merge_left};
     ghost use Rattle.gix_ref_listing.specs.CleanPrefixes.{IsAcceptedPrefix, IsRefusedPrefix};
     ghost use Rattle.gix_ref_listing.specs.Steps.{AreYet, GivesNext, GivesRecord};
     ghost use Rattle.gix_ref_store.specs.Store.{files_of, IsSameStore};
-    ghost use Rattle.gix_ref_listing.specs.OwedNames.{Text, IsTextFor};
-    ghost use Rattle.gix_ref_listing.specs.WholeListings.{key_in};
-    ghost use Rattle.gix_ref_store.specs.Listings.{AreHeldFor, LacksNone, IteratesListing, IteratesPseudo, IsNotOpened, IsWalkedIn, LeavesUnopened, prefix_of_all, walked_prefix};
+    ghost use Rattle.gix_ref_store.specs.Listings.{LacksNoneHeld, LacksNoneWalked, ListsHeld, ListsWalked, IteratesListing, IteratesPseudo, IsNotOpened, IsWalkedIn, LeavesUnopened, prefix_of_all, walked_prefix};
     ghost use Rattle.gix_ref_store.specs.contracts.file.store.Store.{the_row};
 
     /// The next item of a listing.
@@ -277,12 +270,10 @@ impl<F: Files> Store<F> {
         ensures same_reference { IfOk result (λ it. it.store.ghost_name ≡ self.entry.ghost_name) }
         ensures looks_up { IfOk result
             (λ it. LooksUp F.honest F.means self.entry.now it.store.now) }
-        ensures lists { F.honest → (records : List Record) →
-            AreHeldFor self.entry.now prefix.now packed.entry records → IfOk result
-            (IteratesListing F.honest F.means F.faults self.entry.now records prefix.now) }
-        ensures complete { F.honest → (text : Text) →
-            IsTextFor (key_in (settings_of self.entry.now) prefix.now) packed.entry text →
-            IfOk result (LacksNone F.honest F.means F.faults (settings_of self.entry.now) text) }
+        ensures lists { F.honest → ListsHeld F.honest F.means F.faults self.entry.now
+            prefix.now packed.entry result }
+        ensures complete { F.honest → LacksNoneHeld F.honest F.means F.faults self.entry.now
+            prefix.now packed.entry result }
         ensures memory { IfErr result (λ error. error ≡ Memory) }
     {
         let settings = settings!(self);
@@ -342,15 +333,10 @@ impl<F: Files> Store<F> {
         ensures same { IfOk result (λ it. it.store.now ≡ self.entry.now) }
         ensures looks_up { IfOk result
             (λ it. LooksUp F.honest F.means self.entry.now it.store.now) }
-        ensures lists { F.honest → (start : Store F) (records : List Record) →
-            IsWalkedIn F.honest F.means F.faults start self.entry.now names →
-            AreHeldFor self.entry.now (walked_prefix names) packed.entry records → IfOk result
-            (IteratesListing F.honest F.means F.faults start records (walked_prefix names)) }
-        ensures complete { F.honest → (start : Store F) (text : Text) →
-            IsWalkedIn F.honest F.means F.faults start self.entry.now names →
-            IsTextFor (key_in (settings_of self.entry.now) (walked_prefix names)) packed.entry
-            text → IfOk result (LacksNone F.honest F.means F.faults (settings_of self.entry.now)
-            text) }
+        ensures lists { F.honest →
+            ListsWalked F.honest F.means F.faults self.entry.now names packed.entry result }
+        ensures complete { F.honest →
+            LacksNoneWalked F.honest F.means F.faults self.entry.now names packed.entry result }
         ensures memory { IfErr result (λ error. error ≡ Memory) }
     {
         let settings = settings!(self);
@@ -392,14 +378,10 @@ impl<F: Files> Store<F> {
         ensures same_reference { IfOk result (λ it. it.store.ghost_name ≡ self.entry.ghost_name) }
         ensures looks_up { IfOk result
             (λ it. LooksUp F.honest F.means self.entry.now it.store.now) }
-        ensures lists { F.honest → (records : List Record) → AreHeldFor self.entry.now
-            (prefix_of_all self.entry.now.namespace) packed.entry records →
-            IfOk result (IteratesListing F.honest F.means F.faults self.entry.now records
-            (prefix_of_all self.entry.now.namespace)) }
-        ensures complete { F.honest → (text : Text) → IsTextFor (key_in
-            (settings_of self.entry.now) (prefix_of_all self.entry.now.namespace)) packed.entry
-            text → IfOk result (LacksNone F.honest F.means F.faults (settings_of self.entry.now)
-            text) }
+        ensures lists { F.honest → ListsHeld F.honest F.means F.faults self.entry.now
+            (prefix_of_all self.entry.now.namespace) packed.entry result }
+        ensures complete { F.honest → LacksNoneHeld F.honest F.means F.faults self.entry.now
+            (prefix_of_all self.entry.now.namespace) packed.entry result }
         ensures memory { IfErr result (λ error. error ≡ Memory) }
     {
         let prefix = prefix_of_all(&self.namespace);
@@ -430,12 +412,10 @@ impl<F: Files> Store<F> {
         ensures same_reference { IfOk result (λ it. it.store.ghost_name ≡ self.entry.ghost_name) }
         ensures looks_up { IfOk result
             (λ it. LooksUp F.honest F.means self.entry.now it.store.now) }
-        ensures lists { F.honest → (records : List Record) →
-            AreHeldFor self.entry.now prefix.now packed.entry records → IfOk result
-            (IteratesListing F.honest F.means F.faults self.entry.now records prefix.now) }
-        ensures complete { F.honest → (text : Text) →
-            IsTextFor (key_in (settings_of self.entry.now) prefix.now) packed.entry text →
-            IfOk result (LacksNone F.honest F.means F.faults (settings_of self.entry.now) text) }
+        ensures lists { F.honest → ListsHeld F.honest F.means F.faults self.entry.now
+            prefix.now packed.entry result }
+        ensures complete { F.honest → LacksNoneHeld F.honest F.means F.faults self.entry.now
+            prefix.now packed.entry result }
         ensures taken { OnOk result (IsAcceptedPrefix self.entry.now.namespace prefix.now) }
         ensures refused { IfErr result (λ error. (error ≡ Memory)
             ⊎ IsRefusedPrefix self.entry.now.namespace prefix.now error) }

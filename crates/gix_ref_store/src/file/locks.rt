@@ -10,7 +10,7 @@ use std::alloc::Global;
 
 impl<F: Files> Store<F> {
     ghost use Rattle.std.specs.Prelude.{IfOk, IfErr};
-    ghost use Rattle.gix_ref_files.specs.Files.{AtEveryStop, NoFewer, Leaves};
+    ghost use Rattle.gix_ref_files.specs.Files.{NoFewer};
     ghost use Rattle.gix_ref_locks.specs.LockFiles.{IsLockFailure};
     ghost use Rattle.gix_ref_locks.specs.Removals.{IsUnlockFailure};
     ghost use Rattle.gix_ref_store.specs.Lookup.{LooksUp, settings_of};

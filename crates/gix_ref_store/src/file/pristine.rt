@@ -8,13 +8,10 @@ use gix_ref_name::name::FullNameRef;
 use std::alloc::{AllocError, Global};
 
 impl<F: Files> Store<F> {
-    ghost use Rattle.std.specs.Prelude.{◌⊎◌, IfOk};
+    ghost use Rattle.std.specs.Prelude.{IfOk};
     ghost use Rattle.gix_ref_name.specs.Names.{full_ref_bytes};
-    ghost use Rattle.gix_ref_listing.specs.Walks.{IsAnyMet};
-    ghost use Rattle.gix_ref_listing.specs.PristineStores.{Says};
-    ghost use Rattle.gix_ref_store.specs.Store.{files_of};
     ghost use Rattle.gix_ref_store.specs.Lookup.{LooksUp};
-    ghost use Rattle.gix_ref_store.specs.Pristine.{IsPristineStore, IsStoreInUse, HasNoHead};
+    ghost use Rattle.gix_ref_store.specs.Pristine.{SaysIfPristine};
 
     /// Whether the store is as `git init` makes it: `HEAD` is symbolic to this name, no loose reference below `refs/`, or in a
     /// namespace anywhere in it, can be read, and there is no `packed-refs`. `None` where `HEAD` cannot be read, and where a
@@ -35,10 +32,8 @@ impl<F: Files> Store<F> {
         alloc: Global,
         default_ref: FullNameRef<'_>,
     ) -> Result<Option<bool>, AllocError>
-        ensures says { IfOk result (Says (F.honest → IsPristineStore F.means self.old
-            (full_ref_bytes default_ref.entry)) (F.honest → IsStoreInUse F.means self.old
-            (full_ref_bytes default_ref.entry)) ((F.honest → HasNoHead F.means self.old)
-            ⊎ IsAnyMet (F.faults (files_of self.old)) (F.faults (files_of self.new)))) }
+        ensures says { IfOk result (SaysIfPristine F.honest F.means F.faults self.old self.new
+            (full_ref_bytes default_ref.entry)) }
         ensures unchanged { LooksUp F.honest F.means self.old self.new }
     {
         let settings = settings!(self);

@@ -4,9 +4,8 @@ ghost use Rattle.std.specs.Borrow.{sem, RestsIfErr};
 ghost use Rattle.gix_ref_packed.specs.OpenFiles.{HasReadFault};
 ghost use Rattle.gix_ref_transaction.specs.LeftLocks.{HasRoom};
 ghost use Rattle.gix_ref_transaction.specs.OwnLocks.{paths_of};
-ghost use Rattle.gix_ref_transaction.specs.Packing.{OfFinder, ends_of, mode_in};
 ghost use Rattle.gix_ref_transaction.specs.PrepareSteps.{updates};
-ghost use Rattle.gix_ref_store.specs.Prepared.{RefusesGiven, PreparesGiven, RollsBackFrom};
+ghost use Rattle.gix_ref_store.specs.Prepared.{IsRefusedBy, PreparesBy, RollsBackFrom};
 ghost use Rattle.gix_ref_store.specs.SameEdits.{AreSameEdits};
 
 pub mod commit;
@@ -152,17 +151,14 @@ impl<'s, F: Files, T: Find> Transaction<'s, F, PackedRefs<T>> {
         edits: Vec<RefEdit>,
     ) -> Result<Prepared<'s, F, Plan<T>>, Refused<T>>
         ensures* rests { sem 𝓛 (RestsIfErr (the_row F.row) self.entry.store
-            (λ p. p.store.ghost_name) result (λ n. IfErr result (λ r. RefusesGiven F.honest
-            (HasReadFault F.Reader.faults) F.means F.faults
-            (OfFinder T.claims self.entry.packed_refs) (ends_of T.meaning self.entry.packed_refs)
-            (mode_in self.entry.packed_refs) self.entry.store.now n edits.items
-            r.error (paths_of r.locks_left.items) × (r.packed_refs ≡ self.entry.packed_refs)))) }
+            (λ p. p.store.ghost_name) result (λ n. IfErr result (IsRefusedBy F.honest F.means
+            F.faults T.claims T.meaning self.entry.packed_refs (HasReadFault F.Reader.faults)
+            self.entry.store.now n edits.items))) }
         ensures edits { IfErr result (λ r. AreSameEdits edits.items r.edits.items) }
         ensures same_reference { IfOk result (λ p. p.store.ghost_name
             ≡ self.entry.store.ghost_name) }
         ensures prepared { IfOk result
-            (λ p. PreparesGiven F.honest F.means F.faults (OfFinder T.claims self.entry.packed_refs)
-            (ends_of T.meaning self.entry.packed_refs) (mode_in self.entry.packed_refs)
+            (λ p. PreparesBy F.honest F.means F.faults T.claims T.meaning self.entry.packed_refs
             self.entry.store.now p.store.now edits.items (held_packed p.plan) (held_edits p.plan)) }
         ensures packed_refs { IfOk result (λ p. prepared_mode p.plan ≡ self.entry.packed_refs) }
     {
@@ -220,7 +216,7 @@ impl<F: Files, T: Find> Transaction<'_, F, PackedRefs<T>> {
 }
 
 impl<F: Files, T: Find> Prepared<'_, F, Plan<T>> {
-    ghost use Rattle.gix_ref_store.specs.CommitOutcomes.{HasSucceeded, HasEndedEarly, EveryMomentIsSafe, KeepsTheRest};
+    ghost use Rattle.gix_ref_store.specs.CommitOutcomes.{PlanSucceeds, HasEndedEarly, EveryMomentIsSafe, KeepsTheRest};
     ghost use Rattle.gix_ref_store.specs.CommitResult.{left_of, mode_handed_back};
     ghost use Rattle.gix_ref_transaction.specs.PrepareSteps.{held_locks};
     ghost use Rattle.gix_ref_store.specs.PreparedFields.{held_edits, held_packed, prepared_edits, prepared_mode};
@@ -266,9 +262,9 @@ impl<F: Files, T: Find> Prepared<'_, F, Plan<T>> {
         alloc: Global,
         committer: Option<SignatureRef<'_>>,
     ) -> Result<Done<T>, Failed<T>>
-        ensures committed { IfOk result (λ done. HasSucceeded F.honest F.means F.faults
-            self.entry.store.now self.exit.0.now committer.entry (held_packed self.entry.plan)
-            (held_edits self.entry.plan) done.edits.items (paths_of done.locks_left.items)) }
+        ensures committed { IfOk result (λ done. PlanSucceeds F.honest F.means F.faults
+            self.entry.store.now self.exit.0.now committer.entry self.entry.plan done.edits.items
+            (paths_of done.locks_left.items)) }
         ensures failed { IfErr result
             (λ f. HasEndedEarly F.honest F.means F.faults self.entry.store.now self.exit.0.now
             committer.entry (held_packed self.entry.plan) (held_edits self.entry.plan) f.error) }

@@ -3,11 +3,10 @@ ghost use Rattle.std.specs.Prelude.{◌≡◌, ◌+◌, [], IfOk, IfErr, vec_len
 ghost use Rattle.gix_ref_packed.specs.OpenFiles.{HasReadFault};
 ghost use Rattle.gix_ref_theory.specs.OnRealTrees.{view_of};
 ghost use Rattle.gix_ref_transaction.specs.LeftLocks.{HasRoom};
-ghost use Rattle.gix_ref_transaction.specs.OwnLocks.{paths_of};
-ghost use Rattle.gix_ref_store.specs.Prepared.{RefusesFrom, RefusesGiven, RefusesSplit, HaveParents, HoldsSplit, HoldsGiven, SplitsFrom, LosesNothing, tree_of};
+ghost use Rattle.gix_ref_store.specs.Prepared.{CheckedFail, GivenFail, SplitFails, HaveParents, HoldsSplitBy, HoldsGivenBy, SplitsFrom, LosesNothing, tree_of};
 ghost use Rattle.gix_ref_store.specs.SameEdits.{AreSameEdits};
 ghost use Rattle.gix_ref_store.specs.Store.{files_of, kind_of, meaning_of, with_files};
-ghost use Rattle.gix_ref_transaction.specs.Packing.{OfFinder, ends_of, mode_in};
+ghost use Rattle.gix_ref_transaction.specs.Packing.{mode_in};
 ghost use Rattle.gix_ref_transaction.specs.Parents.{parents_in, split_parents};
 ghost use Rattle.gix_ref_transaction.specs.Splits.{name_led_to, values_of, IsSplitCause};
 ghost use Rattle.gix_ref_files.specs.ReadOnly.{OnlyReads};
@@ -71,15 +70,12 @@ impl<F: Files> Store<F> {
         requires valid { AllValid (meaning_of self.old) (kind_of self.old) [] split.edits.items }
         requires len { vec_len split.parents ≡ vec_len split.edits }
         ensures refused { IfErr result
-            (λ failure. RefusesSplit F.honest (HasReadFault F.Reader.faults) F.means F.faults
-            (OfFinder T.claims packed_refs.now)
-            (ends_of T.meaning packed_refs.now) (mode_in packed_refs.now)
-            self.old self.new split.edits.items failure.error (paths_of failure.locks_left.items)) }
+            (SplitFails F.honest F.means F.faults T.claims T.meaning packed_refs.now
+            (HasReadFault F.Reader.faults) self.old self.new split.edits.items) }
         ensures asked { IfOk result (λ held. updates held.edits.items ≡ split.edits.items) }
         ensures parents { IfOk result (λ held. parents_in held.edits.items ≡ split.parents.items) }
-        ensures held { IfOk result (λ held. HoldsSplit F.honest F.means F.faults
-            (OfFinder T.claims packed_refs.now) (ends_of T.meaning packed_refs.now)
-            (mode_in packed_refs.now) self.old self.new split.edits.items held.packed
+        ensures held { IfOk result (λ held. HoldsSplitBy F.honest F.means F.faults
+            T.claims T.meaning packed_refs.now self.old self.new split.edits.items held.packed
             held.edits.items) }
         ensures lost { F.honest →
             LosesNothing F.means (mode_in packed_refs.now) self.old self.new split.edits.items }
@@ -136,19 +132,16 @@ impl<F: Files> Store<F> {
         edits: Vec<RefEdit>,
     ) -> Result<HeldLocks, Failure<Error>>
         ensures refused { IfErr result
-            (λ failure. RefusesFrom F.honest (HasReadFault F.Reader.faults) F.means F.faults
-            (OfFinder T.claims packed_refs.now)
-            (ends_of T.meaning packed_refs.now) (mode_in packed_refs.now)
-            self.old self.new edits.items failure.error (paths_of failure.locks_left.items)) }
+            (CheckedFail F.honest F.means F.faults T.claims T.meaning packed_refs.now
+            (HasReadFault F.Reader.faults) self.old self.new edits.items) }
         ensures splits { IfOk result (λ held.
             SplitsFrom F.honest F.means F.faults self.old edits.items (updates held.edits.items)) }
         ensures parents { F.honest →
             IfOk result (λ held. HaveParents F.honest F.means F.faults self.old edits.items
             held.edits.items) }
-        ensures held { IfOk result (λ held. HoldsSplit F.honest F.means F.faults
-            (OfFinder T.claims packed_refs.now) (ends_of T.meaning packed_refs.now)
-            (mode_in packed_refs.now) self.old self.new (updates held.edits.items) held.packed
-            held.edits.items) }
+        ensures held { IfOk result (λ held. HoldsSplitBy F.honest F.means F.faults
+            T.claims T.meaning packed_refs.now self.old self.new (updates held.edits.items)
+            held.packed held.edits.items) }
         ensures room { IfOk result (λ held. HasRoom held.edits held.remains) }
     {
         match self.split(alloc, edits) {
@@ -165,14 +158,11 @@ impl<F: Files> Store<F> {
         edits: Vec<RefEdit>,
     ) -> Result<HeldLocks, Failure<Error>>
         ensures refused { IfErr result
-            (λ failure. RefusesGiven F.honest (HasReadFault F.Reader.faults) F.means F.faults
-            (OfFinder T.claims packed_refs.now)
-            (ends_of T.meaning packed_refs.now) (mode_in packed_refs.now)
-            self.old self.new edits.items failure.error (paths_of failure.locks_left.items)) }
-        ensures held { IfOk result (λ held. HoldsGiven F.honest F.means F.faults
-            (OfFinder T.claims packed_refs.now)
-            (ends_of T.meaning packed_refs.now) (mode_in packed_refs.now) self.old self.new
-            edits.items held.packed held.edits.items) }
+            (GivenFail F.honest F.means F.faults T.claims T.meaning packed_refs.now
+            (HasReadFault F.Reader.faults) self.old self.new edits.items) }
+        ensures held { IfOk result (λ held. HoldsGivenBy F.honest F.means F.faults
+            T.claims T.meaning packed_refs.now self.old self.new edits.items held.packed
+            held.edits.items) }
         ensures room { IfOk result (λ held. HasRoom held.edits held.remains) }
     {
         match compose_names(alloc, self.precompose_unicode, edits) {
@@ -189,15 +179,12 @@ impl<F: Files> Store<F> {
         edits: Vec<RefEdit>,
     ) -> Result<HeldLocks, (Failure<Error>, Vec<RefEdit>)>
         ensures refused { IfErr result
-            (λ r. RefusesGiven F.honest (HasReadFault F.Reader.faults) F.means F.faults
-            (OfFinder T.claims packed_refs.now)
-            (ends_of T.meaning packed_refs.now) (mode_in packed_refs.now)
-            self.old self.new edits.items r.0.error (paths_of r.0.locks_left.items)) }
+            (λ r. GivenFail F.honest F.means F.faults T.claims T.meaning packed_refs.now
+            (HasReadFault F.Reader.faults) self.old self.new edits.items r.0) }
         ensures edits { IfErr result (λ r. AreSameEdits edits.items r.1.items) }
-        ensures held { IfOk result (λ held. HoldsGiven F.honest F.means F.faults
-            (OfFinder T.claims packed_refs.now)
-            (ends_of T.meaning packed_refs.now) (mode_in packed_refs.now) self.old self.new
-            edits.items held.packed held.edits.items) }
+        ensures held { IfOk result (λ held. HoldsGivenBy F.honest F.means F.faults
+            T.claims T.meaning packed_refs.now self.old self.new edits.items held.packed
+            held.edits.items) }
         ensures room { IfOk result (λ held. HasRoom held.edits held.remains) }
     {
         match edits.clone() {
