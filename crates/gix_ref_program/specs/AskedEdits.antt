@@ -118,3 +118,8 @@ pub record NoEditAmong (kind : Kind) (message : Option (List ℕ)) (all : List A
   pub edits : List RefEdit
   pub are_asked_for : AreAskedFor kind message before edits
   pub none : NoEdit asked refusal
+
+-- why there are no edits that these commands ask for: there is none of one of them; or there was no memory
+abbrev pub NoEditsFor : Kind → (message : Option (List ℕ)) → List Asked → Refusal → Type 0
+NoEditsFor kind message all refusal = (refusal ≡ refusals.Memory)
+    ⊎ NoEditAmong kind message all refusal

@@ -10,9 +10,8 @@ use Rattle.gix_ref_files.specs.Tree.{Tree, is_file}
 use Rattle.gix_ref_files.specs.Tree.Content.{File}
 use Rattle.gix_ref_files.specs.Files.{Meaning, Leaves, Loses, HasRisen, disk_of, FaultCounts}
 use Rattle.gix_ref_lookup.specs.CleanPaths.{is_clean}
-use Rattle.gix_ref_log.specs.Signatures.{Who, signature_ref_who}
+use Rattle.gix_ref_log.specs.Signatures.{Who}
 use Rattle.gix_ref_log.specs.declared.actor.SignatureRef.{SignatureRef}
-use Rattle.std.specs.Option.{option_map}
 use Rattle.gix_ref_target.specs.PackedRecords.{Record}
 use Rattle.gix_ref_files.specs.declared.files.ReadAt.{Ghosts}
 use Rattle.gix_ref_lookup.specs.Lookups.{IsSound}
@@ -48,7 +47,7 @@ use Rattle.gix_ref_program.specs.Writes.{IsKept, IsWriteLoss, IsWriteStop, Terms
 use Rattle.gix_ref_program.specs.ListPrinting.{list_text}
 use Rattle.gix_ref_program.specs.LogPrinting.{log_text, AreLogItems}
 use Rattle.gix_ref_program.specs.Printed.{items_status}
-use Rattle.gix_ref_program.specs.Words.{Asked, Update, Symbolic, Delete, Show, Listing as AskedListing, Log, Script, LineAsked, AreWordsOf, MayWrite}
+use Rattle.gix_ref_program.specs.Words.{Asked, Update, Symbolic, Delete, Show, Listing as AskedListing, Log, Script, LineAsked, AreWordsOf, MayWrite, who_given}
 use Rattle.gix_ref_program.specs.declared.outcome.Outcome.{Outcome}
 use Rattle.gix_ref_program.specs.declared.outcome.Outcome.TheVariants as outcomes
 use Rattle.gix_ref_program.specs.declared.refusal.Refusal.{Refusal}
@@ -72,7 +71,7 @@ write_reflog_of (Some who) = Normal
 
 -- this is the committer of a line
 abbrev pub IsCommitterOf : LineAsked → Option SignatureRef → Type 0
-IsCommitterOf line committer = option_map signature_ref_who committer ≡ line.committer
+IsCommitterOf line committer = who_given committer ≡ line.committer
 
 -- What becomes of a line: an outcome, which is printed as a whole; or the items of a listing or of a reflog, each printed as it
 -- comes, all where `whole` says so; or the outcomes of the lines of a script that were begun, each printed as it comes.
@@ -317,6 +316,10 @@ module _ {F : Type 0} where
         disk_of (means start) ≡ disk_of (means files) → IsOpened start line store →
         HasGoodRecords means store × IsAtRest means store
 
+    -- where that is so, each loss of power from these files to `after` leaves a tree that has P
+    abbrev pub LosesIfReady : (files after : F) → LineAsked → (Tree → Type 0) → Type 0
+    LosesIfReady files after line P = IsReadyFor files line → Loses (means files) (means after) P
+
     -- in a run whose transactions do with `packed-refs` as `uses` says
     module _ (uses : PackedRefs Never) where
       -- What becomes of the text of a script: its lines are run in the store, one transaction each; or there is no store.
@@ -405,8 +408,8 @@ module _ {F : Type 0} where
         pub prints : Prints (LineRan G files after line) out now status
         pub leaves : honest → Leaves (means files) (means after) (IsStopIn files line)
         -- and each loss of power in one that writes leaves what a loss in it leaves
-        pub loses : honest → MayWrite line.asked → IsReadyFor files line →
-            Loses (means files) (means after) (IsLossIn files line)
+        pub loses : honest → MayWrite line.asked →
+            LosesIfReady files after line (IsLossIn files line)
 
 -- A run for whose words there was no memory: nothing changes, and it says so.
 pub record RunsOut {F E : Type 0} (files after : F) (out now : Option (List ℕ))
@@ -420,3 +423,12 @@ pub record RunsWrong {F E : Type 0} (files after : F) (words : List (List ℕ))
   pub no_line : (line : LineAsked) → AreWordsOf words line → ⊥
   pub same : after ≡ files
   pub printed : IfOk status (λ s. (s ≡ 2) × Appends out now (codes "wrong words\n"))
+
+module _ {F : Type 0} (honest : Type 0) (means : F → Meaning) (faults : F → FaultCounts)
+    (uses : PackedRefs Never) where
+  -- A run of words: there was no memory for them; or they are no line; or it is a run of the line that they are.
+  abbrev pub RunsWords : {R E : Type 0} (G : Ghosts R) → (files after : F) →
+      (words : List (List ℕ)) → (out now : Option (List ℕ)) → (status : Result ℕ E) → Type 0
+  RunsWords G files after words out now status = RunsOut files after out now status
+      ⊎ (RunsWrong files after words out now status
+      ⊎ RunsLine honest means faults uses G files after words out now status)

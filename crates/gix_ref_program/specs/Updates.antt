@@ -3,7 +3,7 @@ use Rattle.std.specs.Prelude.{◌≡◌, ◌⊎◌, List, Option, Some, None, Re
 use Rattle.gix_ref_files.specs.declared.files.FileError.{FileError}
 use Rattle.gix_ref_files.specs.Tree.{Tree, Path}
 use Rattle.gix_ref_files.specs.Disk.{Disk}
-use Rattle.gix_ref_files.specs.Files.{Meaning, HasRisenBy, FaultCounts}
+use Rattle.gix_ref_files.specs.Files.{Meaning, Loses, HasRisenBy, FaultCounts}
 use Rattle.gix_ref_files.specs.Settled.{IsAllSettled}
 use Rattle.gix_ref_theory.specs.Losses.{IsLostWell}
 use Rattle.gix_ref_theory.specs.OnDisks.{IsSpokenOf}
@@ -19,7 +19,7 @@ use Rattle.gix_ref_transaction.specs.declared.edit.Edit.{Edit}
 use Rattle.gix_ref_store.specs.CommitLines.{LinesPass, extras_due}
 use Rattle.gix_ref_store.specs.CommitResult.{CommitsFrom, EveryStopFrom, FailsFor, NoBadLineFrom}
 use Rattle.gix_ref_store.specs.CommittedFolders.{KeepsFolders}
-use Rattle.gix_ref_store.specs.Prepared.{PreparesGiven, RefusesGiven, HasGoodRecords, tree_of, disk_in, locks_in, places_in}
+use Rattle.gix_ref_store.specs.Prepared.{PreparesGiven, RefusesGiven, HasGoodRecords, IsAtRest, tree_of, disk_in, locks_in, places_in}
 use Rattle.gix_ref_store.specs.ComposedEdits.{AreAskedAs}
 use Rattle.gix_ref_store.specs.Store.{files_of, meaning_of}
 use Rattle.gix_ref_store.specs.declared.file.store.Store.{Store}
@@ -44,6 +44,11 @@ module _ {F : Type 0} (means : F → Meaning) where
   AreTried old edits tried =
       (asked : List RefEdit) × (AreAskedAs old.precompose_unicode edits asked ⊎ (asked ≡ edits))
       × (AreSplit (meaning_of old) (view_of (tree_of means old)) asked tried ⊎ (tried ≡ asked))
+
+  -- where `packed-refs` is well formed and all is at rest, each loss of power from `old` to `new` leaves a tree that has P
+  abbrev pub LosesFromRest : (old new : Store F) → (Tree → Type 0) → Type 0
+  LosesFromRest old new P = HasGoodRecords means old → IsAtRest means old →
+      Loses (means (files_of old)) (means (files_of new)) P
 
 -- what an update does with `packed-refs` as `uses` says
 module _ {F : Type 0} (honest : Type 0) (means : F → Meaning) (faults : F → FaultCounts)

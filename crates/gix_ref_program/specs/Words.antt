@@ -9,6 +9,7 @@ use Rattle.gix_ref_hash.specs.declared.hash.ObjectId.{ObjectId}
 use Rattle.gix_ref_hash.specs.declared.hash.Kind.{Kind}
 use Rattle.gix_ref_hash.specs.declared.hash.Kind.TheVariants as kinds
 use Rattle.gix_ref_log.specs.Signatures.{Who, IsSignature, signature_ref_who}
+use Rattle.gix_ref_log.specs.declared.actor.SignatureRef.{SignatureRef}
 use Rattle.gix_ref_program.specs.declared.words.Command.{Command}
 use Rattle.gix_ref_program.specs.declared.words.Command.TheVariants as commands
 use Rattle.gix_ref_program.specs.declared.words.Line.{Line as Parsed}
@@ -39,6 +40,14 @@ texts words = map (λ (word : Bor (List ℕ)). word.now) words
 -- those of words that are text
 abbrev pub string_texts : List (String Global) → List (List ℕ)
 string_texts words = map string_bytes words
+
+-- the bytes of a word, if one is given
+abbrev pub text_given : Option (Bor (List ℕ)) → Option (List ℕ)
+text_given word = option_map (λ (text : Bor (List ℕ)). text.now) word
+
+-- who it is that a signature names, if one is given
+abbrev pub who_given : Option SignatureRef → Option Who
+who_given signature = option_map signature_ref_who signature
 
 -- no script
 abbrev pub IsNoScript : Asked → Type 0
@@ -80,12 +89,21 @@ pub record IsUpdate (words : List (List ℕ)) (name : List ℕ) (id : ObjectId)
   pub expected : IsOldWord rest old
   pub words_are : words ≡ name ∷ (digits ∷ rest)
 
+-- and words that are none
+abbrev pub IsNoUpdate : List (List ℕ) → Type 0
+IsNoUpdate words = (name : List ℕ) (id : ObjectId) (old : Option ObjectId) →
+    IsUpdate words name id old → ⊥
+
 -- `NAME [OLD]`, where NAME is not the option `--deref`
 pub record IsDeletion (words : List (List ℕ)) (name : List ℕ) (old : Option ObjectId) : Type 0 where
   pub rest : List (List ℕ)
   pub no_option : name ≢ codes "--deref"
   pub expected : IsOldWord rest old
   pub words_are : words ≡ name ∷ rest
+
+-- and words that are none
+abbrev pub IsNoDeletion : List (List ℕ) → Type 0
+IsNoDeletion words = (name : List ℕ) (old : Option ObjectId) → IsDeletion words name old → ⊥
 
 -- `[--deref]`
 abbrev pub deref_words : Bool → List (List ℕ)
@@ -134,6 +152,10 @@ IsSigned None None = Unit {0}
 IsSigned (Some text) (Some who) = IsSignature text who
 IsSigned signature committer = ⊥
 
+-- and that of no committer
+abbrev pub IsNoSignature : Option (List ℕ) → Type 0
+IsNoSignature signature = (committer : Option Who) → IsSigned signature committer → ⊥
+
 -- the words of a line
 pub record AreWordsOf (words : List (List ℕ)) (line : LineAsked) : Type 0 where
   pub signature : Option (List ℕ)
@@ -152,16 +174,24 @@ command_asked (commands.Update deref name id old) = Update deref name.now id old
 command_asked (commands.Symbolic name target) = Symbolic name.now target.now
 command_asked (commands.Delete deref name old) = Delete deref name.now old
 command_asked (commands.Show name) = Show name.now
-command_asked (commands.List prefix) = Listing (option_map (λ text. text.now) prefix)
+command_asked (commands.List prefix) = Listing (text_given prefix)
 command_asked (commands.Log name) = Log name.now
 command_asked (commands.Script path) = Script path.now
+
+-- what each of these commands asks for
+abbrev pub commands_asked : List Command → List Asked
+commands_asked all = map command_asked all
 
 abbrev pub line_asked : Parsed → LineAsked
 line_asked line = record {
   dir = line.dir.now;
   kind = line.object_hash;
-  namespace = option_map (λ name. name.now) line.namespace;
-  committer = option_map signature_ref_who line.committer;
-  message = option_map (λ text. text.now) line.message;
+  namespace = text_given line.namespace;
+  committer = who_given line.committer;
+  message = text_given line.message;
   asked = command_asked line.command;
 }
+
+-- what the command of a line asks for
+abbrev pub asked_in : Parsed → Asked
+asked_in line = (line_asked line).asked

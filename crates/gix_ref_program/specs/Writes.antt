@@ -14,7 +14,7 @@ use Rattle.gix_ref_transaction.specs.declared.packing.PackedRefs.{PackedRefs}
 use Rattle.gix_ref_store.specs.Prepared.{HasGoodRecords, IsAtRest, tree_of}
 use Rattle.gix_ref_store.specs.Store.{files_of, IsSameStore}
 use Rattle.gix_ref_store.specs.declared.file.store.Store.{Store}
-use Rattle.gix_ref_program.specs.AskedEdits.{AreAskedFor, NoEditAmong}
+use Rattle.gix_ref_program.specs.AskedEdits.{AreAskedFor, NoEditsFor}
 use Rattle.gix_ref_program.specs.Updates.{IsLossOf, IsStopOf, IsUpdateError, UpdateMade}
 use Rattle.gix_ref_program.specs.Words.{Asked, LineAsked, line_asked}
 use Rattle.gix_ref_program.specs.declared.outcome.Outcome.{Outcome}
@@ -60,8 +60,7 @@ AreEditsOf terms asked edits = AreAskedFor terms.kind terms.message asked edits
 
 -- why there are none: there is none of one of the commands; or there was no memory
 abbrev pub NoEdits : Terms → List Asked → Refusal → Type 0
-NoEdits terms asked refusal = (refusal ≡ refusals.Memory)
-    ⊎ NoEditAmong terms.kind terms.message asked refusal
+NoEdits terms asked refusal = NoEditsFor terms.kind terms.message asked refusal
 
 -- in this tree each file that was settled is as it was
 abbrev pub IsKept : {F : Type 0} (means : F → Meaning) → F → Tree → Type 0

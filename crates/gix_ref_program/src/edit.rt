@@ -1,12 +1,11 @@
 //! The edits that commands ask for.
 ghost use Rattle.std.specs.Prelude.{◌≡◌, false, None, MatchResult};
-ghost use Rattle.std.specs.Option.{option_map};
 ghost use Rattle.gix_ref_name.specs.NameGrammar.{full_error};
 ghost use Rattle.gix_ref_name.specs.Names.{full_bytes};
 ghost use Rattle.gix_ref_target.specs.Targets.{target_value};
 ghost use Rattle.gix_ref_target.specs.Targets.TargetValue.{object_id, symbolic_name};
 ghost use Rattle.gix_ref_program.specs.AskedEdits.{IsAskedFor, IsDeletionEdit, IsEditOf, IsExpected, IsLogChange, IsNoName, NoEdit};
-ghost use Rattle.gix_ref_program.specs.Words.{IsWrite, Symbolic, command_asked};
+ghost use Rattle.gix_ref_program.specs.Words.{IsWrite, Symbolic, command_asked, text_given};
 
 use crate::refusal::Refusal;
 use crate::words::Command;
@@ -43,7 +42,7 @@ fn full_name(alloc: Global, word: &[u8]) -> Result<FullName, Refusal>
 
 /// The change of a log, with the message of its line: none without a TEXT.
 fn log_change(alloc: Global, text: Option<&[u8]>) -> Result<LogChange, Refusal>
-    ensures { MatchResult result (IsLogChange (option_map (λ text. text.now) text.entry))
+    ensures { MatchResult result (IsLogChange (text_given text.entry))
         (λ refusal. refusal ≡ Refusal.Memory) }
 {
     let mut log = LogChange::new_in(alloc);
@@ -66,8 +65,8 @@ fn edit_to(
     expected: PreviousValue,
 ) -> Result<RefEdit, Refusal>
     requires { full_error (full_bytes name) ≡ None }
-    ensures { MatchResult result (IsEditOf (full_bytes name) deref (option_map (λ text. text.now)
-        text.entry) (target_value new) expected) (λ refusal. refusal ≡ Refusal.Memory) }
+    ensures { MatchResult result (IsEditOf (full_bytes name) deref (text_given text.entry)
+        (target_value new) expected) (λ refusal. refusal ≡ Refusal.Memory) }
 {
     Ok(RefEdit {
         change: Change::Update {
@@ -89,7 +88,7 @@ fn update_edit(
     id: ObjectId,
     expected: PreviousValue,
 ) -> Result<RefEdit, Refusal>
-    ensures { MatchResult result (IsEditOf name.now deref (option_map (λ text. text.now) text.entry)
+    ensures { MatchResult result (IsEditOf name.now deref (text_given text.entry)
         (object_id id) expected) (IsNoName name.now) }
 {
     match full_name(alloc, name) {
@@ -105,7 +104,7 @@ fn symbolic_edit(
     text: Option<&[u8]>,
     target: &[u8],
 ) -> Result<RefEdit, Refusal>
-    ensures { MatchResult result (IsEditOf name.now false (option_map (λ text. text.now) text.entry)
+    ensures { MatchResult result (IsEditOf name.now false (text_given text.entry)
         (symbolic_name target.now) PreviousValue.Any) (NoEdit (Symbolic name.now target.now)) }
 {
     let name = match full_name(alloc, name) {
@@ -151,7 +150,7 @@ pub(crate) fn edit_of(
     command: &Command<'_>,
 ) -> Result<RefEdit, Refusal>
     requires { IsWrite (command_asked command.now) }
-    ensures { MatchResult result (IsAskedFor kind (option_map (λ text. text.now) message.entry)
+    ensures { MatchResult result (IsAskedFor kind (text_given message.entry)
         (command_asked command.now)) (NoEdit (command_asked command.now)) }
 {
     match command {

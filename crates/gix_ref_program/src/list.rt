@@ -1,5 +1,5 @@
 //! The listing of references, printed (`git for-each-ref`).
-ghost use Rattle.std.specs.Prelude.{◌≡◌, ◌≤◌, ◌<◌, ◌++◌, IfOk, IfSome, OnOk};
+ghost use Rattle.std.specs.Prelude.{◌≡◌, ◌<◌, ◌++◌, IfOk, IfSome, OnOk};
 ghost use Rattle.gix_ref_files.specs.Files.{NoFewer};
 ghost use Rattle.std.specs.Io.KnownBytes.{Keeps, append_known};
 ghost use Rattle.std.specs.Result.{is_err};
@@ -63,9 +63,9 @@ fn push_record(text: &mut Vec<u8>, own: OwnRecord<'_>) -> Result<(), AllocError>
     ensures { OnOk result (PushesRecord own.entry text.old.items text.new.items) }
 {
     push_lower_hex(own.record.target, text)?;
-    text.extend_from_slice(b" ")?;
+    text.push(b' ')?;
     text.extend_from_slice(own.name.to_path())?;
-    text.extend_from_slice(b"\n")?;
+    text.push(b'\n')?;
     Ok(())
 }
 

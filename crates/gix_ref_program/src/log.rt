@@ -32,11 +32,11 @@ fn push_line(text: &mut Vec<u8>, line: LineRef<'_>) -> Result<(), AllocError>
     ensures { OnOk result (text.new.items ≡ text.old.items ++ log_item_text (Ok line.entry)) }
 {
     push_lower_hex(line.previous_oid, text)?;
-    text.extend_from_slice(b" ")?;
+    text.push(b' ')?;
     push_lower_hex(line.new_oid, text)?;
-    text.extend_from_slice(b" ")?;
+    text.push(b' ')?;
     text.extend_from_slice(line.message)?;
-    text.extend_from_slice(b"\n")?;
+    text.push(b'\n')?;
     Ok(())
 }
 

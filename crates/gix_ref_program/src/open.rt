@@ -1,10 +1,8 @@
 //! The store that words name, and words as bytes.
 ghost use Rattle.std.specs.Prelude.{◌≡◌, IfOk, MatchResult};
-ghost use Rattle.std.specs.Option.{option_map};
 ghost use Rattle.gix_ref_lookup.specs.StoreLayout.{namespace_text};
-ghost use Rattle.gix_ref_log.specs.Signatures.{signature_ref_who};
 ghost use Rattle.gix_ref_program.specs.Runs.{IsAt, IsBadFolder, IsStoreOf, NoNamespace, NoStore, namespace_of, write_reflog_of};
-ghost use Rattle.gix_ref_program.specs.Words.{string_texts, texts};
+ghost use Rattle.gix_ref_program.specs.Words.{string_texts, text_given, texts, who_given};
 
 use crate::refusal::Refusal;
 use gix_ref_hash::hash::Kind;
@@ -17,9 +15,8 @@ use std::alloc::{AllocError, Global};
 
 /// The namespace that a NAME expands to, if there is one.
 fn expanded(alloc: Global, name: Option<&[u8]>) -> Result<Option<Namespace>, Refusal>
-    ensures { MatchResult result (λ n. namespace_text n
-        ≡ namespace_of (option_map (λ text. text.now) name.entry))
-        (NoNamespace (option_map (λ text. text.now) name.entry)) }
+    ensures { MatchResult result (λ n. namespace_text n ≡ namespace_of (text_given name.entry))
+        (NoNamespace (text_given name.entry)) }
 {
     let Some(name) = name else {
         return Ok(None);
@@ -35,7 +32,7 @@ fn expanded(alloc: Global, name: Option<&[u8]>) -> Result<Option<Namespace>, Ref
 
 /// Log lines are written where there is a committer.
 fn write_reflog_for(committer: Option<SignatureRef<'_>>) -> WriteReflog
-    ensures { result ≡ write_reflog_of (option_map signature_ref_who committer.entry) }
+    ensures { result ≡ write_reflog_of (who_given committer.entry) }
 {
     match committer {
         Some(_) => WriteReflog::Normal,
@@ -81,10 +78,9 @@ pub fn open_store<F>(
     namespace: Option<&[u8]>,
     committer: Option<SignatureRef<'_>>,
 ) -> Result<Store<F>, (F, Refusal)>
-    ensures { MatchResult result
-        (IsStoreOf files dir.now kind (option_map (λ text. text.now) namespace.entry)
-        (option_map signature_ref_who committer.entry))
-        (λ r. (r.0 ≡ files) × NoStore dir.now (option_map (λ text. text.now) namespace.entry) r.1) }
+    ensures { MatchResult result (IsStoreOf files dir.now kind (text_given namespace.entry)
+        (who_given committer.entry))
+        (λ r. (r.0 ≡ files) × NoStore dir.now (text_given namespace.entry) r.1) }
 {
     let write_reflog = write_reflog_for(committer);
     let mut store = store_at(alloc, files, dir, kind, write_reflog)?;

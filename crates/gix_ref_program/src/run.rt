@@ -1,16 +1,15 @@
 //! One run of the program, over any files.
-ghost use Rattle.std.specs.Prelude.{◌≡◌, ◌⊎◌, List, [], ◌∷◌, false, Option, None, IfOk, MatchResult};
-ghost use Rattle.std.specs.Option.{option_map};
+ghost use Rattle.std.specs.Prelude.{◌≡◌, ◌⊎◌, List, [], ◌∷◌, Option, None, MatchResult};
 ghost use Rattle.gix_ref_store.specs.Store.{files_of};
 ghost use Rattle.gix_ref_store.specs.Listings.{AreHeldFor, walked_prefix};
 ghost use Rattle.gix_ref_store.specs.Lookup.{LooksUp};
-ghost use Rattle.gix_ref_store.specs.Prepared.{HasGoodRecords, IsAtRest};
 ghost use Rattle.gix_ref_files.specs.Calls.{Unchanged};
 ghost use Rattle.gix_ref_files.specs.DiskCalls.{Untouched};
-ghost use Rattle.gix_ref_files.specs.Files.{Leaves, Loses, AtEveryStop, OnEveryDisk};
-ghost use Rattle.gix_ref_program.specs.Runs.{CommandRan, HasStore, HasText, IsLossIn, IsLossInScript, IsOpened, IsReadyFor, IsStop, IsStopIn, IsStopInScript, IsTextLoss, IsTextStop, IsUnopened, IsUnread, LineRan, ListRan, ListRanAmong, LogRan, Prints, RunsLine, RunsOut, RunsWrong, SaysOne, ScriptRan, ShowOutcome, TextRan, prefix_asked};
+ghost use Rattle.gix_ref_files.specs.Files.{Leaves, AtEveryStop, OnEveryDisk};
+ghost use Rattle.gix_ref_program.specs.Runs.{CommandRan, HasStore, HasText, IsLossIn, IsLossInScript, IsOpened, IsStop, IsStopIn, IsStopInScript, IsTextLoss, IsTextStop, IsUnopened, IsUnread, LineRan, ListRan, ListRanAmong, LogRan, LosesIfReady, Prints, RunsWords, SaysOne, ScriptRan, ShowOutcome, TextRan, prefix_asked};
+ghost use Rattle.gix_ref_program.specs.Updates.{LosesFromRest};
 ghost use Rattle.gix_ref_program.specs.Writes.{IsWriteLoss, terms_in};
-ghost use Rattle.gix_ref_program.specs.Words.{IsNoScript, IsWrite, MayWrite, string_texts, line_asked};
+ghost use Rattle.gix_ref_program.specs.Words.{IsNoScript, IsWrite, MayWrite, asked_in, line_asked, string_texts, text_given};
 
 use crate::list;
 use crate::log::print_items;
@@ -130,8 +129,8 @@ fn print_listing<F: Files, W: Write>(
     out: &mut W,
 ) -> io::Result<u8>
     ensures prints { Prints (ListRan F.honest F.means F.faults F.Reader.ReadAt store.old store.new
-        (prefix_asked store.old (option_map (λ text. text.now) prefix.entry))) (W.contents out.old)
-        (W.contents out.new) result }
+        (prefix_asked store.old (text_given prefix.entry)))
+        (W.contents out.old) (W.contents out.new) result }
     ensures unchanged { LooksUp F.honest F.means store.old store.new }
 {
     let prefix = match prefix {
@@ -159,18 +158,17 @@ fn execute<F: Files, W: Write>(
     line: &Line<'_>,
     out: &mut W,
 ) -> (PackedRefs, io::Result<u8>)
-    requires { IsNoScript (line_asked line.now).asked }
+    requires { IsNoScript (asked_in line.now) }
     ensures packed_refs { result.0 ≡ packed_refs }
     ensures prints { Prints (CommandRan F.honest F.means F.faults F.Reader.ReadAt store.old
-        store.new (terms_in line.now packed_refs) (line_asked line.now).asked)
-        (W.contents out.old) (W.contents out.new) result.1 }
+        store.new (terms_in line.now packed_refs) (asked_in line.now)) (W.contents out.old)
+        (W.contents out.new) result.1 }
     ensures leaves { F.honest → Leaves (F.means (files_of store.old)) (F.means (files_of store.new))
         (IsStop F.honest F.means F.faults store.old (terms_in line.now packed_refs)
-        (line_asked line.now).asked) }
-    ensures loses { F.honest → IsWrite (line_asked line.now).asked → HasGoodRecords
-        F.means store.old → IsAtRest F.means store.old → Loses (F.means (files_of store.old))
-        (F.means (files_of store.new)) (IsWriteLoss F.honest F.means F.faults
-        (terms_in line.now packed_refs) ((line_asked line.now).asked ∷ []) store.old) }
+        (asked_in line.now)) }
+    ensures loses { F.honest → IsWrite (asked_in line.now) → LosesFromRest F.means store.old
+        store.new (IsWriteLoss F.honest F.means F.faults (terms_in line.now packed_refs)
+        (asked_in line.now ∷ []) store.old) }
 {
     if line.command.writes() {
         let (packed_refs, outcome) = transact(alloc, store, packed_refs, line, &[line.command]);
@@ -217,9 +215,9 @@ fn run_text<F: Files, W: Write>(
         result.status }
     ensures leaves { F.honest → Leaves (F.means files) (F.means result.files)
         (IsTextStop F.honest F.means F.faults packed_refs files (line_asked line.now) text.now) }
-    ensures loses { F.honest → IsReadyFor F.honest F.means F.faults files (line_asked line.now) →
-        Loses (F.means files) (F.means result.files)
-        (IsTextLoss F.honest F.means F.faults packed_refs files (line_asked line.now) text.now) }
+    ensures loses { F.honest → LosesIfReady F.honest F.means F.faults files result.files
+        (line_asked line.now) (IsTextLoss F.honest F.means F.faults packed_refs files
+        (line_asked line.now) text.now) }
 {
     match store_in(alloc, files, line) {
         Ok(mut store) => {
@@ -283,9 +281,8 @@ fn run_script<F: Files, W: Write>(
     ensures leaves { F.honest → Leaves (F.means files) (F.means result.files)
         (IsStopInScript F.honest F.means F.faults packed_refs files
         (line_asked line.now) path.now) }
-    ensures loses { F.honest → IsReadyFor F.honest F.means F.faults files (line_asked line.now) →
-        Loses (F.means files) (F.means result.files)
-        (IsLossInScript F.honest F.means F.faults packed_refs files
+    ensures loses { F.honest → LosesIfReady F.honest F.means F.faults files result.files
+        (line_asked line.now) (IsLossInScript F.honest F.means F.faults packed_refs files
         (line_asked line.now) path.now) }
 {
     let mut files = files;
@@ -303,16 +300,15 @@ fn run_command<F: Files, W: Write>(
     line: &Line<'_>,
     out: &mut W,
 ) -> RunResult<F>
-    requires { IsNoScript (line_asked line.now).asked }
+    requires { IsNoScript (asked_in line.now) }
     ensures packed_refs { result.packed_refs ≡ packed_refs }
     ensures prints { Prints (LineRan F.honest F.means F.faults packed_refs F.Reader.ReadAt files
         result.files (line_asked line.now)) (W.contents out.old) (W.contents out.new)
         result.status }
     ensures leaves { F.honest → Leaves (F.means files) (F.means result.files)
         (IsStopIn F.honest F.means F.faults packed_refs files (line_asked line.now)) }
-    ensures loses { F.honest → IsWrite (line_asked line.now).asked →
-        IsReadyFor F.honest F.means F.faults files (line_asked line.now) →
-        Loses (F.means files) (F.means result.files)
+    ensures loses { F.honest → IsWrite (asked_in line.now) →
+        LosesIfReady F.honest F.means F.faults files result.files (line_asked line.now)
         (IsLossIn F.honest F.means F.faults packed_refs files (line_asked line.now)) }
 {
     match store_in(alloc, files, line) {
@@ -346,9 +342,8 @@ fn run_line<F: Files, W: Write>(
         result.status }
     ensures leaves { F.honest → Leaves (F.means files) (F.means result.files)
         (IsStopIn F.honest F.means F.faults packed_refs files (line_asked line.now)) }
-    ensures loses { F.honest → MayWrite (line_asked line.now).asked →
-        IsReadyFor F.honest F.means F.faults files (line_asked line.now) →
-        Loses (F.means files) (F.means result.files)
+    ensures loses { F.honest → MayWrite (asked_in line.now) →
+        LosesIfReady F.honest F.means F.faults files result.files (line_asked line.now)
         (IsLossIn F.honest F.means F.faults packed_refs files (line_asked line.now)) }
 {
     match line.command {
@@ -377,11 +372,8 @@ pub fn run<F: Files, W: Write>(
     out: &mut W,
 ) -> RunResult<F>
     ensures packed_refs { result.packed_refs ≡ packed_refs }
-    ensures ran { RunsOut files result.files (W.contents out.old) (W.contents out.new) result.status
-        ⊎ (RunsWrong files result.files (string_texts words.now)
-        (W.contents out.old) (W.contents out.new) result.status
-        ⊎ RunsLine F.honest F.means F.faults packed_refs F.Reader.ReadAt files result.files
-        (string_texts words.now) (W.contents out.old) (W.contents out.new) result.status) }
+    ensures ran { RunsWords F.honest F.means F.faults packed_refs F.Reader.ReadAt files result.files
+        (string_texts words.now) (W.contents out.old) (W.contents out.new) result.status }
 {
     let Ok(words) = lent_words(alloc, words) else {
         let status = print(alloc, refused(alloc, Refusal::Memory), out);

@@ -1,11 +1,11 @@
 //! Scripts: a transaction for each line that is not empty, one after the other (`git update-ref --stdin`).
 ghost use Rattle.std.specs.Prelude.{◌≡◌, IfOk, MatchBool};
-ghost use Rattle.gix_ref_files.specs.Files.{Leaves, Loses};
+ghost use Rattle.gix_ref_files.specs.Files.{Leaves};
 ghost use Rattle.gix_ref_packed.specs.OpenFiles.{HasReadFault};
-ghost use Rattle.gix_ref_store.specs.Prepared.{HasGoodRecords, IsAtRest};
 ghost use Rattle.gix_ref_store.specs.Store.{files_of};
 ghost use Rattle.gix_ref_program.specs.ScriptLines.{script_lines};
 ghost use Rattle.gix_ref_program.specs.Scripts.{IsLineLoss, IsLineStop, IsScriptLoss, IsScriptStop, LineComes, LinePrints, ScriptPrints};
+ghost use Rattle.gix_ref_program.specs.Updates.{LosesFromRest};
 ghost use Rattle.gix_ref_program.specs.Writes.{terms_in};
 
 use crate::outcome::{Outcome, print, refused};
@@ -34,8 +34,7 @@ fn make_line<F: Files>(
     ensures leaves { F.honest → Leaves (F.means (files_of store.old)) (F.means (files_of store.new))
         (λ T. IsLineStop F.honest F.means F.faults
         (terms_in terms.now packed_refs) T line.now store.old) }
-    ensures loses { F.honest → HasGoodRecords F.means store.old → IsAtRest F.means store.old →
-        Loses (F.means (files_of store.old)) (F.means (files_of store.new))
+    ensures loses { F.honest → LosesFromRest F.means store.old store.new
         (λ T. IsLineLoss F.honest F.means F.faults
         (terms_in terms.now packed_refs) T line.now store.old) }
 {
@@ -62,8 +61,7 @@ fn run_script_line<F: Files, W: Write>(
     ensures leaves { F.honest → Leaves (F.means (files_of store.old)) (F.means (files_of store.new))
         (λ T. IsLineStop F.honest F.means F.faults
         (terms_in terms.now packed_refs) T line.now store.old) }
-    ensures loses { F.honest → HasGoodRecords F.means store.old → IsAtRest F.means store.old →
-        Loses (F.means (files_of store.old)) (F.means (files_of store.new))
+    ensures loses { F.honest → LosesFromRest F.means store.old store.new
         (λ T. IsLineLoss F.honest F.means F.faults
         (terms_in terms.now packed_refs) T line.now store.old) }
 {
@@ -98,8 +96,7 @@ pub(crate) fn run_lines<F: Files, W: Write>(
     ensures leaves { F.honest → Leaves (F.means (files_of store.old)) (F.means (files_of store.new))
         (IsScriptStop F.honest F.means F.faults
         (terms_in terms.now packed_refs) (script_lines text.now) store.old) }
-    ensures loses { F.honest → HasGoodRecords F.means store.old → IsAtRest F.means store.old →
-        Loses (F.means (files_of store.old)) (F.means (files_of store.new))
+    ensures loses { F.honest → LosesFromRest F.means store.old store.new
         (IsScriptLoss F.honest F.means F.faults
         (terms_in terms.now packed_refs) (script_lines text.now) store.old) }
 {

@@ -3,7 +3,7 @@ ghost use Rattle.std.specs.Prelude.{◌≡◌, ◌∷◌, ◌<◌, [], List, map
 ghost use Rattle.bstr.specs.Text.{no_cr};
 ghost use Rattle.std.specs.List.{slice_split};
 ghost use Rattle.gix_ref_log.specs.LogCuts.{log_lines};
-ghost use Rattle.gix_ref_program.specs.Words.{Asked, command_asked, texts};
+ghost use Rattle.gix_ref_program.specs.Words.{Asked, commands_asked, texts};
 ghost use Rattle.gix_ref_program.specs.ScriptLines.{parts_commands, line_words, script_lines, AsksFor};
 
 use crate::words::{Command, command_of};
@@ -75,7 +75,7 @@ pub(crate) fn commands_of<'w>(
 ) -> Result<Option<Vec<Command<'w>>>, AllocError>
     ensures { IfOk result (λ found. MatchOption found
         ((asked : List Asked) → AsksFor line.now asked → ⊥)
-        (λ commands. AsksFor line.now (map command_asked commands.items))) }
+        (λ commands. AsksFor line.now (commands_asked commands.items))) }
 {
     let words = words_of(alloc, line)?;
     let parts = commands_in(alloc, &words)?;

@@ -1,13 +1,12 @@
 //! Commands that write: one transaction of all that they ask for (`git update-ref --stdin`).
-ghost use Rattle.std.specs.Prelude.{◌≡◌, ◌⊎◌, ◌++◌, ◌∷◌, [], MatchResult, OnOk, map};
-ghost use Rattle.std.specs.Option.{option_map};
-ghost use Rattle.gix_ref_files.specs.Files.{Leaves, Loses};
+ghost use Rattle.std.specs.Prelude.{◌≡◌, ◌++◌, ◌∷◌, [], MatchResult, OnOk};
+ghost use Rattle.gix_ref_files.specs.Files.{Leaves};
 ghost use Rattle.gix_ref_packed.specs.OpenFiles.{HasReadFault};
-ghost use Rattle.gix_ref_store.specs.Prepared.{HasGoodRecords, IsAtRest};
 ghost use Rattle.gix_ref_store.specs.Store.{files_of};
-ghost use Rattle.gix_ref_program.specs.AskedEdits.{AreAskedFor, NoEditAmong};
+ghost use Rattle.gix_ref_program.specs.AskedEdits.{AreAskedFor, NoEditsFor};
 ghost use Rattle.gix_ref_program.specs.ScriptLines.{AllWrite};
-ghost use Rattle.gix_ref_program.specs.Words.{command_asked};
+ghost use Rattle.gix_ref_program.specs.Updates.{LosesFromRest};
+ghost use Rattle.gix_ref_program.specs.Words.{commands_asked, text_given};
 ghost use Rattle.gix_ref_program.specs.Writes.{IsWriteLoss, IsWriteStop, WriteComes, terms_in};
 
 use crate::edit::edit_of;
@@ -36,11 +35,10 @@ fn edits_of(
     message: Option<&[u8]>,
     commands: &[Command<'_>],
 ) -> Result<Vec<RefEdit>, Refusal>
-    requires { AllWrite (map command_asked commands.now) }
-    ensures { MatchResult result (λ edits. AreAskedFor kind (option_map (λ text. text.now)
-        message.entry) (map command_asked commands.now) edits.items)
-        (λ refusal. (refusal ≡ Refusal.Memory) ⊎ NoEditAmong kind (option_map (λ text. text.now)
-        message.entry) (map command_asked commands.now) refusal) }
+    requires { AllWrite (commands_asked commands.now) }
+    ensures { MatchResult result (λ edits. AreAskedFor kind (text_given message.entry)
+        (commands_asked commands.now) edits.items)
+        (NoEditsFor kind (text_given message.entry) (commands_asked commands.now)) }
 {
     let mut edits = Vec::new(alloc);
     for command in commands {
@@ -64,18 +62,17 @@ pub(crate) fn transact<F: Files>(
     terms: &Line<'_>,
     commands: &[Command<'_>],
 ) -> (PackedRefs, Outcome)
-    requires { AllWrite (map command_asked commands.now) }
+    requires { AllWrite (commands_asked commands.now) }
     ensures packed_refs { result.0 ≡ packed_refs }
     ensures outcome { WriteComes F.honest (HasReadFault F.Reader.faults) F.means F.faults
-        (terms_in terms.now packed_refs) (map command_asked commands.now)
-        store.old store.new result.1 }
+        (terms_in terms.now packed_refs) (commands_asked commands.now) store.old store.new
+        result.1 }
     ensures leaves { F.honest → Leaves (F.means (files_of store.old)) (F.means (files_of store.new))
         (IsWriteStop F.honest F.means F.faults (terms_in terms.now packed_refs)
-        (map command_asked commands.now) store.old) }
-    ensures loses { F.honest → HasGoodRecords F.means store.old → IsAtRest F.means store.old →
-        Loses (F.means (files_of store.old)) (F.means (files_of store.new))
+        (commands_asked commands.now) store.old) }
+    ensures loses { F.honest → LosesFromRest F.means store.old store.new
         (IsWriteLoss F.honest F.means F.faults (terms_in terms.now packed_refs)
-        (map command_asked commands.now) store.old) }
+        (commands_asked commands.now) store.old) }
 {
     let edits = match edits_of(alloc, terms.object_hash, terms.message, commands) {
         Ok(edits) => edits,

@@ -1,12 +1,12 @@
 //! Updates and deletions from their preparation to their commit.
 ghost use Rattle.std.specs.Prelude.{◌≡◌, None, IfSome};
-ghost use Rattle.gix_ref_files.specs.Files.{Leaves, Loses};
+ghost use Rattle.gix_ref_files.specs.Files.{Leaves};
 ghost use Rattle.gix_ref_packed.specs.OpenFiles.{HasReadFault};
 ghost use Rattle.gix_ref_transaction.specs.OwnLocks.{paths_of};
 ghost use Rattle.gix_ref_store.specs.CommitResult.{left_of, mode_handed_back};
 ghost use Rattle.gix_ref_store.specs.Prepared.{HasGoodRecords, IsAtRest};
 ghost use Rattle.gix_ref_store.specs.Store.{files_of, IsSameStore};
-ghost use Rattle.gix_ref_program.specs.Updates.{UpdateMade, IsStopOf, IsLossOf, IsUpdateError, error_of};
+ghost use Rattle.gix_ref_program.specs.Updates.{UpdateMade, IsStopOf, IsLossOf, IsUpdateError, LosesFromRest, error_of};
 
 use gix_ref_edits::transaction::RefEdit;
 use gix_ref_files::files::Files;
@@ -56,12 +56,11 @@ pub fn update<F: Files>(
     ensures done { result.error ≡ None → UpdateMade F.honest F.means F.faults packed_refs
         store.old store.new committer.entry edits.items (paths_of result.locks_left.items) }
     ensures error { IfSome result.error
-        (λ error. IsUpdateError F.honest F.means F.faults packed_refs (HasReadFault F.Reader.faults)
-        store.old store.new committer.entry edits.items error (paths_of result.locks_left.items)) }
+        (λ why. IsUpdateError F.honest F.means F.faults packed_refs (HasReadFault F.Reader.faults)
+        store.old store.new committer.entry edits.items why (paths_of result.locks_left.items)) }
     ensures leaves { F.honest → Leaves (F.means (files_of store.old)) (F.means (files_of store.new))
         (IsStopOf F.honest F.means F.faults packed_refs store.old committer.entry edits.items) }
-    ensures lost { F.honest → HasGoodRecords F.means store.old → IsAtRest F.means store.old →
-        Loses (F.means (files_of store.old)) (F.means (files_of store.new))
+    ensures lost { F.honest → LosesFromRest F.means store.old store.new
         (IsLossOf F.honest F.means F.faults packed_refs store.old committer.entry edits.items) }
     ensures settled { F.honest → result.error ≡ None → IsAtRest F.means store.old →
         IsAtRest F.means store.new }

@@ -2,10 +2,8 @@
 //! is `update [--deref] NAME ID [OLD]`, `symbolic NAME TARGET`, `delete [--deref] NAME [OLD]`, `show NAME`, `list [PREFIX]`,
 //! `log NAME` or `script FILE`.
 ghost use Rattle.std.specs.Prelude.{◌≡◌, ◌++◌, ℕ, List, MatchOption, MatchResult, Option, codes, ◌∷◌, [], false};
-ghost use Rattle.gix_ref_log.specs.Signatures.{Who, signature_ref_who};
-ghost use Rattle.std.specs.Option.{option_map};
 ghost use Rattle.gix_ref_hash.specs.declared.hash.ObjectId.{ObjectId};
-ghost use Rattle.gix_ref_program.specs.Words.{Asked, LineAsked as AskedLine, texts, first_is, IsOldWord, IsUpdate, IsDeletion, IsCommand, prefix_words, deref_words, IsOption, IsSigned, AreWordsOf, kind_words, command_asked, line_asked};
+ghost use Rattle.gix_ref_program.specs.Words.{Asked, LineAsked as AskedLine, texts, text_given, who_given, first_is, IsOldWord, IsNoUpdate, IsNoDeletion, IsCommand, prefix_words, deref_words, IsOption, IsSigned, IsNoSignature, AreWordsOf, kind_words, command_asked, line_asked};
 
 use gix_ref_hash::hash::{Kind, ObjectId};
 use gix_ref_log::actor::SignatureRef;
@@ -129,8 +127,7 @@ fn deref_of<'a, 'w>(words: &'a [&'w [u8]]) -> (bool, &'a [&'w [u8]])
 
 /// `NAME ID [OLD]` after `[--deref]`, where NAME is not that option.
 fn update_of<'w>(deref: bool, words: &[&'w [u8]]) -> Option<Command<'w>>
-    ensures { MatchOption result ((name : List ℕ) (id : ObjectId) (old : Option ObjectId) →
-        IsUpdate (texts words.now) name id old → ⊥) (λ command. IsCommand
+    ensures { MatchOption result (IsNoUpdate (texts words.now)) (λ command. IsCommand
         (codes "update" ∷ (deref_words deref ++ texts words.now)) (command_asked command)) }
 {
     let (name, rest) = words.split_first()?;
@@ -151,8 +148,7 @@ fn update_of<'w>(deref: bool, words: &[&'w [u8]]) -> Option<Command<'w>>
 
 /// `NAME [OLD]` after `[--deref]`, where NAME is not that option.
 fn deletion_of<'w>(deref: bool, words: &[&'w [u8]]) -> Option<Command<'w>>
-    ensures { MatchOption result ((name : List ℕ) (old : Option ObjectId) →
-        IsDeletion (texts words.now) name old → ⊥) (λ command. IsCommand
+    ensures { MatchOption result (IsNoDeletion (texts words.now)) (λ command. IsCommand
         (codes "delete" ∷ (deref_words deref ++ texts words.now)) (command_asked command)) }
 {
     let (name, rest) = words.split_first()?;
@@ -188,8 +184,7 @@ fn names_of<'w>(words: &[&'w [u8]]) -> Option<(&'w [u8], &'w [u8])>
 
 /// `[PREFIX]`, and an error for other words.
 fn prefix_of<'w>(words: &[&'w [u8]]) -> Result<Option<&'w [u8]>, WrongWords>
-    ensures { MatchResult result (λ prefix. texts words.now
-        ≡ prefix_words (option_map (λ text. text.now) prefix))
+    ensures { MatchResult result (λ prefix. texts words.now ≡ prefix_words (text_given prefix))
         (λ _. (prefix : Option (List ℕ)) → texts words.now ≡ prefix_words prefix → ⊥) }
 {
     let Some((prefix, rest)) = words.split_first() else {
@@ -245,7 +240,7 @@ fn value_of<'a, 'w>(
     option: &[u8],
 ) -> Option<(Option<&'w [u8]>, &'a [&'w [u8]])>
     ensures { MatchOption result (texts words.now ≡ option.now ∷ []) (λ r. IsOption option.now
-        (texts words.now) (option_map (λ value. value.now) r.0) (texts r.1.now)) }
+        (texts words.now) (text_given r.0) (texts r.1.now)) }
 {
     let Some(rest) = strip_word(words, option) else {
         return Some((None, words));
@@ -256,9 +251,9 @@ fn value_of<'a, 'w>(
 
 /// The committer whose signature this text is, and an error for a text that is no signature.
 fn committer_of(signature: Option<&[u8]>) -> Result<Option<SignatureRef<'_>>, WrongWords>
-    ensures { MatchResult result (λ committer. IsSigned (option_map (λ text. text.now)
-        signature.entry) (option_map signature_ref_who committer)) (λ _. (committer : Option Who) →
-        IsSigned (option_map (λ text. text.now) signature.entry) committer → ⊥) }
+    ensures { MatchResult result
+        (λ committer. IsSigned (text_given signature.entry) (who_given committer))
+        (λ _. IsNoSignature (text_given signature.entry)) }
 {
     let Some(text) = signature else {
         return Ok(None);

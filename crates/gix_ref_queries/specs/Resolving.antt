@@ -35,6 +35,12 @@ abbrev pub targets_in : {F : Type 0} (means : F → Meaning) → Store F → Lis
 targets_in means store records name =
     target_read (reading_among (meaning_of store) (view_in means store) records name)
 
+-- what full names read in a store has P; that is said where the files are honest and `packed-refs` is well formed or missing
+abbrev pub OfTargets : {F : Type 0} (honest : Type 0) (means : F → Meaning) → Store F →
+    (TargetsByName → Type 0) → Type 0
+OfTargets honest means store P = honest → (records : List Record) →
+    AreRecordsIn means store records → P (targets_in means store records)
+
 -- how the following of a name ends: at an object, with the last name; at a name without a reference; or after too many names
 pub data NameEnd : Type 0 where
   Reached : (name : List ℕ) (id : ObjectId) → NameEnd

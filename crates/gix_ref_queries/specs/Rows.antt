@@ -1,7 +1,8 @@
 -- The rows of `git for-each-ref`: one for each reference that is asked for and leads to an object.
-use Rattle.std.specs.Prelude.{◌≡◌, ◌⊎◌, ℕ, Bool, true, false, List, [], ◌∷◌, ◌++◌, Option, Some, None, Result, Ok, Err, Vec, map, reverse, take, codes, if◌then◌else◌}
+use Rattle.std.specs.Prelude.{◌≡◌, ◌⊎◌, ℕ, Bool, true, false, List, [], ◌∷◌, ◌++◌, Option, Some, None, Result, Ok, Err, Vec, map, reverse, take, codes, if◌then◌else◌, MatchResult}
 use Rattle.std.specs.Iterator.{Yields}
 use Rattle.std.specs.List.{AllByRecursion, Any, filter, filter_map, find, flat_map}
+use Rattle.std.specs.Option.{option_map}
 use Rattle.std.specs.declared.alloc.Global.{Global}
 use Rattle.gix_ref_files.specs.Files.{Meaning, FaultCounts}
 use Rattle.gix_ref_files.specs.declared.files.ReadAt.{Ghosts}
@@ -82,6 +83,10 @@ counted (Some count) rows = take count rows
 -- the bytes of rows
 abbrev pub row_texts : List (Vec ℕ Global) → List (List ℕ)
 row_texts rows = map (λ (row : Vec ℕ Global). row.items) rows
+
+-- and those of a row, if one was made
+abbrev pub row_made : Option (Vec ℕ Global) → Option (List ℕ)
+row_made row = option_map (λ (text : Vec ℕ Global). text.items) row
 
 -- the text of rows
 abbrev pub row_lines : List (List ℕ) → List ℕ
@@ -211,6 +216,12 @@ module _ {F : Type 0} (honest : Type 0) (means : F → Meaning) (faults : F → 
         IsNoListing honest means faults G old new prefix error
     IsUnlisted old new prefix (unlisted.Item error) = honest → (records : List Record) →
         AreRecordsIn means old records → EndsAtItem old new records prefix error
+
+    -- the references of a prefix that are asked for are listed so, or this is why not
+    abbrev pub ListsAs : (old new : Store F) → (prefix : List ℕ) → (patterns : List (List ℕ)) →
+        Result (Vec Reference Global) Unlisted → Type 0
+    ListsAs old new prefix patterns listed = MatchResult listed
+        (λ found. ListsAsked old new prefix patterns found.items) (IsUnlisted old new prefix)
 
     -- a format shows short names, and a lookup for that of a reference failed
     abbrev pub IsUnreadShort : (old : Store F) → List Part → (name : List ℕ) → Type 0

@@ -1,5 +1,5 @@
 //! `for-each-ref`.
-ghost use Rattle.std.specs.Prelude.{◌≡◌, ◌++◌, List, IfOk, codes, false};
+ghost use Rattle.std.specs.Prelude.{◌≡◌, IfOk, false};
 ghost use Rattle.std.specs.List.{find};
 ghost use Rattle.std.specs.Option.{option_map};
 ghost use Rattle.gix_ref_store.specs.Lookup.{LooksUp};

@@ -1,10 +1,10 @@
 //! The references of a store that are asked for by patterns (`git for-each-ref`).
-ghost use Rattle.std.specs.Prelude.{◌≡◌, ◌<◌, List, IfOk, IfErr, OnOk, MatchResult, OnSome, IfSome, codes};
+ghost use Rattle.std.specs.Prelude.{◌≡◌, ◌<◌, IfOk, MatchResult, IfSome, codes};
 ghost use Rattle.gix_ref_files.specs.Files.{NoFewer};
 ghost use Rattle.gix_ref_store.specs.Lookup.{LooksUp};
 ghost use Rattle.gix_ref_store.specs.Listings.{AreHeldFor, count_in, items_ahead, store_listed, walked_prefix};
 ghost use Rattle.gix_ref_queries.specs.Patterns.{texts};
-ghost use Rattle.gix_ref_queries.specs.Rows.{Collects, FindsAmongNames, GivesReference, IsUnlisted, ListsAsked, StopsAtItem};
+ghost use Rattle.gix_ref_queries.specs.Rows.{Collects, FindsAmongNames, GivesReference, ListsAs, StopsAtItem};
 
 use crate::pattern::is_asked_by;
 use gix_ref_files::files::Files;
@@ -103,9 +103,8 @@ pub(crate) fn list_asked<F: Files>(
     store: &mut Store<F>,
     patterns: &[&[u8]],
 ) -> Result<Vec<Reference>, Unlisted>
-    ensures lists { MatchResult result (λ found. ListsAsked F.honest F.means F.faults store.old
-        store.new (codes "refs/") (texts patterns.now) found.items)
-        (IsUnlisted F.honest F.means F.faults F.Reader.ReadAt store.old store.new (codes "refs/")) }
+    ensures lists { ListsAs F.honest F.means F.faults F.Reader.ReadAt store.old store.new
+        (codes "refs/") (texts patterns.now) result }
     ensures unchanged { LooksUp F.honest F.means store.old store.new }
 {
     let names = match store.walk_prefixed(alloc, b"refs/") {

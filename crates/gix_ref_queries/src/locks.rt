@@ -1,7 +1,5 @@
 //! `locks` and `locks --remove`.
 ghost use Rattle.std.specs.Prelude.{◌≡◌, ◌++◌, IfOk, codes};
-ghost use Rattle.gix_ref_files.specs.Files.{FaultCounts, AtEveryStop};
-ghost use Rattle.gix_ref_locks.specs.LockFiles.{IsLockFailure};
 ghost use Rattle.gix_ref_store.specs.Lookup.{LooksUp};
 ghost use Rattle.gix_ref_store.specs.Locks.{Unlocks};
 ghost use Rattle.gix_ref_store.specs.Store.{IsSameStore};

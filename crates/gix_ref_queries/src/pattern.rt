@@ -1,5 +1,5 @@
 //! Patterns of references: a name, a front of one up to a slash, or with `*` and `?` (`git help for-each-ref`).
-ghost use Rattle.std.specs.Prelude.{◌≡◌, ◌==◌, ◌&&◌, ◌||◌, not, [], ◌≤◌, ◌+◌, ℕ, List, Bool, length, drop, map, IfOk, false};
+ghost use Rattle.std.specs.Prelude.{◌≡◌, ◌==◌, ◌&&◌, ◌||◌, not, [], ◌+◌, ℕ, List, Bool, length, IfOk, false};
 ghost use Rattle.gix_ref_queries.specs.Patterns.{IsRow, fits, ends_in_slash, has_other_sign, is_asked_by, is_at_or_below, is_boundary, is_glob_of, matches, sign_then, any_bytes, one_sign, texts};
 
 use std::alloc::{AllocError, Global};

@@ -1,10 +1,9 @@
 //! Following a reference from name to name, as Git resolves it: each name is looked up as it is.
-ghost use Rattle.std.specs.Prelude.{◌≡◌, List};
+ghost use Rattle.std.specs.Prelude.{◌≡◌};
 ghost use Rattle.gix_ref_name.specs.Names.{full_bytes, full_ref_bytes};
-ghost use Rattle.gix_ref_target.specs.PackedRecords.{Record};
-ghost use Rattle.gix_ref_store.specs.Lookup.{AreRecordsIn, LooksUp};
+ghost use Rattle.gix_ref_store.specs.Lookup.{LooksUp};
 ghost use Rattle.gix_ref_store.specs.Store.{files_of};
-ghost use Rattle.gix_ref_queries.specs.Resolving.{targets_in, ReadsAs, ReadFails, EndsAs, EndFails, IfFollowed, IfRead};
+ghost use Rattle.gix_ref_queries.specs.Resolving.{OfTargets, ReadsAs, ReadFails, EndsAs, EndFails, IfFollowed, IfRead};
 
 use gix_ref_files::files::Files;
 use gix_ref_hash::hash::ObjectId;
@@ -32,8 +31,8 @@ pub enum NameRead {
 
 /// What a full name reads (`Store::find_full`). As `refs_read_raw_ref` of git.
 pub fn read_name<F: Files>(alloc: Global, store: &mut Store<F>, name: FullNameRef<'_>) -> NameRead
-    ensures reads { F.honest → (records : List Record) → AreRecordsIn F.means store.old records →
-        ReadsAs (targets_in F.means store.old records (full_ref_bytes name.entry)) result }
+    ensures reads { OfTargets F.honest F.means store.old
+        (λ find. ReadsAs (find (full_ref_bytes name.entry)) result) }
     ensures failed { ReadFails F.Reader.ReadAt F.honest F.means F.faults store.old
         (full_ref_bytes name.entry) result }
     ensures no_fault { IfRead result (F.faults (files_of store.new)
@@ -72,8 +71,8 @@ pub struct Followed {
 
 /// Follows a name over at most five names. The error is that of the lookup of the last name.
 pub fn follow<F: Files>(alloc: Global, store: &mut Store<F>, name: FullName) -> Followed
-    ensures ends { F.honest → (records : List Record) → AreRecordsIn F.means store.old records →
-        EndsAs (targets_in F.means store.old records) (full_bytes name) result }
+    ensures ends { OfTargets F.honest F.means store.old
+        (λ find. EndsAs find (full_bytes name) result) }
     ensures failed { EndFails F.Reader.ReadAt F.honest F.means F.faults store.old
         (full_bytes result.name) result.end }
     ensures no_fault { IfFollowed result.end (F.faults (files_of store.new)

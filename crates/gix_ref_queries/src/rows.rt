@@ -1,11 +1,10 @@
 //! The rows of references (`git for-each-ref`).
-ghost use Rattle.std.specs.Prelude.{◌≡◌, ◌++◌, List, IfOk, IfErr, OnOk};
-ghost use Rattle.std.specs.Option.{option_map, option_to_list};
+ghost use Rattle.std.specs.Prelude.{◌≡◌, ◌++◌, IfOk, IfErr, OnOk};
+ghost use Rattle.std.specs.Option.{option_to_list};
 ghost use Rattle.gix_ref_name.specs.Names.{full_bytes, full_ref_bytes};
-ghost use Rattle.gix_ref_target.specs.PackedRecords.{Record};
-ghost use Rattle.gix_ref_store.specs.Lookup.{AreRecordsIn, LooksUp};
-ghost use Rattle.gix_ref_queries.specs.Resolving.{IsUnread, targets_in, resolved};
-ghost use Rattle.gix_ref_queries.specs.Rows.{IsRowError, IsUnfollowed, IsUnreadRow, IsUnreadShort, counted, followed_row, ordered, row_of, row_texts, rows_of, shown_short};
+ghost use Rattle.gix_ref_store.specs.Lookup.{LooksUp};
+ghost use Rattle.gix_ref_queries.specs.Resolving.{IsUnread, OfTargets, resolved};
+ghost use Rattle.gix_ref_queries.specs.Rows.{IsRowError, IsUnfollowed, IsUnreadRow, IsUnreadShort, counted, followed_row, ordered, row_made, row_of, row_texts, rows_of, shown_short};
 
 use crate::format::{Part, row, shows_short};
 use crate::resolve::{End, Followed, follow};
@@ -44,9 +43,8 @@ fn shown_short<'r, F: Files>(
     parts: &[Part],
     name: FullNameRef<'r>,
 ) -> Result<&'r [u8], RowError<'r>>
-    ensures short { F.honest → (records : List Record) → AreRecordsIn F.means store.old records →
-        IfOk result (λ short. short.now ≡ shown_short (targets_in F.means store.old records)
-        parts.now (full_ref_bytes name.entry)) }
+    ensures short { OfTargets F.honest F.means store.old (λ find. IfOk result
+        (λ short. short.now ≡ shown_short find parts.now (full_ref_bytes name.entry))) }
     ensures failed { IfErr result (IsRowError (IsUnreadShort F.honest F.means F.faults
         F.Reader.ReadAt store.old parts.now (full_ref_bytes name.entry))
         (full_ref_bytes name.entry)) }
@@ -70,10 +68,9 @@ fn followed_row<'r, F: Files>(
     name: FullNameRef<'r>,
     short: &[u8],
 ) -> Result<Option<Vec<u8>>, RowError<'r>>
-    ensures rows { F.honest → (records : List Record) → AreRecordsIn F.means store.old records →
-        IfOk result (λ row. option_map (λ text. text.items) row ≡ followed_row parts.now
-        (full_ref_bytes name.entry) short.now
-        (resolved (targets_in F.means store.old records) 5 (full_ref_bytes name.entry))) }
+    ensures rows { OfTargets F.honest F.means store.old (λ find. IfOk result (λ row. row_made row
+        ≡ followed_row parts.now (full_ref_bytes name.entry) short.now
+        (resolved find 5 (full_ref_bytes name.entry)))) }
     ensures failed { IfErr result (IsRowError (IsUnread F.Reader.ReadAt F.honest F.means F.faults
         store.old (full_ref_bytes name.entry)) (full_ref_bytes name.entry)) }
     ensures unchanged { LooksUp F.honest F.means store.old store.new }
@@ -98,9 +95,8 @@ fn row_of<'r, F: Files>(
     parts: &[Part],
     reference: &'r Reference,
 ) -> Result<Option<Vec<u8>>, RowError<'r>>
-    ensures rows { F.honest → (records : List Record) → AreRecordsIn F.means store.old records →
-        IfOk result (λ row. option_map (λ text. text.items) row
-        ≡ row_of (targets_in F.means store.old records) parts.now reference.now) }
+    ensures rows { OfTargets F.honest F.means store.old
+        (λ find. IfOk result (λ row. row_made row ≡ row_of find parts.now reference.now)) }
     ensures failed { IfErr result (IsRowError (IsUnreadRow F.honest F.means F.faults
         F.Reader.ReadAt store.old parts.now reference.now) (full_bytes reference.now.name)) }
     ensures unchanged { LooksUp F.honest F.means store.old store.new }
@@ -121,8 +117,8 @@ fn row_of<'r, F: Files>(
 
 /// Adds a row, if there is one.
 fn keep(rows: &mut Vec<Vec<u8>>, row: Option<Vec<u8>>) -> Result<(), AllocError>
-    ensures { OnOk result (row_texts rows.new.items ≡ row_texts rows.old.items
-        ++ option_to_list (option_map (λ text. text.items) row)) }
+    ensures { OnOk result (row_texts rows.new.items
+        ≡ row_texts rows.old.items ++ option_to_list (row_made row)) }
 {
     if let Some(row) = row {
         rows.push(row)?;
@@ -139,9 +135,8 @@ pub fn rows<'r, F: Files>(
     parts: &[Part],
     references: &'r [Reference],
 ) -> Result<Vec<Vec<u8>>, RowError<'r>>
-    ensures rows { F.honest → (records : List Record) → AreRecordsIn F.means store.old records →
-        IfOk result (λ rows. row_texts rows.items
-        ≡ rows_of (targets_in F.means store.old records) parts.now references.now) }
+    ensures rows { OfTargets F.honest F.means store.old (λ find. IfOk result
+        (λ rows. row_texts rows.items ≡ rows_of find parts.now references.now)) }
     ensures failed { IfErr result (IsUnfollowed F.honest F.means F.faults F.Reader.ReadAt
         store.old parts.now references.now) }
     ensures unchanged { LooksUp F.honest F.means store.old store.new }

@@ -1,9 +1,8 @@
 //! Short names of references (`git symbolic-ref --short`, `%(refname:short)` of `git for-each-ref`).
-ghost use Rattle.std.specs.Prelude.{◌≡◌, ◌++◌, ◌∷◌, [], List, IfErr, IfOk, OnOk};
-ghost use Rattle.gix_ref_target.specs.PackedRecords.{Record};
-ghost use Rattle.gix_ref_store.specs.Lookup.{AreRecordsIn, LooksUp};
+ghost use Rattle.std.specs.Prelude.{◌≡◌, ◌++◌, ◌∷◌, [], IfErr, IfOk, OnOk};
+ghost use Rattle.gix_ref_store.specs.Lookup.{LooksUp};
 ghost use Rattle.gix_ref_queries.specs.Patterns.{texts};
-ghost use Rattle.gix_ref_queries.specs.Resolving.{targets_in};
+ghost use Rattle.gix_ref_queries.specs.Resolving.{OfTargets};
 ghost use Rattle.gix_ref_queries.specs.Rows.{row_texts};
 ghost use Rattle.gix_ref_queries.specs.Shortening.{IsAskedAfter, IsAskedAmong, IsAskedBy, IsAskedFor, IsNoShort, decided, full_names, is_clear_among, leads_to_object, lent_bytes, short_after, short_by, short_name};
 
@@ -40,9 +39,8 @@ fn leads_to_object<F: Files>(
     store: &mut Store<F>,
     name: &[u8],
 ) -> Result<bool, ShortError>
-    ensures leads { F.honest → (records : List Record) → AreRecordsIn F.means store.old records →
-        IfOk result (λ leads. leads
-        ≡ leads_to_object (targets_in F.means store.old records) name.now) }
+    ensures leads { OfTargets F.honest F.means store.old
+        (λ find. IfOk result (λ leads. leads ≡ leads_to_object find name.now)) }
     ensures failed { IfErr result (IsNoShort F.Reader.ReadAt F.honest F.means F.faults
         (λ find full. full ≡ name.now) store.old) }
     ensures unchanged { LooksUp F.honest F.means store.old store.new }
@@ -102,9 +100,8 @@ fn decided<F: Files>(
     name: &[u8],
     full: &[u8],
 ) -> Result<Option<bool>, ShortError>
-    ensures decides { F.honest → (records : List Record) → AreRecordsIn F.means store.old records →
-        IfOk result (λ clear. clear
-        ≡ decided (targets_in F.means store.old records) strict name.now full.now) }
+    ensures decides { OfTargets F.honest F.means store.old
+        (λ find. IfOk result (λ clear. clear ≡ decided find strict name.now full.now)) }
     ensures failed { IfErr result (IsNoShort F.Reader.ReadAt F.honest F.means F.faults
         (IsAskedAmong strict name.now (full.now ∷ [])) store.old) }
     ensures unchanged { LooksUp F.honest F.means store.old store.new }
@@ -126,9 +123,8 @@ fn is_clear_among<F: Files>(
     name: &[u8],
     names: &[Vec<u8>],
 ) -> Result<bool, ShortError>
-    ensures clear { F.honest → (records : List Record) → AreRecordsIn F.means store.old records →
-        IfOk result (λ clear. clear ≡ is_clear_among (targets_in F.means store.old records) strict
-        name.now (row_texts names.now)) }
+    ensures clear { OfTargets F.honest F.means store.old (λ find. IfOk result
+        (λ clear. clear ≡ is_clear_among find strict name.now (row_texts names.now))) }
     ensures failed { IfErr result (IsNoShort F.Reader.ReadAt F.honest F.means F.faults
         (IsAskedAmong strict name.now (row_texts names.now)) store.old) }
     ensures unchanged { LooksUp F.honest F.means store.old store.new }
@@ -151,9 +147,8 @@ fn short_after<'n, F: Files>(
     name: &'n [u8],
     prefix: &[u8],
 ) -> Result<Option<&'n [u8]>, ShortError>
-    ensures short { F.honest → (records : List Record) → AreRecordsIn F.means store.old records →
-        IfOk result (λ short. lent_bytes short
-        ≡ short_after (targets_in F.means store.old records) strict name.now prefix.now) }
+    ensures short { OfTargets F.honest F.means store.old (λ find. IfOk result
+        (λ short. lent_bytes short ≡ short_after find strict name.now prefix.now)) }
     ensures failed { IfErr result (IsNoShort F.Reader.ReadAt F.honest F.means F.faults
         (IsAskedAfter strict name.now prefix.now) store.old) }
     ensures unchanged { LooksUp F.honest F.means store.old store.new }
@@ -176,9 +171,8 @@ fn short_by<'n, F: Files>(
     name: &'n [u8],
     prefixes: &[&[u8]],
 ) -> Result<&'n [u8], ShortError>
-    ensures short { F.honest → (records : List Record) → AreRecordsIn F.means store.old records →
-        IfOk result (λ short. short.now
-        ≡ short_by (targets_in F.means store.old records) strict name.now (texts prefixes.now)) }
+    ensures short { OfTargets F.honest F.means store.old (λ find. IfOk result
+        (λ short. short.now ≡ short_by find strict name.now (texts prefixes.now))) }
     ensures failed { IfErr result (IsNoShort F.Reader.ReadAt F.honest F.means F.faults
         (IsAskedBy strict name.now (texts prefixes.now)) store.old) }
     ensures unchanged { LooksUp F.honest F.means store.old store.new }
@@ -206,9 +200,8 @@ pub fn short_name<'n, F: Files>(
     strict: bool,
     name: &'n [u8],
 ) -> Result<&'n [u8], ShortError>
-    ensures short { F.honest → (records : List Record) → AreRecordsIn F.means store.old records →
-        IfOk result (λ short. short.now
-        ≡ short_name (targets_in F.means store.old records) strict name.now) }
+    ensures short { OfTargets F.honest F.means store.old
+        (λ find. IfOk result (λ short. short.now ≡ short_name find strict name.now)) }
     ensures failed { IfErr result (IsNoShort F.Reader.ReadAt F.honest F.means F.faults
         (IsAskedFor strict name.now) store.old) }
     ensures unchanged { LooksUp F.honest F.means store.old store.new }
