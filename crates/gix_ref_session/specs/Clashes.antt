@@ -1,5 +1,5 @@
 -- Names that are in one another's way: of `refs/heads/a` and `refs/heads/a/b` only one may exist (`git update-ref`).
-use Rattle.std.specs.Prelude.{◌≡◌, ◌<◌, ◌⊎◌, ℕ, List, [], ◌∷◌, ◌++◌, length, map, codes, Bool, true, if◌then◌else◌, Option, Some, None, is_some, IfSome, IsSome}
+use Rattle.std.specs.Prelude.{◌≡◌, ◌<◌, ◌⊎◌, ℕ, List, [], ◌∷◌, ◌++◌, length, map, codes, Bool, true, if◌then◌else◌, Option, Some, None, is_some, IfSome, IsSome, MatchBool}
 use Rattle.std.specs.Cmp.Lexicographic.{slice_cmp}
 use Rattle.std.specs.List.{AllByRecursion, Any, Contains}
 use Rattle.std.specs.List.Sorted.{IsPermutation, IsSorted}
@@ -11,13 +11,15 @@ use Rattle.gix_ref_files.specs.Files.{Meaning, FaultCounts}
 use Rattle.gix_ref_files.specs.declared.files.ReadAt.{Ghosts}
 use Rattle.gix_ref_listing.specs.Listings.{Listed}
 use Rattle.gix_ref_listing.specs.WholeListings.{IsListing, IsNameOrMet}
+use Rattle.gix_ref_listing.specs.declared.list.LooseNames.{LooseNames}
 use Rattle.gix_ref_listing.specs.declared.prefix.Error.{Error as ListError}
 use Rattle.gix_ref_lookup.specs.declared.find.error.Error.{Error as FindError}
 use Rattle.gix_ref_name.specs.NameGrammar.{full_error}
 use Rattle.gix_ref_name.specs.Names.{full_bytes}
 use Rattle.gix_ref_name.specs.declared.name.FullName.{FullName}
+use Rattle.gix_ref_packed.specs.declared.packed.buffer.Buffer.{Buffer}
 use Rattle.gix_ref_queries.specs.Resolving.{TargetsByName, NameEnd, Missing, Reached, TooDeep, IsUnfollowedBy, IsUnreadBy, targets_in, resolved}
-use Rattle.gix_ref_store.specs.Listings.{IsNoListing}
+use Rattle.gix_ref_store.specs.Listings.{AreHeldFor, IsNoListing, IsWalkedIn, walked_prefix}
 use Rattle.gix_ref_store.specs.Lookup.{AreRecordsIn, LooksUp, settings_of, view_in}
 use Rattle.gix_ref_store.specs.Store.{files_of}
 use Rattle.gix_ref_store.specs.declared.file.store.Store.{Store}
@@ -118,6 +120,37 @@ module _ {F : Type 0} (honest : Type 0) (means : F → Meaning) where
   ListsNone store records prefix =
       IsListing (settings_of store) (view_in means store) records prefix []
 
+  -- no other name is in the way of this one, where these are the records of a store
+  abbrev pub IsClearIn : Store F → List Record → List RefEdit → (name : List ℕ) → Type 0
+  IsClearIn store records edits name =
+      IsClearName (targets_in means store records) edits (ListsNone store records) name
+
+  -- nor of the name that an edit makes
+  abbrev pub IsClearEditIn : Store F → List Record → List RefEdit → RefEdit → Type 0
+  IsClearEditIn store records edits edit =
+      IsClearEdit (targets_in means store records) edits (ListsNone store records) edit
+
+  -- This holds of what is taken: of what lookups in a store find and of the edits that have these names. That is said where the
+  -- files are honest and `packed-refs` is well formed or missing.
+  abbrev pub OfTaken : Store F → (names : List (Bor (List ℕ))) →
+      (TargetsByName → List RefEdit → Type 0) → Type 0
+  OfTaken store names P = honest → (records : List Record) → AreRecordsIn means store records →
+      (edits : List RefEdit) → AreNamesOf edits names → P (targets_in means store records) edits
+
+  -- and so of the records of a store and of the edits
+  abbrev pub OfEdits : Store F → (names : List (Bor (List ℕ))) →
+      (List Record → List RefEdit → Type 0) → Type 0
+  OfEdits store names P = honest → (records : List Record) → AreRecordsIn means store records →
+      (edits : List RefEdit) → AreNamesOf edits names → P records edits
+
+  -- and so after a name of which no folder is taken
+  abbrev pub AfterFree : Store F → (names : List (Bor (List ℕ))) → (last : List ℕ) →
+      (List Record → List RefEdit → Type 0) → Type 0
+  AfterFree store names last P =
+      honest → (records : List Record) → AreRecordsIn means store records →
+      (edits : List RefEdit) → AreNamesOf edits names →
+      HasFreeFolders (targets_in means store records) edits last → P records edits
+
   -- The edits are clear of one another and of the references of a store: of the names that they make, none has a folder that is
   -- taken, and nothing is listed below one.
   abbrev pub AreClear : Store F → List RefEdit → Type 0
@@ -142,6 +175,19 @@ module _ {F : Type 0} (honest : Type 0) (means : F → Meaning) (faults : F → 
     pub looked : LooksUp honest means store before
     pub looks : LooksUp honest means before now
     pub met : IsNameOrMet (faults (files_of before)) (faults (files_of now)) first
+
+  -- whether the listing of a prefix has an item
+  abbrev pub SaysListed : Store F → List Record → (prefix : List ℕ) → (any : Bool) → Type 0
+  SaysListed store records prefix any = MatchBool any
+      (ListsOne store records prefix) (ListsNone honest means store records prefix)
+
+  -- This holds of the store in which a walk found these names, and of the records of which a buffer has those of their prefix,
+  -- where the files are honest.
+  abbrev pub OfWalk : Store F → LooseNames → Option (Bor Buffer) →
+      (Store F → List Record → Type 0) → Type 0
+  OfWalk store names packed P = honest → (start : Store F) (records : List Record) →
+      IsWalkedIn honest means faults start store names →
+      AreHeldFor store (walked_prefix names) packed records → P start records
 
   -- a name is in the way of another: it is below one that is taken, or one is listed below it
   abbrev pub IsInTheWay : Store F → List RefEdit → List Record → (name : List ℕ) → Type 0

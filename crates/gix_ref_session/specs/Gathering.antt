@@ -1,11 +1,12 @@
 -- The commands of a transaction before it is closed, and their answers.
-use Rattle.std.specs.Prelude.{◌≡◌, ◌≢◌, ◌⊎◌, ℕ, List, [], ◌∷◌, ◌++◌, Bool, true, false, codes, Option, Some, None}
+use Rattle.std.specs.Prelude.{◌≡◌, ◌≢◌, ◌⊎◌, ℕ, List, [], ◌∷◌, ◌++◌, Bool, true, false, codes, Option, Some, None, MatchOption}
 use Rattle.std.specs.Io.KnownBytes.{Appends, IsAtEnd, Keeps}
 use Rattle.gix_ref_edits.specs.declared.transaction.RefEdit.{RefEdit}
 use Rattle.gix_ref_theory.specs.Sequences.{AreDone}
-use Rattle.gix_ref_session.specs.Commands.{Heard, Edit, NoDeref, Start, Prepare, Commit, Abort, IsNoCommand}
+use Rattle.gix_ref_session.specs.Commands.{Heard, Ask, Edit, NoDeref, Start, Prepare, Commit, Abort, IsNoCommand, heard_of}
 use Rattle.gix_ref_session.specs.Edits.{IsEditOf, IsNoEdit}
-use Rattle.gix_ref_session.specs.Input.{AreWords, Hears, HearsText}
+use Rattle.gix_ref_session.specs.Input.{AreWords, Hears, HearsEnd, HearsText}
+use Rattle.gix_ref_session.specs.declared.command.Command.{Command}
 use Rattle.gix_ref_session.specs.declared.fatal.Fatal.{Fatal}
 use Rattle.gix_ref_session.specs.declared.fatal.Fatal.TheVariants as fatals
 use Rattle.gix_ref_session.specs.declared.gather.Closing.{Closing}
@@ -43,6 +44,11 @@ HearsNone session fatal old new = (text : List ℕ)
 -- why no command is read, and what is left of the input
 abbrev pub IsUnheard : Session → (input rest : Option (List ℕ)) → Fatal → Type 0
 IsUnheard session input rest fatal = IsStopped fatal ⊎ HearsNone session fatal input rest
+
+-- the next command is read, or the input is at its end
+abbrev pub HearsNext : Session → (old new : Option (List ℕ)) → Option Command → Type 0
+HearsNext session old new found = MatchOption found (HearsEnd old new)
+    (λ command. Hears session.format session.object_hash (heard_of command) old new)
 
 -- A transaction on its way: the bytes that are left of the input and those that were written, where they are known; its edits;
 -- whether `start` came, and whether the next edit follows symbolic references.
@@ -140,6 +146,13 @@ as_gathering input output gathered = record {
   deref = gathered.deref;
 }
 
+-- the edit that is asked of a name is added to what was gathered; the next one follows symbolic references
+abbrev pub AddsAsked : Session → (name : List ℕ) → Ask → (old new : Gathered) → Type 0
+AddsAsked session name ask old new = (edit : RefEdit)
+    × IsEditOf session old.deref name ask edit
+    × (new.edits.items ≡ old.edits.items ++ edit ∷ [])
+    × (new.is_started ≡ old.is_started) × (new.deref ≡ true)
+
 -- a command that ends the commands of a transaction leaves what was gathered as it is
 pub record Stays (s t : Gathering) : Type 0 where
   pub edits : t.edits ≡ s.edits
@@ -160,6 +173,19 @@ GathersOrCloses session needs_start None s t =
 GathersOrCloses session needs_start (Some closing) s t =
     HearsClosing session closing s.input t.input × Stays s t
     × (needs_start ≡ true → (s.started ≡ true) ⊎ (closing ≡ closings.End))
+
+-- a command is handled: done, or it ends the commands; from an input, an output and what was gathered to others
+abbrev pub IsHandled : Session → Heard → (input rest out now : Option (List ℕ)) →
+    (old new : Gathered) → Option Closing → Type 0
+IsHandled session heard input rest out now old new closing = TakesOrCloses session heard closing
+    (as_gathering input out old) (as_gathering rest now new)
+
+-- a transaction goes on: so the next command is read and handled
+abbrev pub GoesOn : Session → (needs_start : Bool) → (input rest out now : Option (List ℕ)) →
+    (old new : Gathered) → Option Closing → Type 0
+GoesOn session needs_start input rest out now old new closing =
+    GathersOrCloses session needs_start closing
+    (as_gathering input out old) (as_gathering rest now new)
 
 -- the commands of a transaction were not heard to their end: some were, and their answers written
 pub record StopsShort (session : Session) (needs_start : Bool)

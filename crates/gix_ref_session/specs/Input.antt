@@ -20,6 +20,10 @@ abbrev pub HearsField : (end : ℕ) → (field : List ℕ) → (old new : Option
 HearsField end field old new = IfSome old (λ bytes. (bytes ≢ [])
     × (field ≡ first_piece end bytes) × (new ≡ Some (drop_through end bytes)))
 
+-- the input is at its end, and stays there
+abbrev pub HearsEnd : (old new : Option (List ℕ)) → Type 0
+HearsEnd old new = IsAtEnd old × Keeps old new
+
 -- further fields are read and added, a NUL before each: so many, or fewer where the input ends
 pub record HearsMore (count : ℕ) (old new : Option (List ℕ)) (text now : List ℕ) : Type 0 where
   pub more : List (List ℕ)

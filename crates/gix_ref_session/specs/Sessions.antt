@@ -5,6 +5,7 @@ use Rattle.gix_ref_files.specs.declared.files.ReadAt.{Ghosts}
 use Rattle.gix_ref_files.specs.Files.{Meaning, FaultCounts, Leaves, Loses}
 use Rattle.gix_ref_files.specs.Tree.{Tree}
 use Rattle.gix_ref_edits.specs.declared.transaction.RefEdit.{RefEdit}
+use Rattle.gix_ref_object.specs.declared.object.Find.{Ghosts as Finder}
 use Rattle.gix_ref_packed.specs.OpenFiles.{HasReadFault}
 use Rattle.gix_ref_theory.specs.Sequences.{AreDone, IsWithinSteps}
 use Rattle.gix_ref_transaction.specs.declared.prepare.error.Error.{Error as Cause}
@@ -12,13 +13,15 @@ use Rattle.gix_ref_store.specs.Lookup.{LooksUp}
 use Rattle.gix_ref_store.specs.Prepared.{HasGoodRecords, IsAtRest, tree_of}
 use Rattle.gix_ref_store.specs.Store.{files_of}
 use Rattle.gix_ref_store.specs.declared.file.store.Store.{Store}
+use Rattle.gix_ref_store.specs.declared.file.transaction.Plan.{Plan}
+use Rattle.gix_ref_store.specs.declared.file.transaction.Prepared.{Prepared}
 use Rattle.gix_ref_program.specs.declared.update.UpdateError.TheVariants as errors
 use Rattle.gix_ref_program.specs.Writes.{IsKept}
 use Rattle.gix_ref_session.specs.Clashes.{IsLookFailure}
 use Rattle.gix_ref_session.specs.Commands.{Heard, Commit, Abort}
 use Rattle.gix_ref_session.specs.Gathering.{AreGathered, Gathering, IsUnheard, IsUnsaid, StopsShort}
 use Rattle.gix_ref_session.specs.Input.{Hears}
-use Rattle.gix_ref_session.specs.Transactions.{CommitFailed, IsCommitted, IsRefused, IsRolledBack, IsTransactionLoss, IsTransactionStop, IsTried, Led}
+use Rattle.gix_ref_session.specs.Transactions.{CommitFailed, IsCommitted, IsRefused, IsRolledBack, IsTransactionLoss, IsTransactionStop, IsTried, Led, WhenPrepared}
 use Rattle.gix_ref_session.specs.Waiting.{HasWaited}
 use Rattle.gix_ref_session.specs.declared.fatal.Fatal.{Fatal}
 use Rattle.gix_ref_session.specs.declared.fatal.Fatal.TheVariants as fatals
@@ -54,6 +57,14 @@ way_on needs_start input output store = record {
 
 abbrev pub way : {F : Type 0} → (input output : Option (List ℕ)) → Store F → Way F
 way = way_on false
+
+-- it ends so, on the way from one input, output and store to others
+abbrev pub OnWay : {F I O : Type 0} → (remaining : I → Option (List ℕ)) →
+    (contents : O → Option (List ℕ)) → (Ends : (s t : Way F) → Result Bool Fatal → Type 0) →
+    (input : I) → (out : O) → (old : Store F) → (rest : I) → (now : O) → (new : Store F) →
+    Result Bool Fatal → Type 0
+OnWay remaining contents Ends input out old rest now new result =
+    Ends (way (remaining input) (contents out) old) (way (remaining rest) (contents now) new) result
 
 -- how `commit` is answered: it was done and that was said; or the writer failed; or it failed
 abbrev pub AnswersCommit : Result (Unit {0}) Fatal → (out now : Option (List ℕ)) →
@@ -136,6 +147,12 @@ module _ {F R : Type 0} (G : Ghosts R) (honest : Type 0) (means : F → Meaning)
       IsRolledBack honest means faults old new edits × Appends out now []
   ClosedBy heard old new edits out now result = ⊥
 
+  -- and so where they are those of a prepared transaction
+  abbrev pub FinishedBy : {T : Type 0} {Find : Finder T} → Closing → Prepared F (Plan T Find) R →
+      (new : Store F) → (out now : Option (List ℕ)) → Result Bool Fatal → Type 0
+  FinishedBy heard prepared new out now result = WhenPrepared honest means faults prepared
+      (λ old edits. ClosedBy heard old new edits out now result)
+
   -- how prepared edits came to be given up: nothing was read that closes them; or `abort` was, and its answer not written
   abbrev pub IsGivenUp : (s t : Way F) → Fatal → Type 0
   IsGivenUp s t fatal = StaysUnclosed session s.input t.input s.output t.output fatal
@@ -174,6 +191,23 @@ module _ {F R : Type 0} (G : Ghosts R) (honest : Type 0) (means : F → Meaning)
       × IsCommitted honest means faults session.committer s.store t.store edits
       × IsCommitHeard session closing s.input t.input))
   PreparedEnds closing s t edits result = ⊥
+
+  -- a prepared transaction ends so, after this command
+  abbrev pub Finishes : {I O T : Type 0} {Find : Finder T} → (remaining : I → Option (List ℕ)) →
+      (contents : O → Option (List ℕ)) → Closing → Prepared F (Plan T Find) R → (new : Store F) →
+      (input : I) → (out : O) → (rest : I) → (now : O) → Result Bool Fatal → Type 0
+  Finishes remaining contents closing prepared new input out rest now result =
+      WhenPrepared honest means faults prepared (λ old edits. PreparedEnds closing
+      (way (remaining input) (contents out) old) (way (remaining rest) (contents now) new)
+      edits result)
+
+  -- and so where nothing more is read
+  abbrev pub EndsAtOnce : {T : Type 0} {Find : Finder T} → Closing →
+      Prepared F (Plan T Find) R → (new : Store F) → (input out now : Option (List ℕ)) →
+      Result Bool Fatal → Type 0
+  EndsAtOnce closing prepared new input out now result =
+      WhenPrepared honest means faults prepared (λ old edits. PreparedEnds closing
+      (way input out old) (way input now new) edits result)
 
   -- edits were not prepared, by the first cause against them
   pub record NotPrepared (edits : List RefEdit) (s t : Way F)
@@ -271,6 +305,13 @@ module _ {F R : Type 0} (G : Ghosts R) (honest : Type 0) (means : F → Meaning)
   abbrev pub TurnComes : (s t : Way F) → Result Bool Fatal → Type 0
   TurnComes s t result = Turns s t result
       ⊎ ((fatal : Fatal) × (result ≡ Err fatal) × NotHeard s t fatal)
+
+  -- and so of the next transaction; after it only `start` begins one
+  abbrev pub NextTurnComes : (needs_start : Bool) → (input out : Option (List ℕ)) →
+      (old : Store F) → (rest now : Option (List ℕ)) → (new : Store F) →
+      Result Bool Fatal → Type 0
+  NextTurnComes needs_start input out old rest now new result =
+      TurnComes (way_on needs_start input out old) (way_on true rest now new) result
 
   -- how a session ends: with this transaction, or before the commands of one were heard
   abbrev pub SessionEnds : {E : Type 0} → (rest : List Turn) → (s t : Way F) →

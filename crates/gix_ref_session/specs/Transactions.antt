@@ -6,6 +6,7 @@ use Rattle.gix_ref_files.specs.Tree.{Path, Tree}
 use Rattle.gix_ref_edits.specs.declared.transaction.RefEdit.{RefEdit}
 use Rattle.gix_ref_log.specs.declared.actor.SignatureRef.{SignatureRef}
 use Rattle.gix_ref_object.specs.contracts.object.NeverFind.TheImpl.{claims-value, meaning-value}
+use Rattle.gix_ref_object.specs.declared.object.Find.{Ghosts}
 use Rattle.gix_ref_object.specs.declared.object.Never.{Never}
 use Rattle.gix_ref_theory.specs.Sequences.{AreDone}
 use Rattle.gix_ref_transaction.specs.OwnLocks.{RemovesLocks}
@@ -18,11 +19,14 @@ use Rattle.gix_ref_transaction.specs.declared.prepare.error.Error.{Error as Caus
 use Rattle.gix_ref_transaction.specs.declared.prepare.error.Error.TheVariants as causes
 use Rattle.gix_ref_store.specs.Lookup.{LooksUp}
 use Rattle.gix_ref_store.specs.Prepared.{HasGoodRecords, IsAtRest, PreparesGiven, RollsBackFrom, tree_of}
+use Rattle.gix_ref_store.specs.PreparedFields.{held_edits, held_packed}
 use Rattle.gix_ref_store.specs.Store.{files_of, IsSameStore}
 use Rattle.gix_ref_store.specs.declared.file.store.Store.{Store}
+use Rattle.gix_ref_store.specs.declared.file.transaction.Plan.{Plan}
+use Rattle.gix_ref_store.specs.declared.file.transaction.Prepared.{Prepared}
 use Rattle.gix_ref_store.specs.declared.file.transaction.outcome.Done.{Done}
 use Rattle.gix_ref_store.specs.declared.file.transaction.outcome.Failed.{Failed}
-use Rattle.gix_ref_program.specs.Updates.{IsBegun, IsLossOf, IsStopOf, IsUpdateError, UpdateMade}
+use Rattle.gix_ref_program.specs.Updates.{IsBegun, IsLossOf, IsStopOf, IsUpdateError, LosesFromRest, UpdateMade}
 use Rattle.gix_ref_program.specs.Writes.{IsKept}
 use Rattle.gix_ref_program.specs.declared.update.UpdateError.{UpdateError}
 use Rattle.gix_ref_program.specs.declared.update.UpdateError.TheVariants.{Prepare, Commit}
@@ -47,12 +51,28 @@ abbrev pub IsCommitResult : {T : Type 0} → Result (Done T) (Failed T) →
 IsCommitResult (Ok done) result = result ≡ Ok tt
 IsCommitResult (Err failed) result = result ≡ Err (fatals.Update (Commit failed.error))
 
+module _ {F : Type 0} (honest : Type 0) (means : F → Meaning) where
+  -- what a stop leaves, from one store to another; that is said where the files are honest
+  abbrev pub StopLeaves : (old new : Store F) → (Tree → Type 0) → Type 0
+  StopLeaves old new P = honest → Leaves (means (files_of old)) (means (files_of new)) P
+
+  -- and what a loss of power leaves, where also `packed-refs` was well formed or missing and the store at rest
+  abbrev pub LossLeaves : (old new : Store F) → (Tree → Type 0) → Type 0
+  LossLeaves old new P = honest → LosesFromRest means old new P
+
 module _ {F : Type 0} (honest : Type 0) (means : F → Meaning) (faults : F → FaultCounts) where
   -- these edits were prepared, from the store `old` to `mid`
   abbrev pub Prepares : (old mid : Store F) → List RefEdit → Option Path → List Edit → Type 0
   Prepares old mid edits packed held = PreparesGiven honest means faults
       (OfFinder claims-value.it uses) (ends_of meaning-value.it uses) (mode_in uses)
       old mid edits packed held
+
+  -- this holds of each store and the edits that were prepared from it, where their locks are those that are held
+  abbrev pub WhenPrepared : {R T : Type 0} {G : Ghosts T} → Prepared F (Plan T G) R →
+      (Store F → List RefEdit → Type 0) → Type 0
+  WhenPrepared prepared P = (old : Store F) (edits : List RefEdit) →
+      Prepares old prepared.store.now edits (held_packed prepared.plan) (held_edits prepared.plan) →
+      P old edits
 
   -- They were prepared and committed. Where `packed-refs` was well formed it is so again, and where all was at rest all is.
   pub record IsCommitted (committer : Option SignatureRef) (old new : Store F)
@@ -156,3 +176,11 @@ module _ {F : Type 0} (honest : Type 0) (means : F → Meaning) (faults : F → 
     abbrev pub IsTransactionLoss : Store F → Tree → Type 0
     IsTransactionLoss old T = (tries : List Cause) × (mid : Store F)
         × AreDone IsTried tries old mid × IsTryLoss mid T
+
+    -- A stop as a transaction is closed leaves this tree: the one before, or what a stop in the transaction leaves.
+    abbrev pub IsClosingStop : Store F → Tree → Type 0
+    IsClosingStop old T = (T ≡ tree_of means old) ⊎ IsTransactionStop old T
+
+    -- and so a loss of power: each file that was settled is as before, or it is what one in the transaction leaves
+    abbrev pub IsClosingLoss : Store F → Tree → Type 0
+    IsClosingLoss old T = IsKept means (files_of old) T ⊎ IsTransactionLoss old T

@@ -99,6 +99,10 @@ abbrev pub IsValued : (word value : List ℕ) → (old new : Options) → Type 0
 IsValued word value old new = (flag_of word ≡ None)
     × ((option : Valued) × (valued_of word ≡ Some option) × TakesValue option value old new)
 
+-- a word is no option with this value
+abbrev pub IsNotValued : (word value : List ℕ) → (old : Options) → Type 0
+IsNotValued word value old = (new : Options) → IsValued word value old new → ⊥
+
 -- Words are options, of which the last of several counts, and then these, of which the first is no option.
 abbrev pub AreOptions : (words : List (List ℕ)) → (old new : Options) → (rest : List (List ℕ)) →
     Type 0

@@ -1,17 +1,16 @@
 //! Names that are in one another's way: of `refs/heads/a` and `refs/heads/a/b` only one may exist (`git update-ref`).
 
-ghost use Rattle.std.specs.Prelude.{◌≡◌, ◌<◌, ◌⊎◌, ℕ, List, length, map, Bool, true, false, Decides, IfErr, IfOk, MatchBool, MatchOption, OnOk, is_some};
+ghost use Rattle.std.specs.Prelude.{◌≡◌, ◌<◌, ℕ, List, length, map, true, false, Decides, IfErr, IfOk, MatchOption, OnOk, is_some};
 ghost use Rattle.std.specs.List.{Contains};
 ghost use Rattle.std.specs.Option.{option_map};
 ghost use Rattle.gix_ref_edits.specs.RefEdits.{expected_of, matched, name_of};
 ghost use Rattle.gix_ref_edits.specs.declared.transaction.RefEdit.{RefEdit as AnEdit};
 ghost use Rattle.gix_ref_name.specs.Names.{full_bytes, full_ref_bytes};
-ghost use Rattle.gix_ref_queries.specs.Resolving.{IsUnfollowedBy, IsUnreadBy, targets_in, resolved};
-ghost use Rattle.gix_ref_store.specs.Listings.{AreHeldFor, IsWalkedIn, walked_prefix};
+ghost use Rattle.gix_ref_queries.specs.Resolving.{IsUnfollowedBy, IsUnreadBy, OfTargets, resolved, targets_in};
+ghost use Rattle.gix_ref_store.specs.Listings.{walked_prefix};
 ghost use Rattle.gix_ref_store.specs.Lookup.{AreRecordsIn, LooksUp};
-ghost use Rattle.gix_ref_store.specs.declared.file.store.Store.{Store as AStore};
 ghost use Rattle.gix_ref_target.specs.PackedRecords.{Record};
-ghost use Rattle.gix_ref_session.specs.Clashes.{AreClear, AreNamesOf, HasFreeFolders, IsBelowTaken, IsClashFailure, IsClearEdit, IsClearName, IsEditFailure, IsFindFailure, IsFreeBefore, IsFolderAt, IsFolderOf, IsFolderUnread, IsInTheWay, IsListFailure, IsNameFailure, IsOwnUnread, IsTaken, IsTakenAt, ListsNone, ListsOne, front_below, made_name, missing_last};
+ghost use Rattle.gix_ref_session.specs.Clashes.{AfterFree, AreClear, AreNamesOf, HasFreeFolders, IsBelowTaken, IsClashFailure, IsClearEditIn, IsClearIn, IsEditFailure, IsFindFailure, IsFreeBefore, IsFolderAt, IsFolderOf, IsFolderUnread, IsInTheWay, IsListFailure, IsNameFailure, IsOwnUnread, IsTaken, IsTakenAt, OfEdits, OfTaken, OfWalk, SaysListed, front_below, made_name, missing_last};
 ghost use Rattle.gix_ref_session.specs.declared.fatal.Fatal.TheVariants.{Memory};
 
 use crate::fatal::Fatal;
@@ -30,9 +29,8 @@ fn exists<F: Files>(
     store: &mut Store<F>,
     name: FullNameRef<'_>,
 ) -> Result<bool, Fatal>
-    ensures finds { F.honest → (records : List Record) → AreRecordsIn F.means store.old records →
-        IfOk result (λ there. there
-        ≡ is_some (targets_in F.means store.old records (full_ref_bytes name.entry))) }
+    ensures finds { OfTargets F.honest F.means store.old (λ find. IfOk result
+        (λ there. there ≡ is_some (find (full_ref_bytes name.entry)))) }
     ensures unchanged { LooksUp F.honest F.means store.old store.new }
     ensures fails { IfErr result
         (IsFindFailure (IsUnreadBy F.Reader.ReadAt F.honest F.means F.faults store.old
@@ -52,9 +50,9 @@ fn missing_end<F: Files>(
     store: &mut Store<F>,
     name: &FullName,
 ) -> Result<Option<FullName>, Fatal>
-    ensures ends { F.honest → (records : List Record) → AreRecordsIn F.means store.old records →
-        IfOk result (λ last. option_map full_bytes last
-        ≡ missing_last (resolved (targets_in F.means store.old records) 5 (full_bytes name.now))) }
+    ensures ends { OfTargets F.honest F.means store.old (λ find. IfOk result
+        (λ last. option_map full_bytes last
+        ≡ missing_last (resolved find 5 (full_bytes name.now)))) }
     ensures unchanged { LooksUp F.honest F.means store.old store.new }
     ensures fails { IfErr result
         (IsFindFailure (IsUnfollowedBy F.Reader.ReadAt F.honest F.means F.faults store.old
@@ -87,9 +85,8 @@ fn missing_name<F: Files>(
     store: &mut Store<F>,
     edit: &RefEdit,
 ) -> Result<Option<FullName>, Fatal>
-    ensures makes { F.honest → (records : List Record) → AreRecordsIn F.means store.old records →
-        IfOk result (λ name. option_map full_bytes name
-        ≡ made_name (targets_in F.means store.old records) edit.now) }
+    ensures makes { OfTargets F.honest F.means store.old (λ find. IfOk result
+        (λ name. option_map full_bytes name ≡ made_name find edit.now)) }
     ensures unchanged { LooksUp F.honest F.means store.old store.new }
     ensures fails { IfErr result
         (IsFindFailure (IsOwnUnread F.honest F.means F.faults F.Reader.ReadAt store.old
@@ -123,10 +120,8 @@ fn is_taken<F: Files>(
     name: FullNameRef<'_>,
     edited: &[&[u8]],
 ) -> Result<bool, Fatal>
-    ensures taken { F.honest → (records : List Record) → AreRecordsIn F.means store.old records →
-        (edits : List AnEdit) → AreNamesOf edits edited.now → IfOk result
-        (λ taken. Decides taken (IsTaken (targets_in F.means store.old records) edits
-        (full_ref_bytes name.entry))) }
+    ensures taken { OfTaken F.honest F.means store.old edited.now (λ find edits. IfOk result
+        (λ taken. Decides taken (IsTaken find edits (full_ref_bytes name.entry)))) }
     ensures unchanged { LooksUp F.honest F.means store.old store.new }
     ensures fails { IfErr result
         (IsFindFailure (IsUnreadBy F.Reader.ReadAt F.honest F.means F.faults store.old
@@ -160,9 +155,8 @@ fn is_folder_taken<F: Files>(
     at: usize,
     edited: &[&[u8]],
 ) -> Result<bool, Fatal>
-    ensures taken { F.honest → (records : List Record) → AreRecordsIn F.means store.old records →
-        (edits : List AnEdit) → AreNamesOf edits edited.now → IfOk result
-        (λ taken. Decides taken (IsTakenAt (targets_in F.means store.old records) edits at name.now)) }
+    ensures taken { OfTaken F.honest F.means store.old edited.now (λ find edits. IfOk result
+        (λ taken. Decides taken (IsTakenAt find edits at name.now))) }
     ensures unchanged { LooksUp F.honest F.means store.old store.new }
     ensures fails { IfErr result
         (IsFindFailure (IsFolderUnread F.honest F.means F.faults F.Reader.ReadAt store.old
@@ -196,15 +190,11 @@ fn is_below_one<F: Files>(
     from: usize,
     edited: &[&[u8]],
 ) -> Result<bool, Fatal>
-    ensures below { F.honest → (records : List Record) → AreRecordsIn F.means store.old records →
-        (edits : List AnEdit) → AreNamesOf edits edited.now → IfOk result
-        (λ below. below ≡ true →
-        IsBelowTaken (targets_in F.means store.old records) edits name.now) }
-    ensures free { F.honest → (records : List Record) → AreRecordsIn F.means store.old records →
-        (edits : List AnEdit) → AreNamesOf edits edited.now →
-        IsFreeBefore (targets_in F.means store.old records) edits from name.now → IfOk result
-        (λ below. below ≡ false →
-        HasFreeFolders (targets_in F.means store.old records) edits name.now) }
+    ensures below { OfTaken F.honest F.means store.old edited.now (λ find edits. IfOk result
+        (λ below. below ≡ true → IsBelowTaken find edits name.now)) }
+    ensures free { OfTaken F.honest F.means store.old edited.now (λ find edits.
+        IsFreeBefore find edits from name.now → IfOk result
+        (λ below. below ≡ false → HasFreeFolders find edits name.now)) }
     ensures unchanged { LooksUp F.honest F.means store.old store.new }
     ensures fails { IfErr result
         (IsFindFailure (IsFolderUnread F.honest F.means F.faults F.Reader.ReadAt store.old
@@ -226,12 +216,9 @@ fn lists_one<F: Files>(
     names: LooseNames,
     packed: Option<&Buffer>,
 ) -> Result<bool, Fatal>
-    ensures lists { F.honest → (start : AStore F) (records : List Record) →
-        IsWalkedIn F.honest F.means F.faults start store.old names →
-        AreHeldFor store.old (walked_prefix names) packed.entry records → IfOk result
-        (λ any. MatchBool any
-        (ListsOne F.honest F.means F.faults start records (walked_prefix names))
-        (ListsNone F.honest F.means start records (walked_prefix names))) }
+    ensures lists { OfWalk F.honest F.means F.faults store.old names packed.entry
+        (λ start records. IfOk result
+        (SaysListed F.honest F.means F.faults start records (walked_prefix names))) }
     ensures unchanged { LooksUp F.honest F.means store.old store.new }
     ensures memory { IfErr result (λ fatal. fatal ≡ Memory) }
 {
@@ -250,9 +237,7 @@ fn lists_one<F: Files>(
 #[tactic(auto, using(crate::proofs::Looking::looks_on, crate::proofs::Looking::looks_same))]
 fn has_below<F: Files>(alloc: Global, store: &mut Store<F>, prefix: &[u8]) -> Result<bool, Fatal>
     ensures lists { F.honest → (records : List Record) → AreRecordsIn F.means store.old records →
-        IfOk result (λ any. MatchBool any
-        (ListsOne F.honest F.means F.faults store.old records prefix.now)
-        (ListsNone F.honest F.means store.old records prefix.now)) }
+        IfOk result (SaysListed F.honest F.means F.faults store.old records prefix.now) }
     ensures unchanged { LooksUp F.honest F.means store.old store.new }
     ensures fails { IfErr result
         (IsListFailure F.honest F.means F.faults F.Reader.ReadAt store.old prefix.now) }
@@ -285,16 +270,12 @@ fn is_in_the_way<F: Files>(
     last: &[u8],
     edited: &[&[u8]],
 ) -> Result<bool, Fatal>
-    ensures clashes { F.honest → (records : List Record) → AreRecordsIn F.means store.old records →
-        (edits : List AnEdit) → AreNamesOf edits edited.now → IfOk result
+    ensures clashes { OfEdits F.honest F.means store.old edited.now (λ records edits. IfOk result
         (λ clashes. clashes ≡ true →
-        IsInTheWay F.honest F.means F.faults store.old edits records (full_bytes name.now)) }
-    ensures clear { F.honest → (records : List Record) → AreRecordsIn F.means store.old records →
-        (edits : List AnEdit) → AreNamesOf edits edited.now →
-        HasFreeFolders (targets_in F.means store.old records) edits last.now → IfOk result
-        (λ clashes. clashes ≡ false →
-        IsClearName (targets_in F.means store.old records) edits
-        (ListsNone F.honest F.means store.old records) (full_bytes name.now)) }
+        IsInTheWay F.honest F.means F.faults store.old edits records (full_bytes name.now))) }
+    ensures clear { AfterFree F.honest F.means store.old edited.now last.now
+        (λ records edits. IfOk result (λ clashes. clashes ≡ false →
+        IsClearIn F.honest F.means store.old records edits (full_bytes name.now))) }
     ensures unchanged { LooksUp F.honest F.means store.old store.new }
     ensures fails { IfErr result
         (IsNameFailure F.honest F.means F.faults F.Reader.ReadAt store.old
@@ -318,15 +299,12 @@ fn check_name<F: Files>(
     last: Vec<u8>,
     edited: &[&[u8]],
 ) -> Result<Vec<u8>, Fatal>
-    ensures clear { F.honest → (records : List Record) → AreRecordsIn F.means store.old records →
-        (edits : List AnEdit) → AreNamesOf edits edited.now →
-        HasFreeFolders (targets_in F.means store.old records) edits last.items → OnOk result
-        (IsClearEdit (targets_in F.means store.old records) edits
-        (ListsNone F.honest F.means store.old records) edit.now) }
-    ensures free { F.honest → (records : List Record) → AreRecordsIn F.means store.old records →
-        (edits : List AnEdit) → AreNamesOf edits edited.now →
-        HasFreeFolders (targets_in F.means store.old records) edits last.items → IfOk result
-        (λ name. HasFreeFolders (targets_in F.means store.old records) edits name.items) }
+    ensures clear { AfterFree F.honest F.means store.old edited.now last.items
+        (λ records edits. OnOk result
+        (IsClearEditIn F.honest F.means store.old records edits edit.now)) }
+    ensures free { AfterFree F.honest F.means store.old edited.now last.items
+        (λ records edits. IfOk result
+        (λ name. HasFreeFolders (targets_in F.means store.old records) edits name.items)) }
     ensures unchanged { LooksUp F.honest F.means store.old store.new }
     ensures fails { (edits : List AnEdit) → AreNamesOf edits edited.now → IfErr result
         (IsEditFailure F.honest F.means F.faults F.Reader.ReadAt store.old edits edit.now) }

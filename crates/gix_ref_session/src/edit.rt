@@ -1,13 +1,12 @@
 //! The edit that a command asks for.
-ghost use Rattle.std.specs.Prelude.{◌≡◌, ◌≢◌, ℕ, List, false, None, Some, IfOk, IfErr, MatchBool, MatchResult};
+ghost use Rattle.std.specs.Prelude.{◌≡◌, ℕ, List, false, None, Some, IfOk, IfErr, MatchBool};
 ghost use Rattle.std.specs.Option.{option_map};
-ghost use Rattle.gix_ref_hash.specs.Ids.{null_id};
 ghost use Rattle.gix_ref_name.specs.NameGrammar.{full_error};
 ghost use Rattle.gix_ref_name.specs.Names.{full_bytes};
 ghost use Rattle.gix_ref_target.specs.Targets.{target_value};
 ghost use Rattle.gix_ref_target.specs.Targets.TargetValue.{object_id, symbolic_name};
 ghost use Rattle.gix_ref_session.specs.Commands.{SymrefDelete, SymrefUpdate, SymrefVerify, ask_of, old_target_of};
-ghost use Rattle.gix_ref_session.specs.Edits.{IsAbsence, IsAbsenceCheck, IsChangeOf, IsCheck, IsDeletion, IsEditOf, IsExpected, IsExpectedTarget, IsMatch, IsNoChange, IsNoEdit, IsNoName, IsUpdateTo, NeedsNoDeref, follows};
+ghost use Rattle.gix_ref_session.specs.Edits.{IsAbsence, IsAbsenceCheck, IsChangeOf, IsCheck, IsDeletion, IsEditOf, IsExpected, IsExpectedTarget, IsNoChange, IsNoEdit, IsNoName, IsUpdateTo, NeedsNoDeref, follows};
 
 use crate::command::{Asked, OldTarget};
 use crate::fatal::Fatal;

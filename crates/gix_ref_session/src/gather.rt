@@ -1,12 +1,11 @@
 //! The commands of a transaction, up to the one that ends them.
-ghost use Rattle.std.specs.Prelude.{◌≡◌, ◌≢◌, ◌⊎◌, ◌++◌, ◌∷◌, ℕ, List, [], Bool, true, false, Option, IfOk, IfErr, OnOk, MatchBool, MatchOption};
-ghost use Rattle.std.specs.Io.KnownBytes.{Appends, IsAtEnd, Keeps};
+ghost use Rattle.std.specs.Prelude.{◌≡◌, ◌≢◌, ◌⊎◌, ◌++◌, ◌∷◌, ℕ, List, [], Bool, true, false, Option, IfOk, IfErr, OnOk, MatchBool};
+ghost use Rattle.std.specs.Io.KnownBytes.{Appends};
 ghost use Rattle.gix_ref_session.specs.Commands.{IsCommand, IsNoCommand, Start, ask_of, heard_of, texts};
 ghost use Rattle.gix_ref_session.specs.Quotes.{ArePlain};
-ghost use Rattle.gix_ref_session.specs.Edits.{IsEditOf, IsNoEdit};
-ghost use Rattle.gix_ref_edits.specs.declared.transaction.RefEdit.{RefEdit as AnEdit};
-ghost use Rattle.gix_ref_session.specs.Gathering.{CannotGoOn, GathersOrCloses, IsGathered, IsMalformed, IsNotDone, IsStopped, IsReportOf, IsUnheard, IsUnsaid, StopsShort, TakesOrCloses, as_gathering};
-ghost use Rattle.gix_ref_session.specs.Input.{AreWords, Hears};
+ghost use Rattle.gix_ref_session.specs.Edits.{IsNoEdit};
+ghost use Rattle.gix_ref_session.specs.Gathering.{AddsAsked, CannotGoOn, GoesOn, HearsNext, IsGathered, IsHandled, IsMalformed, IsNotDone, IsStopped, IsReportOf, IsUnheard, IsUnsaid, StopsShort, as_gathering};
+ghost use Rattle.gix_ref_session.specs.Input.{AreWords};
 ghost use Rattle.gix_ref_session.specs.declared.fatal.Fatal.TheVariants.{Memory};
 
 use crate::command::{Asked, Command, Malformed, parse, words_of};
@@ -171,10 +170,8 @@ pub(crate) fn next_command<'t, R: BufRead>(
     input: &mut R,
     texts: &'t mut Texts,
 ) -> Result<Option<Command<'t>>, Fatal>
-    ensures read { IfOk result (λ found. MatchOption found (IsAtEnd (R.remaining input.old)
-        × Keeps (R.remaining input.old) (R.remaining input.new))
-        (λ command. Hears session.now.format session.now.object_hash (heard_of command)
-        (R.remaining input.old) (R.remaining input.new))) }
+    ensures read { IfOk result
+        (HearsNext session.now (R.remaining input.old) (R.remaining input.new)) }
     ensures fails { IfErr result
         (IsUnheard session.now (R.remaining input.old) (R.remaining input.new)) }
 {
@@ -203,10 +200,8 @@ fn add(
     asked: Asked<'_>,
     gathered: &mut Gathered,
 ) -> Result<(), Fatal>
-    ensures added { IfOk result (λ _. (edit : AnEdit)
-        × IsEditOf session.now gathered.old.deref name.now (ask_of asked.entry) edit
-        × (gathered.new.edits.items ≡ gathered.old.edits.items ++ edit ∷ [])
-        × (gathered.new.is_started ≡ gathered.old.is_started) × (gathered.new.deref ≡ true)) }
+    ensures added { IfOk result (λ _. AddsAsked session.now name.now (ask_of asked.entry)
+        gathered.old gathered.new) }
     ensures fails { IfErr result (λ fatal. (fatal ≡ Memory)
         ⊎ IsNoEdit gathered.old.deref name.now (ask_of asked.entry) fatal) }
 {
@@ -224,10 +219,9 @@ fn take<W: Write>(
     out: &mut W,
     gathered: &mut Gathered,
 ) -> Result<Option<Closing>, Fatal>
-    ensures takes { (input rest : Option (List ℕ)) → IfOk result (λ closing. TakesOrCloses
-        session.now (heard_of command.entry) closing
-        (as_gathering input (W.contents out.old) gathered.old)
-        (as_gathering rest (W.contents out.new) gathered.new)) }
+    ensures takes { (input rest : Option (List ℕ)) → IfOk result
+        (IsHandled session.now (heard_of command.entry) input rest
+        (W.contents out.old) (W.contents out.new) gathered.old gathered.new) }
     ensures unsaid { IfErr result
         (λ fatal. IsUnsaid fatal ⊎ Appends (W.contents out.old) (W.contents out.new) []) }
     ensures fails { (input output : Option (List ℕ)) (needs_start : Bool) → IfErr result
@@ -286,9 +280,9 @@ fn hear<R: BufRead, W: Write>(
     texts: &mut Texts,
     gathered: &mut Gathered,
 ) -> Result<Option<Closing>, Fatal>
-    ensures hears { IfOk result (λ closing. GathersOrCloses session.now needs_start closing
-        (as_gathering (R.remaining input.old) (W.contents out.old) gathered.old)
-        (as_gathering (R.remaining input.new) (W.contents out.new) gathered.new)) }
+    ensures hears { IfOk result (GoesOn session.now needs_start
+        (R.remaining input.old) (R.remaining input.new)
+        (W.contents out.old) (W.contents out.new) gathered.old gathered.new) }
     ensures unsaid { IfErr result
         (λ fatal. IsUnsaid fatal ⊎ Appends (W.contents out.old) (W.contents out.new) []) }
     ensures fails { IfErr result (CannotGoOn session.now needs_start

@@ -1,7 +1,6 @@
 //! Reading commands: in lines, or in fields that end with NUL (`git help update-ref`, `-z`).
 ghost use Rattle.std.specs.Prelude.{◌≡◌, MatchBool, IfOk, OnOk};
-ghost use Rattle.std.specs.Io.KnownBytes.{IsAtEnd, Keeps};
-ghost use Rattle.gix_ref_session.specs.Input.{HearsField, HearsMore, HearsText, end_of};
+ghost use Rattle.gix_ref_session.specs.Input.{HearsEnd, HearsField, HearsMore, HearsText, end_of};
 
 use crate::command::more_fields;
 use std::alloc::{AllocError, Global};
@@ -33,7 +32,7 @@ impl Format {
 fn read_field<R: BufRead>(input: &mut R, end: u8, field: &mut Vec<u8>) -> io::Result<bool>
     ensures { IfOk result (λ some. MatchBool some
         (HearsField end field.new.items (R.remaining input.old) (R.remaining input.new))
-        (IsAtEnd (R.remaining input.old) × Keeps (R.remaining input.old) (R.remaining input.new))) }
+        (HearsEnd (R.remaining input.old) (R.remaining input.new))) }
 {
     field.clear();
     input.read_until(end, field)?;
@@ -79,7 +78,7 @@ pub(crate) fn read_command<R: BufRead>(
 ) -> io::Result<bool>
     ensures { IfOk result (λ some. MatchBool some
         (HearsText format (R.remaining input.old) (R.remaining input.new) text.new.items)
-        (IsAtEnd (R.remaining input.old) × Keeps (R.remaining input.old) (R.remaining input.new))) }
+        (HearsEnd (R.remaining input.old) (R.remaining input.new))) }
 {
     if !read_field(input, format.end(), text)? {
         return Ok(false);

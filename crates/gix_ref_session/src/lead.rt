@@ -1,14 +1,13 @@
 //! Where symbolic references lead the edits of a transaction, as git has it: an update of the branch that `HEAD` leads to is made through
 //! `HEAD`, whose log has its line too, and a deletion that follows is of the reference at the end.
-ghost use Rattle.std.specs.Prelude.{◌≡◌, List, codes, is_none, is_some, IfErr, IfOk, OnOk};
+ghost use Rattle.std.specs.Prelude.{◌≡◌, codes, is_none, IfErr, IfOk, OnOk};
 ghost use Rattle.std.specs.Option.{option_map};
 ghost use Rattle.gix_ref_edits.specs.RefEdits.{SameChange, name_of};
 ghost use Rattle.gix_ref_name.specs.Names.{full_bytes, full_ref_bytes};
-ghost use Rattle.gix_ref_target.specs.PackedRecords.{Record};
-ghost use Rattle.gix_ref_store.specs.Lookup.{AreRecordsIn, LooksUp};
-ghost use Rattle.gix_ref_queries.specs.Resolving.{IsUnfollowedBy, IsUnreadBy, targets_in, resolved};
+ghost use Rattle.gix_ref_store.specs.Lookup.{LooksUp};
+ghost use Rattle.gix_ref_queries.specs.Resolving.{IsUnfollowedBy, IsUnreadBy, OfTargets, resolved};
 ghost use Rattle.gix_ref_session.specs.Clashes.{AreClear, IsFindFailure, IsHeadUnread, IsLookFailure, IsOwnUnread};
-ghost use Rattle.gix_ref_session.specs.Leading.{AreLed, LeadsTo, branch_of, is_followed, is_through_head, last_of, next_of, updates, LeadsIn};
+ghost use Rattle.gix_ref_session.specs.Leading.{AreLed, LeadsIn, LeadsTo, branch_of, is_followed, is_through_head, last_of, next_of, updates};
 ghost use Rattle.gix_ref_session.specs.declared.fatal.Fatal.TheVariants.{Memory};
 
 use crate::clash::check_names;
@@ -28,9 +27,8 @@ fn next_name<F: Files>(
     store: &mut Store<F>,
     name: FullNameRef<'_>,
 ) -> Result<Option<FullName>, Fatal>
-    ensures reads { F.honest → (records : List Record) → AreRecordsIn F.means store.old records →
-        IfOk result (λ next. option_map full_bytes next
-        ≡ next_of (targets_in F.means store.old records (full_ref_bytes name.entry))) }
+    ensures reads { OfTargets F.honest F.means store.old (λ find. IfOk result
+        (λ next. option_map full_bytes next ≡ next_of (find (full_ref_bytes name.entry)))) }
     ensures unchanged { LooksUp F.honest F.means store.old store.new }
     ensures fails { IfErr result
         (IsFindFailure (IsUnreadBy F.Reader.ReadAt F.honest F.means F.faults store.old
@@ -51,9 +49,8 @@ fn end_of_chain<F: Files>(
     store: &mut Store<F>,
     name: &FullName,
 ) -> Result<Option<FullName>, Fatal>
-    ensures ends { F.honest → (records : List Record) → AreRecordsIn F.means store.old records →
-        IfOk result (λ last. option_map full_bytes last
-        ≡ last_of (resolved (targets_in F.means store.old records) 5 (full_bytes name.now))) }
+    ensures ends { OfTargets F.honest F.means store.old (λ find. IfOk result
+        (λ last. option_map full_bytes last ≡ last_of (resolved find 5 (full_bytes name.now)))) }
     ensures unchanged { LooksUp F.honest F.means store.old store.new }
     ensures fails { IfErr result
         (IsFindFailure (IsUnfollowedBy F.Reader.ReadAt F.honest F.means F.faults store.old
@@ -87,9 +84,8 @@ fn head_branch<F: Files>(
     store: &mut Store<F>,
     writes_lines: bool,
 ) -> Result<Option<FullName>, Fatal>
-    ensures branch { F.honest → (records : List Record) → AreRecordsIn F.means store.old records →
-        IfOk result (λ branch. option_map full_bytes branch
-        ≡ branch_of (targets_in F.means store.old records) writes_lines) }
+    ensures branch { OfTargets F.honest F.means store.old (λ find. IfOk result
+        (λ branch. option_map full_bytes branch ≡ branch_of find writes_lines)) }
     ensures unchanged { LooksUp F.honest F.means store.old store.new }
     ensures fails { IfErr result
         (IsFindFailure (IsHeadUnread F.honest F.means F.faults F.Reader.ReadAt store.old
@@ -129,9 +125,8 @@ fn is_through_head<F: Files>(
     edit: &RefEdit,
     branch: &Option<FullName>,
 ) -> Result<bool, Fatal>
-    ensures through { F.honest → (records : List Record) → AreRecordsIn F.means store.old records →
-        IfOk result (λ through. through ≡ is_through_head (targets_in F.means store.old records)
-        (option_map full_bytes branch.now) edit.now) }
+    ensures through { OfTargets F.honest F.means store.old (λ find. IfOk result (λ through. through
+        ≡ is_through_head find (option_map full_bytes branch.now) edit.now)) }
     ensures unchanged { LooksUp F.honest F.means store.old store.new }
     ensures fails { IfErr result
         (IsFindFailure (IsUnreadBy F.Reader.ReadAt F.honest F.means F.faults store.old
@@ -160,9 +155,8 @@ fn led_edit<F: Files>(
     edit: &RefEdit,
     branch: &Option<FullName>,
 ) -> Result<RefEdit, Fatal>
-    ensures leads { F.honest → (records : List Record) → AreRecordsIn F.means store.old records →
-        IfOk result (LeadsTo (targets_in F.means store.old records)
-        (option_map full_bytes branch.now) edit.now) }
+    ensures leads { OfTargets F.honest F.means store.old (λ find. IfOk result
+        (LeadsTo find (option_map full_bytes branch.now) edit.now)) }
     ensures change { IfOk result (λ led. SameChange edit.now.change led.change) }
     ensures unchanged { LooksUp F.honest F.means store.old store.new }
     ensures fails { IfErr result

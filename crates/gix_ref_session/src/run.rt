@@ -1,8 +1,5 @@
 //! One run of the program, over any files.
 ghost use Rattle.std.specs.Prelude.{◌≡◌, MatchResult};
-ghost use Rattle.std.specs.Option.{option_map};
-ghost use Rattle.gix_ref_log.specs.Signatures.{signature_ref_who};
-ghost use Rattle.gix_ref_program.specs.Runs.{IsStoreOf, NoStore};
 ghost use Rattle.gix_ref_session.specs.Runs.{IsOpened, IsUnopened, IsRefusedFor, Runs};
 
 use crate::fatal::Fatal;

@@ -1,13 +1,9 @@
 //! A session: transactions one after the other, each begun, prepared and committed by commands, with an answer to each
 //! (`git update-ref --stdin`).
-ghost use Rattle.std.specs.Prelude.{◌≡◌, ◌≢◌, ◌⊎◌, MatchOption, true, false};
-ghost use Rattle.gix_ref_files.specs.Files.{Leaves, Loses};
+ghost use Rattle.std.specs.Prelude.{◌≢◌, MatchOption, true, false};
 ghost use Rattle.gix_ref_packed.specs.OpenFiles.{HasReadFault};
-ghost use Rattle.gix_ref_store.specs.Prepared.{HasGoodRecords, IsAtRest, tree_of};
-ghost use Rattle.gix_ref_store.specs.Store.{files_of};
-ghost use Rattle.gix_ref_program.specs.Writes.{IsKept};
-ghost use Rattle.gix_ref_session.specs.Sessions.{Closes, Serves, Settles, TurnComes, way, way_on};
-ghost use Rattle.gix_ref_session.specs.Transactions.{IsTransactionLoss, IsTransactionStop};
+ghost use Rattle.gix_ref_session.specs.Sessions.{Closes, NextTurnComes, OnWay, Serves, Settles, way, way_on};
+ghost use Rattle.gix_ref_session.specs.Transactions.{IsClosingLoss, IsClosingStop, IsTransactionLoss, IsTransactionStop, LossLeaves, StopLeaves};
 ghost use Rattle.gix_ref_session.specs.Waiting.{IsLessAfter, NoneIsLeft};
 
 use crate::fatal::Fatal;
@@ -88,14 +84,13 @@ fn settle<F: Files, C: Clock, R: BufRead, W: Write>(
     texts: &mut Texts,
 ) -> Result<bool, Fatal>
     requires { closing ≢ Closing.Abort }
-    ensures ends { Settles F.Reader.ReadAt F.honest F.means F.faults session.now
-        closing edits.now (way (R.remaining input.old) (W.contents out.old) store.old)
-        (way (R.remaining input.new) (W.contents out.new) store.new) result }
-    ensures leaves { F.honest → Leaves (F.means (files_of store.old)) (F.means (files_of store.new))
+    ensures ends { OnWay R.remaining W.contents
+        (Settles F.Reader.ReadAt F.honest F.means F.faults session.now closing edits.now)
+        input.old out.old store.old input.new out.new store.new result }
+    ensures leaves { StopLeaves F.honest F.means store.old store.new
         (IsTransactionStop F.honest F.means F.faults session.now.committer
         (HasReadFault F.Reader.faults) edits.now store.old) }
-    ensures lost { F.honest → HasGoodRecords F.means store.old → IsAtRest F.means store.old →
-        Loses (F.means (files_of store.old)) (F.means (files_of store.new))
+    ensures lost { LossLeaves F.honest F.means store.old store.new
         (IsTransactionLoss F.honest F.means F.faults session.now.committer
         (HasReadFault F.Reader.faults) edits.now store.old) }
 {
@@ -128,16 +123,15 @@ fn close<F: Files, C: Clock, R: BufRead, W: Write>(
     out: &mut W,
     texts: &mut Texts,
 ) -> Result<bool, Fatal>
-    ensures ends { Closes F.Reader.ReadAt F.honest F.means F.faults session.now
-        closing edits.now gives_up (way (R.remaining input.old) (W.contents out.old) store.old)
-        (way (R.remaining input.new) (W.contents out.new) store.new) result }
-    ensures leaves { F.honest → Leaves (F.means (files_of store.old)) (F.means (files_of store.new))
-        (λ T. (T ≡ tree_of F.means store.old) ⊎ IsTransactionStop F.honest F.means F.faults
-        session.now.committer (HasReadFault F.Reader.faults) edits.now store.old T) }
-    ensures lost { F.honest → HasGoodRecords F.means store.old → IsAtRest F.means store.old →
-        Loses (F.means (files_of store.old)) (F.means (files_of store.new))
-        (λ T. IsKept F.means (files_of store.old) T ⊎ IsTransactionLoss F.honest F.means F.faults
-        session.now.committer (HasReadFault F.Reader.faults) edits.now store.old T) }
+    ensures ends { OnWay R.remaining W.contents
+        (Closes F.Reader.ReadAt F.honest F.means F.faults session.now closing edits.now gives_up)
+        input.old out.old store.old input.new out.new store.new result }
+    ensures leaves { StopLeaves F.honest F.means store.old store.new
+        (IsClosingStop F.honest F.means F.faults session.now.committer
+        (HasReadFault F.Reader.faults) edits.now store.old) }
+    ensures lost { LossLeaves F.honest F.means store.old store.new
+        (IsClosingLoss F.honest F.means F.faults session.now.committer
+        (HasReadFault F.Reader.faults) edits.now store.old) }
 {
     match closing {
         Closing::Abort => answer_abort(out),
@@ -159,9 +153,9 @@ fn transaction<F: Files, C: Clock, R: BufRead, W: Write>(
     out: &mut W,
     texts: &mut Texts,
 ) -> Result<bool, Fatal>
-    ensures { TurnComes F.Reader.ReadAt F.honest F.means F.faults session.now
-        (way_on needs_start (R.remaining input.old) (W.contents out.old) store.old)
-        (way_on true (R.remaining input.new) (W.contents out.new) store.new) result }
+    ensures { NextTurnComes F.Reader.ReadAt F.honest F.means F.faults session.now needs_start
+        (R.remaining input.old) (W.contents out.old) store.old
+        (R.remaining input.new) (W.contents out.new) store.new result }
 {
     match gather(alloc, session, needs_start, input, out, texts) {
         Ok((gathered, closing)) => {

@@ -1,16 +1,11 @@
 //! One try of a transaction: prepared, with an answer or without, and closed.
 ghost use Rattle.std.specs.Prelude.{◌≡◌, ◌≢◌, ℕ, List, Option};
-ghost use Rattle.gix_ref_edits.specs.declared.transaction.RefEdit.{RefEdit as AnEdit};
-ghost use Rattle.gix_ref_files.specs.Files.{Leaves, Loses};
 ghost use Rattle.gix_ref_log.specs.declared.actor.SignatureRef.{SignatureRef};
 ghost use Rattle.gix_ref_packed.specs.OpenFiles.{HasReadFault};
 ghost use Rattle.gix_ref_program.specs.Updates.{IsLossOf};
-ghost use Rattle.gix_ref_store.specs.Prepared.{HasGoodRecords, IsAtRest};
 ghost use Rattle.gix_ref_store.specs.PreparedFields.{held_edits, held_packed};
-ghost use Rattle.gix_ref_store.specs.Store.{files_of};
-ghost use Rattle.gix_ref_store.specs.declared.file.store.Store.{Store as AStore};
-ghost use Rattle.gix_ref_session.specs.Sessions.{AnswersAbort, AnswersCommit, ClosedBy, HeardClosing, MakeEnds, PreparedEnds, TryEnds, way};
-ghost use Rattle.gix_ref_session.specs.Transactions.{ClosesSafely, CommitEnds, IsCommitResult, IsEditStop, IsRolledBack, IsTryLoss, IsTryStop, Prepares, uses};
+ghost use Rattle.gix_ref_session.specs.Sessions.{AnswersAbort, AnswersCommit, EndsAtOnce, FinishedBy, Finishes, HeardClosing, MakeEnds, OnWay, TryEnds};
+ghost use Rattle.gix_ref_session.specs.Transactions.{ClosesSafely, CommitEnds, IsCommitResult, IsEditStop, IsRolledBack, IsTryLoss, IsTryStop, LossLeaves, StopLeaves, WhenPrepared, uses};
 
 use crate::command::Command;
 use crate::fatal::Fatal;
@@ -41,10 +36,9 @@ fn commit<F: Files>(
     session: &Session<'_>,
     prepared: Prepared<'_, F>,
 ) -> Result<(), Fatal>
-    ensures ends { (old : AStore F) (edits : List AnEdit) → Prepares F.honest F.means F.faults old
-        prepared.entry.store.now edits (held_packed prepared.entry.plan)
-        (held_edits prepared.entry.plan) → CommitEnds F.honest F.means F.faults
-        session.now.committer (HasReadFault F.Reader.faults) old prepared.exit.0.now edits result }
+    ensures ends { WhenPrepared F.honest F.means F.faults prepared.entry (λ old edits. CommitEnds
+        F.honest F.means F.faults session.now.committer (HasReadFault F.Reader.faults)
+        old prepared.exit.0.now edits result) }
     ensures safe { ClosesSafely F.honest F.means F.faults session.now.committer
         prepared.entry.store.now prepared.exit.0.now (held_packed prepared.entry.plan)
         (held_edits prepared.entry.plan) }
@@ -54,10 +48,8 @@ fn commit<F: Files>(
 
 /// Gives up what is prepared.
 fn give_up<F: Files>(prepared: Prepared<'_, F>)
-    ensures ends { (old : AStore F) (edits : List AnEdit) → Prepares F.honest F.means F.faults old
-        prepared.entry.store.now edits (held_packed prepared.entry.plan)
-        (held_edits prepared.entry.plan) →
-        IsRolledBack F.honest F.means F.faults old prepared.exit.0.now edits }
+    ensures ends { WhenPrepared F.honest F.means F.faults prepared.entry
+        (λ old edits. IsRolledBack F.honest F.means F.faults old prepared.exit.0.now edits) }
     ensures safe { (committer : Option SignatureRef) → ClosesSafely F.honest F.means F.faults
         committer prepared.entry.store.now prepared.exit.0.now (held_packed prepared.entry.plan)
         (held_edits prepared.entry.plan) }
@@ -97,11 +89,8 @@ fn close_by<F: Files, W: Write>(
     out: &mut W,
 ) -> Result<bool, Fatal>
     requires { heard ≢ Closing.Prepare }
-    ensures ends { (old : AStore F) (edits : List AnEdit) → Prepares F.honest F.means F.faults old
-        prepared.entry.store.now edits (held_packed prepared.entry.plan)
-        (held_edits prepared.entry.plan) → ClosedBy F.Reader.ReadAt F.honest F.means
-        F.faults session.now heard old prepared.exit.0.now edits
-        (W.contents out.old) (W.contents out.new) result }
+    ensures ends { FinishedBy F.Reader.ReadAt F.honest F.means F.faults session.now heard
+        prepared.entry prepared.exit.0.now (W.contents out.old) (W.contents out.new) result }
     ensures safe { ClosesSafely F.honest F.means F.faults session.now.committer
         prepared.entry.store.now prepared.exit.0.now (held_packed prepared.entry.plan)
         (held_edits prepared.entry.plan) }
@@ -156,12 +145,9 @@ fn close<F: Files, R: BufRead, W: Write>(
     out: &mut W,
     texts: &mut Texts,
 ) -> Result<bool, Fatal>
-    ensures ends { (old : AStore F) (edits : List AnEdit) → Prepares F.honest F.means F.faults old
-        prepared.entry.store.now edits (held_packed prepared.entry.plan)
-        (held_edits prepared.entry.plan) → PreparedEnds F.Reader.ReadAt F.honest
-        F.means F.faults session.now Closing.Prepare
-        (way (R.remaining input.old) (W.contents out.old) old)
-        (way (R.remaining input.new) (W.contents out.new) prepared.exit.0.now) edits result }
+    ensures ends { Finishes F.Reader.ReadAt F.honest F.means F.faults session.now
+        R.remaining W.contents Closing.Prepare prepared.entry prepared.exit.0.now
+        input.old out.old input.new out.new result }
     ensures safe { ClosesSafely F.honest F.means F.faults session.now.committer
         prepared.entry.store.now prepared.exit.0.now (held_packed prepared.entry.plan)
         (held_edits prepared.entry.plan) }
@@ -181,11 +167,9 @@ fn commit_at_end<F: Files>(
     session: &Session<'_>,
     prepared: Prepared<'_, F>,
 ) -> Result<bool, Fatal>
-    ensures ends { (input out : Option (List ℕ)) (old : AStore F) (edits : List AnEdit) →
-        Prepares F.honest F.means F.faults old prepared.entry.store.now edits
-        (held_packed prepared.entry.plan) (held_edits prepared.entry.plan) →
-        PreparedEnds F.Reader.ReadAt F.honest F.means F.faults session.now Closing.End
-        (way input out old) (way input out prepared.exit.0.now) edits result }
+    ensures ends { (input out : Option (List ℕ)) →
+        EndsAtOnce F.Reader.ReadAt F.honest F.means F.faults session.now Closing.End
+        prepared.entry prepared.exit.0.now input out out result }
     ensures safe { ClosesSafely F.honest F.means F.faults session.now.committer
         prepared.entry.store.now prepared.exit.0.now (held_packed prepared.entry.plan)
         (held_edits prepared.entry.plan) }
@@ -203,12 +187,9 @@ fn commit_and_answer<F: Files, W: Write>(
     prepared: Prepared<'_, F>,
     out: &mut W,
 ) -> Result<bool, Fatal>
-    ensures ends { (input : Option (List ℕ)) (old : AStore F) (edits : List AnEdit) →
-        Prepares F.honest F.means F.faults old prepared.entry.store.now edits
-        (held_packed prepared.entry.plan) (held_edits prepared.entry.plan) →
-        PreparedEnds F.Reader.ReadAt F.honest F.means F.faults session.now Closing.Commit
-        (way input (W.contents out.old) old) (way input (W.contents out.new) prepared.exit.0.now)
-        edits result }
+    ensures ends { (input : Option (List ℕ)) →
+        EndsAtOnce F.Reader.ReadAt F.honest F.means F.faults session.now Closing.Commit
+        prepared.entry prepared.exit.0.now input (W.contents out.old) (W.contents out.new) result }
     ensures safe { ClosesSafely F.honest F.means F.faults session.now.committer
         prepared.entry.store.now prepared.exit.0.now (held_packed prepared.entry.plan)
         (held_edits prepared.entry.plan) }
@@ -228,12 +209,9 @@ fn finish<F: Files, R: BufRead, W: Write>(
     texts: &mut Texts,
 ) -> Result<bool, Fatal>
     requires { closing ≢ Closing.Abort }
-    ensures ends { (old : AStore F) (edits : List AnEdit) → Prepares F.honest F.means F.faults old
-        prepared.entry.store.now edits (held_packed prepared.entry.plan)
-        (held_edits prepared.entry.plan) →
-        PreparedEnds F.Reader.ReadAt F.honest F.means F.faults session.now closing
-        (way (R.remaining input.old) (W.contents out.old) old)
-        (way (R.remaining input.new) (W.contents out.new) prepared.exit.0.now) edits result }
+    ensures ends { Finishes F.Reader.ReadAt F.honest F.means F.faults session.now
+        R.remaining W.contents closing prepared.entry prepared.exit.0.now
+        input.old out.old input.new out.new result }
     ensures safe { ClosesSafely F.honest F.means F.faults session.now.committer
         prepared.entry.store.now prepared.exit.0.now (held_packed prepared.entry.plan)
         (held_edits prepared.entry.plan) }
@@ -265,13 +243,12 @@ fn make<F: Files, R: BufRead, W: Write>(
     texts: &mut Texts,
 ) -> Result<bool, Fatal>
     requires { closing ≢ Closing.Abort }
-    ensures ends { MakeEnds F.Reader.ReadAt F.honest F.means F.faults session.now
-        closing led.items (way (R.remaining input.old) (W.contents out.old) store.old)
-        (way (R.remaining input.new) (W.contents out.new) store.new) result }
-    ensures leaves { F.honest → Leaves (F.means (files_of store.old)) (F.means (files_of store.new))
+    ensures ends { OnWay R.remaining W.contents
+        (MakeEnds F.Reader.ReadAt F.honest F.means F.faults session.now closing led.items)
+        input.old out.old store.old input.new out.new store.new result }
+    ensures leaves { StopLeaves F.honest F.means store.old store.new
         (IsEditStop F.honest F.means F.faults session.now.committer store.old led.items) }
-    ensures lost { F.honest → HasGoodRecords F.means store.old → IsAtRest F.means store.old →
-        Loses (F.means (files_of store.old)) (F.means (files_of store.new))
+    ensures lost { LossLeaves F.honest F.means store.old store.new
         (IsLossOf F.honest F.means F.faults uses store.old session.now.committer led.items) }
 {
     match store
@@ -295,14 +272,13 @@ pub(crate) fn try_once<F: Files, R: BufRead, W: Write>(
     texts: &mut Texts,
 ) -> Result<bool, Fatal>
     requires { closing ≢ Closing.Abort }
-    ensures ends { TryEnds F.Reader.ReadAt F.honest F.means F.faults session.now
-        closing edits.now (way (R.remaining input.old) (W.contents out.old) store.old)
-        (way (R.remaining input.new) (W.contents out.new) store.new) result }
-    ensures leaves { F.honest → Leaves (F.means (files_of store.old)) (F.means (files_of store.new))
+    ensures ends { OnWay R.remaining W.contents
+        (TryEnds F.Reader.ReadAt F.honest F.means F.faults session.now closing edits.now)
+        input.old out.old store.old input.new out.new store.new result }
+    ensures leaves { StopLeaves F.honest F.means store.old store.new
         (IsTryStop F.honest F.means F.faults session.now.committer
         (HasReadFault F.Reader.faults) edits.now store.old) }
-    ensures lost { F.honest → HasGoodRecords F.means store.old → IsAtRest F.means store.old →
-        Loses (F.means (files_of store.old)) (F.means (files_of store.new))
+    ensures lost { LossLeaves F.honest F.means store.old store.new
         (IsTryLoss F.honest F.means F.faults session.now.committer
         (HasReadFault F.Reader.faults) edits.now store.old) }
 {

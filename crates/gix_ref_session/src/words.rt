@@ -2,7 +2,7 @@
 //! [--without-syncs] [--lock-timeout MS] [--packed-lock-timeout MS]`, in any order after GITDIR.
 ghost use Rattle.std.specs.Prelude.{◌≡◌, None, true, false, MatchOption};
 ghost use Rattle.gix_ref_session.specs.Commands.{texts};
-ghost use Rattle.gix_ref_session.specs.Words.{IsFlag, IsRead, IsUnreadable, IsValued, Options, TakesValue, flag_of, options_in, valued_of, with_flag};
+ghost use Rattle.gix_ref_session.specs.Words.{IsFlag, IsNotValued, IsRead, IsUnreadable, IsValued, Options, TakesValue, flag_of, options_in, valued_of, with_flag};
 
 use crate::input::Format;
 use crate::session::Session;
@@ -165,7 +165,7 @@ fn take_flag(line: &mut Line<'_>, word: &[u8]) -> bool
 /// Takes an option with its value; `None` for another word, and for a value that is wrong.
 fn take_value<'w>(line: &mut Line<'w>, word: &[u8], value: &'w [u8]) -> Option<()>
     ensures taken { flag_of word.now ≡ None → MatchOption result
-        ((new : Options) → IsValued word.now value.now (options_in line.old) new → ⊥)
+        (IsNotValued word.now value.now (options_in line.old))
         (λ _. IsValued word.now value.now (options_in line.old) (options_in line.new)) }
     ensures dir { line.new.dir ≡ line.old.dir }
 {
