@@ -1,6 +1,6 @@
 //! The time at the end of most signatures: `> `, seconds of ten digits, as they are from 2001 to 2286, a space and a zone. Its
 //! digits are looked at all at once, and made into numbers two by two.
-ghost use Rattle.std.specs.Prelude.{◌≡◌, ◌+◌, ◌-◌, ◌*◌, ◌<◌, ◌⊎◌, ◌==◌, if◌then◌else◌, ℕ, ℤ, pos, neg_ℤ, length, slice_index, IfSome};
+ghost use Rattle.std.specs.Prelude.{◌≡◌, ◌+◌, ◌-◌, ◌*◌, ◌<◌, ◌⊎◌, ◌==◌, if◌then◌else◌, ℕ, pos, neg_ℤ, length, slice_index, IfSome};
 ghost use Rattle.std.specs.Int.{bit_at};
 ghost use Rattle.gix_ref_log.specs.Signatures.{IsDigit, IsStamp};
 

@@ -43,7 +43,7 @@ pub struct LineRef<'a> {
 }
 
 impl<'a> LineRef<'a> {
-    ghost use Rattle.std.specs.Prelude.{◌≡◌, MatchResult, IfOk};
+    ghost use Rattle.std.specs.Prelude.{MatchResult, IfOk};
     ghost use Rattle.gix_ref_hash.specs.Ids.{ReadsId};
     ghost use Rattle.gix_ref_log.specs.LogLines.{IsLine, NoLine, IsFirstLine, IsOwned, line_ref_parts};
 
