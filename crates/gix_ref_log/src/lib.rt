@@ -15,8 +15,8 @@
 //! - what was written is read again, and a text is one line at most: `laws::lines_read_back`
 //! - a log forward: each line or a fault with its number, in order, to the end: `log::iter::forward`
 //! - a log from its end: whatever calls of `next` follow, they give the reversed lines up to the first that does not fit, or a
-//!   beginning of them and one fault; `Memory` only in the place of a good line; the same of the lines that `next_ref` lends, which
-//!   never ends with `Memory`: `log::iter::reverse`
+//!   beginning of them and one fault; `Memory` only in the place of a good line; the same of the lines that `next_ref` lends, and
+//!   there is no `Memory` among those: `log::iter::reverse`
 #![tactic(auto)]
 
 pub mod actor;

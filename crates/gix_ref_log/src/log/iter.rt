@@ -72,7 +72,7 @@ pub fn reverse<F: ReadAt + Drop>(
     ensures items { F.honest → IfOk result (λ r. EachRunFrom (NextStep F.honest F.bytes F.faults) r
         (λ run. IsRun (run.whole ≡ true) (items_from (length buf.old) 1 (F.bytes log)) run.items)) }
 
-    // The same of calls of `next_ref`; and where both are called, each goes on from what is left.
+    // The same of calls of `next_ref`, which never lack memory; and where both are called, each goes on from what is left.
     ensures lent_items { F.honest → IfOk result
         (λ r. EachRunFrom (NextRefStep F.honest F.bytes F.faults) r (λ run. IsLentRun
         (run.whole ≡ true) (items_from (length buf.old) 1 (F.bytes log)) run.items)) }
