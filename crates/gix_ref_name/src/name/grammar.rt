@@ -246,7 +246,7 @@ pub fn broken_partial_rule(name: &[u8]) -> Option<Error>
 fn has_slash(name: &[u8]) -> bool
     ensures { result ≡ list_any is_slash name.now }
 {
-    name.starts_with(b"refs/") || name.contains(&b'/')
+    matches!(name, [b'r', b'e', b'f', b's', b'/', ..]) || name.contains(&b'/')
 }
 
 /// The first of the rules for full names that the name breaks (`git check-ref-format`). As gix-validate's
