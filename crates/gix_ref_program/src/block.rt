@@ -21,6 +21,7 @@ pub(crate) fn push_fault(text: &mut Vec<u8>, variant: &str) -> Result<(), AllocE
 }
 
 /// Writes the text if it has the bytes of a block.
+#[inline(always)]
 pub(crate) fn write_block<W: Write>(text: &mut Vec<u8>, out: &mut W) -> io::Result<()>
     ensures { OnOk result (Keeps (append_known (W.contents out.old) text.old.items)
         (append_known (W.contents out.new) text.new.items)) }
