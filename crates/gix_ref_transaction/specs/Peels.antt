@@ -17,7 +17,7 @@ use Rattle.gix_ref_files.specs.Tree.{Tree}
 use Rattle.gix_ref_transaction.specs.Causes.{packs_edit, IsFirstCause, IsPackedCause, IsPackedLocked}
 use Rattle.gix_ref_transaction.specs.First.{AllPass, FirstFault}
 use Rattle.gix_ref_transaction.specs.Packing.{ends_of, mode_in, new_object, peeled_in, put_by, OfFinder}
-use Rattle.gix_ref_transaction.specs.PrepareSteps.{setting_of, updates}
+use Rattle.gix_ref_transaction.specs.PrepareSteps.{setting_of}
 use Rattle.gix_ref_lookup.specs.declared.settings.Settings.{Settings}
 use Rattle.gix_ref_transaction.specs.declared.edit.Edit.{Edit}
 use Rattle.gix_ref_transaction.specs.declared.edit.PackedObject.{PackedObject}
