@@ -1,4 +1,4 @@
-# The times that compare-with-git takes: seven tasks of git and of `refs` in turn, ten rounds each.
+# The times that compare-with-git takes: nine tasks of git and of `refs` in turn, ten rounds each.
 rounds=10
 
 # now: microseconds.
@@ -12,6 +12,21 @@ records() {
     id=$(git -C "$2" rev-parse HEAD)
     echo '# pack-refs with: peeled fully-peeled sorted ' >"$2/.git/packed-refs"
     seq -f "$id refs/heads/b%07.0f" 1 "$1" >>"$2/.git/packed-refs"
+}
+
+# shuffled COUNT REPOSITORY: the same branches in some order, without a header.
+shuffled() {
+    records "$1" "$2"
+    tail -n +2 "$2/.git/packed-refs" | awk '{ print (NR * 7919) % 1000003, $0 }' | sort -n | cut -d ' ' -f 2- >"$work/shuffled"
+    mv "$work/shuffled" "$2/.git/packed-refs"
+}
+
+# lines COUNT REPOSITORY: a branch at the only commit, with so many lines in its reflog.
+lines() {
+    local id
+    id=$(git -C "$2" rev-parse HEAD)
+    echo "$id" >"$2/.git/refs/heads/logged"
+    seq -f "$id $id C <c@example.com> 1234567890 +0130	commit: %.0f" 1 "$1" >"$2/.git/logs/refs/heads/logged"
 }
 
 # loose COUNT REPOSITORY: so many loose branches at the only commit.
@@ -78,6 +93,10 @@ time_show() {
     time_task "show one of 10,000 records"
     repository 1000000
     time_task "show one of a million records"
+    git_task() { git -C "$work/timed" show-ref --verify refs/heads/b0005000; }
+    repository 0
+    shuffled 100000 "$work/timed"
+    time_task "show one of 100,000 records that are not in order"
 }
 
 time_list() {
@@ -86,6 +105,15 @@ time_list() {
     refs_task() { "$program" "$work/timed/.git" list; }
     repository 100000
     time_task "list 100,000 records"
+}
+
+time_log() {
+    fresh=
+    git_task() { git -C "$work/timed" reflog show --format='%H %gs' refs/heads/logged; }
+    refs_task() { "$program" "$work/timed/.git" log refs/heads/logged; }
+    repository 0
+    lines 100000 "$work/timed"
+    time_task "show a reflog of 100,000 lines"
 }
 
 time_update() {
@@ -128,6 +156,7 @@ times() {
     echo "|---|---|---|"
     time_show
     time_list
+    time_log
     time_update
     time_deletion
     time_packing
