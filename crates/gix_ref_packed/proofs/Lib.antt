@@ -1,5 +1,8 @@
+pub mod AreRecords
 pub mod AskedParts
 pub mod FileSearchLemmas
+pub mod FoundInOrder
+pub mod InOrderLemmas
 pub mod ItemRuns
 pub mod MemorySearches
 pub mod NamesInTurn
@@ -7,7 +10,9 @@ pub mod OneItem
 pub mod OwedRecords
 pub mod PrefixParts
 pub mod PrefixRuns
+pub mod RecordsInOrder
 pub mod RecordsOfText
 pub mod RecordsRead
 pub mod SortedPieces
+pub mod UnsortedLemmas
 pub mod WellFormedLemmas

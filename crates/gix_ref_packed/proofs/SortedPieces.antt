@@ -104,7 +104,7 @@ entries_more k t es ns e mid rest n more fronts pieces cut takes is len =
     regroup a b c = simp (append-nil, append_assoc)
 
 -- the pieces of a text
-pieces_of : (k : Kind) (t : List ℕ) (rs : List Record) → Records k t rs → (ps : List Piece) × All (IsPiece k) ps × (t ≡ bytes_in ps) × (records_in ps ≡ rs)
+pub pieces_of : (k : Kind) (t : List ℕ) (rs : List Record) → Records k t rs → (ps : List Piece) × All (IsPiece k) ps × (t ≡ bytes_in ps) × (records_in ps ≡ rs)
 pieces_of k t [] h = ([], All-nil (IsPiece k), h, refl)
 pieces_of k t (r ∷ rs) h =
     let l = lines_taken k t r h.0 h.1 in
@@ -150,6 +150,20 @@ keeps_sorted k t kept rs es fs ds same all falls records pieces cut moved up sta
       before = subst (Records k t) (sym (same_records_in es)) records;
       after = subst (λ (u : List ℕ). Records k u (records_in (map entry_piece fs))) (sym whole) (pieces_together k (map entry_piece fs) (All-permutation (IsPiece k) (map entry_piece es) (map entry_piece fs) order.moved pieces));
     }
+
+-- ---- records, read one by one
+
+-- what was read of the text
+pub record ReadSoFar (k : Kind) (t rest : List ℕ) (first line : ℕ) : Type 0 where
+  pub read : List Record
+  pub fronts : Fronts k t read rest
+  pub number : line ≡ first + line_count read
+
+pub read_more : (k : Kind) (t mid : List ℕ) (first line : ℕ) (r : Record) (rest : List ℕ) (count : ℕ) → ReadSoFar k t mid first line → Takes k mid r rest → count ≡ line + lines_of r → ReadSoFar k t rest first count
+read_more k t mid first line r rest count was takes sum =
+    let lines = lines_more was.read r in
+    let number = was.number in
+    record { read = was.read ++ r ∷ []; fronts = fronts_more k t was.read mid r rest was.fronts takes; number = omega arith }
 
 -- ---- names that do not descend, read one by one
 

@@ -61,7 +61,7 @@ no_count n (r ∷ rs) none =
     by true bad = absurd (bad refl)
     by false bad = refl
 
-distinct_counts : (n : List ℕ) (rs : List Record) → AllPairs (λ r s. r.name ≢ s.name) rs → count n rs ≤ 1
+pub distinct_counts : (n : List ℕ) (rs : List Record) → AllPairs (λ r s. r.name ≢ s.name) rs → count n rs ≤ 1
 unfolding one
 distinct_counts n [] pairs = omega arith
 distinct_counts n (r ∷ rs) pairs = go (named n r) refl (distinct_counts n rs (λ i j d low high. pairs (suc i) (suc j) d (omega arith) (omega arith)))
@@ -134,7 +134,7 @@ some_record : (rs : List Record) (k : ℕ) → k < length rs → Record
 some_record [] k within = absurd (omega arith)
 some_record (r ∷ rs) k within = r
 
-same_named : (n : List ℕ) (rs ss : List Record) → IsPermutation rs ss → count n rs ≤ 1 → record_named n ss ≡ record_named n rs
+pub same_named : (n : List ℕ) (rs ss : List Record) → IsPermutation rs ss → count n rs ≤ 1 → record_named n ss ≡ record_named n rs
 same_named n rs ss moved few =
     let equal : count n ss ≡ count n rs = sum_by-IsPermutation (λ x. cond (named n x) 1 0) rs ss moved in
     ⊎_elim

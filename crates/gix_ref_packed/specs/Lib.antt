@@ -2,9 +2,11 @@ pub mod AskedNames
 pub mod Buffers
 pub mod FilePrefixes
 pub mod FileSearches
+pub mod InOrder
 pub mod Items
 pub mod OpenFiles
 pub mod RecordsOfText
 pub mod Searches
+pub mod Unsorted
 pub mod YetToGive
 pub mod internal

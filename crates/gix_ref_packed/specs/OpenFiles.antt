@@ -6,7 +6,7 @@ use Rattle.gix_ref_files.specs.declared.files.FileError.{FileError}
 use Rattle.gix_ref_hash.specs.declared.hash.Kind.{Kind}
 use Rattle.gix_ref_packed.specs.declared.packed.sorted_file.SortedFile.{SortedFile}
 use Rattle.gix_ref_packed.specs.declared.packed.file.PackedFile.{PackedFile}
-use Rattle.gix_ref_packed.specs.declared.packed.file.PackedFile.TheVariants.{InFile, InMemory}
+use Rattle.gix_ref_packed.specs.declared.packed.file.PackedFile.TheVariants.{InFile, InMemory, AsItStands}
 use Rattle.gix_ref_target.specs.PackedRecords.{Record}
 use Rattle.gix_ref_packed_text.specs.declared.packed.decode.options.Header.{Header}
 use Rattle.gix_ref_packed.specs.declared.packed.buffer.open.Error.{Error}
@@ -16,6 +16,7 @@ use Rattle.gix_ref_packed.specs.declared.packed.sorted_file.FindError.TheVariant
 use Rattle.gix_ref_packed.specs.declared.packed.sorted_file.ReadError.TheVariants as reading
 use Rattle.gix_ref_packed_text.specs.OpenedText.{OpensTo, IsWellFormed}
 use Rattle.gix_ref_packed.specs.Buffers.{buffer_text, buffer_kind, buffer_line, HoldsRecords}
+use Rattle.gix_ref_packed.specs.Unsorted.{unsorted_records, unsorted_text}
 
 -- the records in a file, without the header
 abbrev pub sorted_file_text : {R : Type 0} {G : Ghosts R} → SortedFile R G → List ℕ
@@ -25,20 +26,24 @@ sorted_file_text {R} {G} s = drop s.base (G.bytes s.reader)
 abbrev pub packed_file_text : {R : Type 0} {G : Ghosts R} → PackedFile R G → List ℕ
 packed_file_text (InFile source kind) = sorted_file_text source
 packed_file_text (InMemory buffer) = buffer_text buffer
+packed_file_text (AsItStands records) = unsorted_text records
 
 abbrev pub packed_file_kind : {R : Type 0} {G : Ghosts R} → PackedFile R G → Kind
 packed_file_kind (InFile source kind) = kind
 packed_file_kind (InMemory buffer) = buffer_kind buffer
+packed_file_kind (AsItStands records) = buffer_kind (unsorted_records records)
 
 -- the number of the records' first line in the file, in which a header says that it is sorted
 abbrev pub packed_file_line : {R : Type 0} {G : Ghosts R} → PackedFile R G → ℕ
 packed_file_line (InFile source kind) = 2
 packed_file_line (InMemory buffer) = buffer_line buffer
+packed_file_line (AsItStands records) = buffer_line (unsorted_records records)
 
 -- the faults that were met in reading it; what is in memory is not read
 abbrev pub packed_file_faults : {R : Type 0} {G : Ghosts R} → PackedFile R G → FaultCounts
 packed_file_faults {R} {G} (InFile source kind) = G.faults source.reader
 packed_file_faults (InMemory buffer) = no_faults
+packed_file_faults (AsItStands records) = no_faults
 
 -- the file with these bytes is open for searches: of all its records where the header says sorted, else of the sorted ones
 pub record OpenedFile {R : Type 0} {G : Ghosts R} (kind : Kind) (bytes : List ℕ)

@@ -10,6 +10,7 @@ pub mod laws;
 mod prefixed;
 pub mod sorted_file;
 mod sorting;
+pub mod unsorted;
 
 pub use buffer::Buffer;
 pub use gix_ref_packed_text::packed::window::Found;

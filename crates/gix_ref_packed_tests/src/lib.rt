@@ -21,3 +21,5 @@ mod probes;
 mod raw;
 #[cfg(test)]
 mod rows;
+#[cfg(test)]
+mod unsorted;

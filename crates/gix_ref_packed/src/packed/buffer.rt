@@ -118,6 +118,27 @@ impl Buffer {
         }
     }
 
+    /// The buffer of a text whose records begin at a byte, and their first line has that number in the file.
+    pub(crate) fn from_start(bytes: Vec<u8>, start: usize, kind: Kind, first_line: u64) -> Buffer
+        requires inside { start ≤ vec_len bytes }
+        requires line { first_line ≤ 2 }
+        ensures text { buffer_text result ≡ drop start bytes.items }
+        ensures kind { buffer_kind result ≡ kind }
+        ensures line { buffer_line result ≡ first_line }
+    {
+        Buffer {
+            bytes,
+            start,
+            kind,
+            first_line,
+        }
+    }
+
+    /// What its memory was taken of.
+    pub(crate) fn alloc(&self) -> Global {
+        *self.bytes.allocator()
+    }
+
     /// The buffer of a text whose records are to be sorted.
     fn sorted(
         alloc: Global,

@@ -1,7 +1,7 @@
 //! A `packed-refs` that is searched where it is: opening it, and the search for a full name.
 ghost use Rattle.std.specs.Prelude.{◌≡◌, IfOk, IfErr, Err};
 ghost use Rattle.gix_ref_files.specs.Files.{FaultCounts};
-ghost use Rattle.gix_ref_packed.specs.Buffers.{IsRefusedBytes, count_open};
+ghost use Rattle.gix_ref_packed.specs.Buffers.{IsRefusedText, IsRefusedBytes, count_open};
 ghost use Rattle.gix_ref_packed.specs.FileSearches.{IsNoChange, count_read};
 ghost use Rattle.gix_ref_packed.specs.OpenFiles.{OpenedFile, FailsByRead};
 
@@ -10,21 +10,27 @@ use crate::packed::buffer::open::Error;
 use crate::packed::file_header::file_header;
 use crate::packed::find::ParseError;
 use crate::packed::sorted_file::{FindError, ReadError, SortedFile, read_window};
+use crate::packed::sorting::names_rise;
+use crate::packed::unsorted::Unsorted;
 use gix_ref_files::files::{FileError, Files, ReadAt};
 use gix_ref_hash::hash::Kind;
 use gix_ref_name::name::FullNameRef;
-use gix_ref_packed_text::packed::header_end::says_sorted;
+use gix_ref_packed_text::packed::header_end::{
+    HeaderEnd, first_line_behind, read_header_end, says_sorted,
+};
 use gix_ref_packed_text::packed::window::{Found, ids_of};
 use std::alloc::Global;
 
 /// A `packed-refs` that is open for searches: the file itself where its header says that it is sorted, and else its
-/// records in memory. Not in gix-ref, which maps the file into memory.
+/// records in memory. Not in gix-ref, which maps the file into memory and sorts the records at once.
 #[derive(Drop)]
 pub enum PackedFile<R: ReadAt + Drop> {
     /// The file is sorted: a search reads the parts of it that it needs.
     InFile { source: SortedFile<R>, kind: Kind },
-    /// The file was read as a whole, and its records were sorted.
+    /// The file was read as a whole, and its records are in the order of their names.
     InMemory(Buffer),
+    /// The file was read as a whole, and its records are in another order.
+    AsItStands(Unsorted),
 }
 
 /// The number of the first line after a header.
@@ -40,6 +46,28 @@ fn refusal(error: ReadError) -> Error
         ReadError::Io(error) => Error::Io(error),
         ReadError::Memory => Error::Memory,
         ReadError::Changed => unreachable!(),
+    }
+}
+
+/// Opens a text as `Buffer::from_bytes` does, but leaves records whose names do not rise as they stand.
+fn open_text<R: ReadAt + Drop>(bytes: Vec<u8>, kind: Kind) -> Result<PackedFile<R>, Error>
+    ensures opened { IfOk result (OpenedFile kind bytes.items) }
+    ensures refused { IfErr result (IsRefusedText kind bytes.items) }
+{
+    let Some(HeaderEnd { header, start }) = read_header_end(&bytes) else {
+        return Err(Error::HeaderParsing);
+    };
+    let records = Buffer::from_start(bytes, start, kind, first_line_behind(header));
+    if says_sorted(header) {
+        return Ok(PackedFile::InMemory(records));
+    }
+    match names_rise(records.as_bytes(), kind, records.first_line()) {
+        Ok(true) => Ok(PackedFile::InMemory(records)),
+        Ok(false) => match Unsorted::new(records) {
+            Ok(records) => Ok(PackedFile::AsItStands(records)),
+            Err(error) => Err(error),
+        },
+        Err(error) => Err(error),
     }
 }
 
@@ -68,10 +96,7 @@ fn open_reader<R: ReadAt + Drop>(
         Ok(()) => {}
         Err(error) => return Err(refusal(error)),
     }
-    match Buffer::from_bytes(alloc, bytes, kind) {
-        Ok(buffer) => Ok(PackedFile::InMemory(buffer)),
-        Err(error) => Err(error),
-    }
+    open_text(bytes, kind)
 }
 
 impl<R: ReadAt + Drop> PackedFile<R> {
@@ -98,8 +123,8 @@ impl<R: ReadAt + Drop> PackedFile<R> {
     ///
     /// Of a file whose header says `sorted` only the first 1 KB is read, and more where the header's line is longer; any
     /// other file is read as a whole, as `Buffer::open` reads it. `Io` where the file cannot be read, `HeaderParsing` where
-    /// it begins with `#` and has no header, `Iter` at the first line that is no record where the records are to be sorted,
-    /// and `Memory` where there was no memory for what is read.
+    /// it begins with `#` and has no header, `Iter` at the first line that is no record where the header does not say
+    /// `sorted`, and `Memory` where there was no memory for what is read.
     pub fn open<F: Files<Reader = R>>(
         alloc: Global,
         files: &mut F,
@@ -129,9 +154,29 @@ impl<R: ReadAt + Drop> PackedFile<R> {
         }
     }
 
-    /// The ids of the record of a full name, by halving; `None` where there is no such record. In a file a name among a
-    /// million records costs some seventeen reads of 1 KB. `Read` where the file cannot be read, `Parse` where a line
-    /// is malformed and nothing was found, or the record that was found cannot be read. As `Buffer::try_find_key`,
+    /// Sorts records that were searched so often that their order is worth it; `Memory` where there was no memory for that.
+    fn sort_if_worn(&mut self) -> Result<(), ReadError>
+        ensures text { packed_file_text self.new ≡ packed_file_text self.old }
+        ensures kind { packed_file_kind self.new ≡ packed_file_kind self.old }
+        ensures faults { packed_file_faults self.new ≡ packed_file_faults self.old }
+        ensures memory { IfErr result (λ error. error ≡ ReadError.Memory) }
+    {
+        let PackedFile::AsItStands(records) = self else {
+            return Ok(());
+        };
+        if !records.is_worn() {
+            return Ok(());
+        }
+        let sorted = records.sorted()?;
+        *self = PackedFile::InMemory(sorted);
+        Ok(())
+    }
+
+    /// The ids of the record of a full name; `None` where there is no such record. In a file, by halving: a name among a
+    /// million records costs some seventeen reads of 1 KB. In records that are not in the order of their names, one after the
+    /// other, which costs as much as a fifteenth of sorting them; a later search sorts them, so that many searches cost
+    /// twice the sorting at most. `Read` where the file cannot be read, or there was no memory for sorting; `Parse` where a
+    /// line is malformed and nothing was found, or the record that was found cannot be read. As `Buffer::try_find_key`,
     /// without the text in memory.
     ///
     /// ```text
@@ -152,6 +197,9 @@ impl<R: ReadAt + Drop> PackedFile<R> {
             ≡ count_find error (packed_file_faults self.old)) }
         ensures failed { IfErr result (FailsFindByRead R.faults) }
     {
+        if let Err(error) = self.sort_if_worn() {
+            return Err(FindError::Read(error));
+        }
         match self {
             PackedFile::InFile { source, kind } => source.find(*kind, name),
             PackedFile::InMemory(buffer) => match buffer.try_find_key(name) {
@@ -159,6 +207,7 @@ impl<R: ReadAt + Drop> PackedFile<R> {
                 Ok(None) => Ok(None),
                 Err(ParseError) => Err(FindError::Parse),
             },
+            PackedFile::AsItStands(records) => Ok(records.find(name)),
         }
     }
 
@@ -189,6 +238,7 @@ impl<R: ReadAt + Drop> PackedFile<R> {
                 source.read_prefixed(alloc, kind, prefix, LINE_BEHIND_HEADER)
             }
             PackedFile::InMemory(buffer) => Ok(buffer),
+            PackedFile::AsItStands(records) => records.sorted(),
         }
     }
 }

@@ -39,7 +39,7 @@ pub fn line_count(reference: &Reference<'_>) -> u64
 
 /// Whether no name in a text of records is below the one before it. It ends at the first that is, and what follows is not looked at.
 /// The first line has the number `first`; the error is `Iter` at the first line that is no record, among those that were read.
-fn names_rise(text: &[u8], kind: Kind, first: u64) -> Result<bool, Error>
+pub(crate) fn names_rise(text: &[u8], kind: Kind, first: u64) -> Result<bool, Error>
     requires { first ≤ 2 }
     ensures rise { IfOk result (λ rises. rises ≡ true →
         (rs : List Record) × Records kind text.now rs × Rising rs) }
@@ -63,6 +63,24 @@ fn names_rise(text: &[u8], kind: Kind, first: u64) -> Result<bool, Error>
         rest = after;
     }
     Ok(true)
+}
+
+/// Reads each record of the text. The first line has the number `first`; the error is `Iter` at the first line that is no record.
+pub(crate) fn check_records(text: &[u8], kind: Kind, first: u64) -> Result<(), Error>
+    requires { first ≤ 2 }
+    ensures whole { OnOk result ((rs : List Record) × Records kind text.now rs) }
+    ensures refused { IfErr result (IsStuck kind first text.now) }
+{
+    let mut rest = text;
+    let mut line = first;
+    while !rest.is_empty() {
+        let Some((reference, after)) = take_record(rest, kind) else {
+            return Err(Error::Iter { line_number: line });
+        };
+        line += line_count(&reference);
+        rest = after;
+    }
+    Ok(())
 }
 
 /// The records of the text, in their order. The first line has the number `first`.

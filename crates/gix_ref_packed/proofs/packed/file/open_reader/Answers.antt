@@ -1,5 +1,5 @@
 use Rattle.std.proofs.lemmas.List.{take_all, length-drop}
-use Rattle.std.proofs.Common.{◌≡◌, Bool, true, Option, Some, None, List, ℕ, [], ◌∷◌, arith, drop, take, length, refl, sym, ◌∙◌, ap, subst}
+use Rattle.std.proofs.Common.{◌≡◌, Bool, true, Option, Some, None, Result, Ok, Err, IfOk, IfErr, List, ℕ, [], ◌∷◌, arith, drop, take, length, refl, sym, ◌∙◌, ap, subst}
 use Rattle.gix_ref_hash.specs.declared.hash.Kind.{Kind}
 use Rattle.gix_ref_packed.specs.declared.packed.buffer.open.Error.{Error}
 use Rattle.gix_ref_packed.specs.declared.packed.buffer.open.Error.TheVariants.{Iter, HeaderParsing, Io, Memory}
@@ -46,11 +46,19 @@ whole_read w t u is len same = is ∙ take_all (length w) (drop 0 t) (omega (ari
     drop_zero [] = refl
     drop_zero (b ∷ t) = refl
 
+refused_result : {A : Type 0} (k : Kind) (t u : List ℕ) (r : Result A Error) → t ≡ u → IfErr r (IsRefusedText k t) → IfErr r (IsRefusedBytes k u)
+refused_result k t u (Ok a) same h = tt
+refused_result k t u (Err e) same h = refused_bytes k u e (subst (λ (x : List ℕ). IsRefusedText k x e) same h)
+
+opened_result : {A : Type 0} (P : List ℕ → A → Type 0) (t u : List ℕ) (r : Result A Error) → t ≡ u → IfOk r (P t) → IfOk r (P u)
+opened_result P t u (Ok a) same h = subst (λ (x : List ℕ). P x a) same h
+opened_result P t u (Err e) same h = tt
+
 pub returns-clause-refused : goal.returns-clause-refused
 returns-clause-refused g c = λ honest.
     let bytes = g.R.ReadAt.bytes c.args.reader in
     let whole : c.read_window.new.window.items ≡ bytes = whole_read c.read_window.new.window.items (g.R.ReadAt.bytes c.file_header.new.reader) bytes (c.in-Ok.ensures.read honest) (let one = c.in-Ok.ensures.len in let two = c.len-len.ensures.bytes honest in omega arith) c.file_header.ensures.same in
-    refused_bytes c.args.kind bytes c.in-Err-from_bytes.error (subst (λ (t : List ℕ). IsRefusedText c.args.kind t c.in-Err-from_bytes.error) whole c.in-Err-from_bytes.ensures.refused)
+    refused_result c.args.kind c.read_window.new.window.items bytes c.open_text.result whole c.open_text.ensures.refused
 
 pub returns-in-Err-clause-refused : goal.returns-in-Err-clause-refused
 returns-in-Err-clause-refused g c = λ honest. c.refusal.ensures.refused c.args.kind (g.R.ReadAt.bytes c.args.reader)

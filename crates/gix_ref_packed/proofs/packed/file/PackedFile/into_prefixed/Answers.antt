@@ -1,5 +1,11 @@
-use Rattle.std.proofs.Common.{length, refl, sym}
+use Rattle.std.proofs.Common.{◌≡◌, ◌∙◌, Result, Ok, Err, IfOk, ℕ, List, length, refl, sym, subst}
+use Rattle.gix_ref_hash.specs.declared.hash.Kind.{Kind}
+use Rattle.gix_ref_packed.specs.declared.packed.buffer.Buffer.{Buffer}
+use Rattle.gix_ref_packed.specs.declared.packed.sorted_file.ReadError.{ReadError}
+use Rattle.gix_ref_packed.specs.FilePrefixes.{HoldsPrefix, HoldsAsked, BufferHoldsAsked}
+use Rattle.gix_ref_packed_text.specs.Prefixes.{NamesAscend}
 use Rattle.gix_ref_packed.specs.Buffers.{buffer_text, buffer_kind, buffer_line}
+use Rattle.gix_ref_packed.specs.Unsorted.{unsorted_records, unsorted_text}
 use Rattle.gix_ref_packed.proofs.PrefixParts.{holds_all, whole_part}
 use Rattle.gix_ref_packed.proofs.packed.file.PackedFile.into_prefixed.Goals as goal
 
@@ -14,3 +20,21 @@ returns-in-InFile-clause-asked g c = λ honest. rw c.in-InFile.is (c.read_prefix
 
 pub returns-in-InMemory-clause-asked : goal.returns-in-InMemory-clause-asked
 returns-in-InMemory-clause-asked g c = λ honest. rw c.in-InMemory.is (λ ascend. (ascend, λ r asked. asked))
+
+-- all records are held
+sorted_holds : (kind : Kind) (text : List ℕ) (line : ℕ) (prefix : List ℕ) (r : Result Buffer ReadError) → IfOk r (λ b. buffer_text b ≡ text) → IfOk r (λ b. buffer_kind b ≡ kind) → IfOk r (λ b. buffer_line b ≡ line) → IfOk r (HoldsPrefix kind text line prefix)
+sorted_holds kind text line prefix (Ok b) is kind_is line_is = holds_all kind text prefix line b kind_is (length text) refl (is ∙ sym (whole_part text (length text) refl)) line_is
+sorted_holds kind text line prefix (Err e) is kind_is line_is = tt
+
+pub returns-in-AsItStands-clause-holds : goal.returns-in-AsItStands-clause-holds
+returns-in-AsItStands-clause-holds g c = λ honest. rw c.in-AsItStands.is
+    (let u = c.in-AsItStands.records in
+    sorted_holds (buffer_kind (unsorted_records u)) (unsorted_text u) (buffer_line (unsorted_records u)) c.args.prefix.now c.sorted.result c.sorted.ensures.text c.sorted.ensures.kind c.sorted.ensures.line)
+
+sorted_asked : (kind : Kind) (text prefix : List ℕ) (r : Result Buffer ReadError) → NamesAscend kind text → IfOk r (λ b. buffer_text b ≡ text) → IfOk r (BufferHoldsAsked kind text prefix)
+sorted_asked kind text prefix (Ok b) ascend is = subst (HoldsAsked kind text prefix) (sym is) (ascend, λ r asked. asked)
+sorted_asked kind text prefix (Err e) ascend is = tt
+
+pub returns-in-AsItStands-clause-asked : goal.returns-in-AsItStands-clause-asked
+returns-in-AsItStands-clause-asked g c = λ honest. rw c.in-AsItStands.is
+    (let u = c.in-AsItStands.records in λ ascend. sorted_asked (buffer_kind (unsorted_records u)) (unsorted_text u) c.args.prefix.now c.sorted.result ascend c.sorted.ensures.text)
