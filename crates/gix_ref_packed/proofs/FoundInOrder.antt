@@ -1,4 +1,4 @@
--- What a search among sorted records finds is the first record of the name as they stand.
+-- What a search among sorted records finds is the first record of the name in the order of their lines.
 use Rattle.std.proofs.Common.{◌≡◌, inr, ⊎_elim, ℕ, ◌+◌, ◌-◌, ◌<◌, zero, suc, Bool, true, false, cond, nat_eq, List, [], ◌∷◌, length, drop, get_or, refl, sym, ◌∙◌, ap, subst, arith, Option, Some, None, IfSome, IfNone, Ok}
 use Rattle.std.specs.List.{Contains}
 use Rattle.std.specs.List.Sorted.{IsPermutation}
@@ -134,7 +134,7 @@ module _ (k : Kind) (t n : List ℕ) (rs : List Record) (h : Records k t rs) whe
   none None = records_lines k (in_order k t) (records_in sorts.new) sorts.after
   none (Some f) = tt
 
-  -- what is found of the first record of the name, as the records stand
+  -- what is found of the first record of the name, in the order of the lines
   pub found_in_order : (found : Option Found) → AreFound (record_named n rs) found → FindsInFile k (in_order k t) n (Ok found)
   found_in_order found is = record {
     hit = hit found is;

@@ -20,7 +20,7 @@
 //!   empty at least one line of the form of a record: `Buffer::try_find_full`, `try_find_key`, `try_find`, `find`
 //! - what is opened on a well-formed text holds its records in the order of their names, in memory and in a file, each found by
 //!   its name: `packed::laws::opened_holds_records`
-//! - the same of an opened file whose names do not rise: it is searched as it stands, and holds its records as if they were in
+//! - the same of an opened file whose names do not rise: it is searched line by line, and holds its records as if they were in
 //!   order: `packed::file::PackedFile::find`, `into_prefixed`, `in_order` in `InOrder.antt`
 //! - at most as many looks as the number of bytes has binary digits: `Buffer::try_find_full`, `packed::search::search`
 //! - the same in a file that is not in memory; `Io` never holds `Memory`, and a fault is counted where the file could not be read

@@ -1,4 +1,4 @@
-//! A `packed-refs` whose names do not rise: it is searched as it stands, and once many searches were made, in order.
+//! A `packed-refs` whose names do not rise: it is searched line by line, and once many searches were made, in order.
 use crate::made::{full, id, stored};
 use gix_ref_hash::hash::{Kind, ObjectId};
 use gix_ref_memory::memory::MemoryReader;
@@ -68,7 +68,10 @@ fn opened(rt: &impl Abort, alloc: Global) -> PackedFile<MemoryReader> {
 #[test]
 fn each_of_many_searches_finds_the_record(rt: HostRuntime) {
     let mut packed = opened(&rt, rt.alloc());
-    assert!(rt; matches!(packed, PackedFile::AsItStands(_)), "as it stands");
+    assert!(rt;
+        matches!(packed, PackedFile::AsItStands(_)),
+        "not sorted yet"
+    );
     for _ in 0..8 {
         for &(name, target, object) in ROWS {
             let found = packed.find(full(&rt, name)).expect(&rt, "an answer");

@@ -134,7 +134,7 @@ impl Buffer {
         }
     }
 
-    /// What its memory was taken of.
+    /// The allocator of its bytes.
     pub(crate) fn alloc(&self) -> Global {
         *self.bytes.allocator()
     }

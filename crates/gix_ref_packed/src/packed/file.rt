@@ -49,7 +49,7 @@ fn refusal(error: ReadError) -> Error
     }
 }
 
-/// Opens a text as `Buffer::from_bytes` does, but leaves records whose names do not rise as they stand.
+/// Opens a text as `Buffer::from_bytes` does, but leaves records whose names do not rise in the order of their lines.
 fn open_text<R: ReadAt + Drop>(bytes: Vec<u8>, kind: Kind) -> Result<PackedFile<R>, Error>
     ensures opened { IfOk result (OpenedFile kind bytes.items) }
     ensures refused { IfErr result (IsRefusedText kind bytes.items) }

@@ -1,4 +1,4 @@
-//! A `packed-refs` in memory whose names do not rise: it is searched as it stands, until so many searches are made that sorting it is
+//! A `packed-refs` in memory whose names do not rise: it is searched line by line, until so many searches are made that sorting it is
 //! cheaper.
 ghost use Rattle.std.specs.Prelude.{◌≡◌, ◌≤◌, ℕ, List, true, length, Option};
 ghost use Rattle.std.specs.Option.{option_map};
@@ -22,7 +22,7 @@ use gix_ref_packed_text::packed::window::{Found, ids_of};
 /// After how many searches the records are sorted, at about the cost of so many searches more.
 const SEARCHES: u8 = 16;
 
-/// The records of a `packed-refs`, as they stand in it.
+/// The records of a `packed-refs`, in the order of their lines.
 #[derive(Drop)]
 pub struct Unsorted {
     records: Buffer,
