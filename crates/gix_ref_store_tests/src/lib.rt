@@ -1,17 +1,16 @@
-//! Tests of the store: folders, loose texts, lookups and listings.
+//! Tests of the store and of the layers above it.
+//!
+//! - `store`: folders, loose texts, lookups and listings.
+//! - `transaction`: whole transactions, random ones too, and ones that are stopped, fail or lose power.
+//! - `follow`: following and peeling references, and their reflogs.
+//! - `program`: runs of `refs` over the disk and in memory, a writer that fails, and what errors display.
 #![tactic(auto)]
 
 #[cfg(test)]
-mod buffers;
+mod follow;
 #[cfg(test)]
-mod folders;
+mod program;
 #[cfg(test)]
-mod listings;
+mod store;
 #[cfg(test)]
-mod loose;
-#[cfg(test)]
-mod slow;
-#[cfg(test)]
-mod slow_listings;
-#[cfg(test)]
-mod values;
+mod transaction;

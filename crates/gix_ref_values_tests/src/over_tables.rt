@@ -5,7 +5,7 @@ ghost use Rattle.gix_ref_edits.specs.LookUps.{referent_of};
 ghost use Rattle.gix_ref_edits.specs.MadeEntries.{edits_of};
 ghost use Rattle.gix_ref_edits.specs.SplitLists.{IsSplitList};
 
-use crate::made::{Fault, deletion};
+use crate::values::made::{Fault, deletion};
 use gix_ref_edits::transaction::{RefEdit, RefEditsExt, SplitError};
 use gix_ref_name::name::PartialNameRef;
 use gix_ref_target::target::Target;

@@ -1,4 +1,0 @@
-use Rattle.gix_ref_packed_tests.proofs.probes.counted.Given as goal
-
-abbrev pub ghosts-looks_for : goal.ghosts-looks_for
-ghosts-looks_for a = record { name = a.blank.name; parts = a.blank.parts }
