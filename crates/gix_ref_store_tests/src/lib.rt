@@ -13,4 +13,6 @@ mod program;
 #[cfg(test)]
 mod store;
 #[cfg(test)]
+mod texts;
+#[cfg(test)]
 mod transaction;

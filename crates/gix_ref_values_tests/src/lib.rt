@@ -14,6 +14,8 @@ mod files;
 #[cfg(test)]
 mod log;
 #[cfg(test)]
+mod made;
+#[cfg(test)]
 mod over_tables;
 #[cfg(test)]
 mod packed;

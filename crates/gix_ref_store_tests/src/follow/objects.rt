@@ -29,8 +29,8 @@ pub struct Tags {
     pub last: Last,
 }
 
-/// The number of an id.
-fn number_of(id: &ObjectId) -> u16 {
+/// The number in the first two bytes of an id.
+pub fn number_of(id: &ObjectId) -> u16 {
     match id.as_bytes() {
         [high, low, ..] => u16::from_be_bytes([*high, *low]),
         _ => 0,

@@ -1,6 +1,6 @@
 //! Peeling references.
 use crate::follow::made::{found, is_at, numbered, store};
-use crate::follow::objects::{Changing, Last, Tags};
+use crate::follow::objects::{Changing, Last, Tags, number_of};
 use gix_ref_follow::ReferenceExt;
 use gix_ref_follow::peel::to_id;
 use gix_ref_hash::hash::ObjectId;
@@ -22,14 +22,6 @@ enum Answer {
     Find,
     Memory,
     Other,
-}
-
-/// The number in the first two bytes of an id.
-fn number_of(id: &ObjectId) -> u16 {
-    match id.as_bytes() {
-        [high, low, ..] => u16::from_be_bytes([*high, *low]),
-        _ => 0,
-    }
 }
 
 fn answer_of(peeled: &Result<ObjectId, to_id::Error>, name: &str) -> Answer {

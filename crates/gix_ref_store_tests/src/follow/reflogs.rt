@@ -1,14 +1,11 @@
 //! The reflogs of references.
 use crate::follow::made::{found, store};
+use crate::texts::LINE;
 use gix_ref_follow::{LooseReferenceExt, ReferenceExt};
 use gix_ref_memory::memory::Memory;
 use gix_ref_store::file::{Store, loose};
 use gix_ref_store::raw::Reference;
 use std::alloc::Global;
-
-/// A line of a log.
-const LINE: &str =
-    "0000000000000000000000000000000000000000 1111111111111111111111111111111111111111 C <c@example.com> 1234 +0800\tm\n";
 
 /// Whether the log of a reference is read forward.
 fn is_forward(alloc: Global, store: &mut Store<Memory>, reference: &Reference) -> bool {

@@ -1,6 +1,7 @@
 //! The program over the disk, in a folder that the test makes and removes.
 use crate::program::listings::{FILES, WHOLE, memory_of};
-use crate::program::ran::{I1, I2, ONE, run_words};
+use crate::program::ran::{I1, I2, run_words};
+use crate::texts::ONE;
 use gix_ref_files::disk::Disk;
 use gix_ref_files::files::{Create, Files, Node};
 use gix_ref_program::run::run;

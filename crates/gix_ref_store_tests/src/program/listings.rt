@@ -1,5 +1,6 @@
 //! Rows of `list`: the files, the words, what is printed, and the status.
-use crate::program::ran::{Full, ONE, TWO};
+use crate::program::ran::Full;
+use crate::texts::{ONE, TWO};
 use gix_ref_files::files::Files;
 use gix_ref_memory::memory::Memory;
 use gix_ref_program::run::run;

@@ -10,11 +10,6 @@ pub const I1: &str = "1111111111111111111111111111111111111111";
 
 pub const I2: &str = "2222222222222222222222222222222222222222";
 
-/// Loose texts of two of them.
-pub const ONE: &str = "1111111111111111111111111111111111111111\n";
-
-pub const TWO: &str = "2222222222222222222222222222222222222222\n";
-
 /// The path of a branch, and its lock.
 pub const A: &str = "/r/refs/heads/a";
 

@@ -1,5 +1,6 @@
 //! Whole transactions over the disk, in a folder that the test fills, reads and removes by `std::fs` itself: each file is then as the
 //! row says, there is no other, and so it is in memory.
+use crate::texts::{LINE, ONE, TWO};
 use crate::transaction::made::{Edit, Expect, To, Who, given, signature};
 use crate::transaction::random::uses;
 use crate::transaction::stores::Puts;
@@ -25,14 +26,7 @@ struct Row {
     meaning: &'static str,
 }
 
-const ONE: &str = "1111111111111111111111111111111111111111\n";
-
-const TWO: &str = "2222222222222222222222222222222222222222\n";
-
 const MAIN: &str = "ref: refs/heads/main\n";
-
-const LINE: &str =
-    "0000000000000000000000000000000000000000 1111111111111111111111111111111111111111 C <c@example.com> 1234 +0800\tm\n";
 
 const ROWS: &[Row] = &[
     Row {

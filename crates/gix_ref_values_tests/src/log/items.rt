@@ -1,6 +1,7 @@
 //! The items of logs from either end.
-use crate::log::made::{ONES, ZEROS, joined};
+use crate::log::made::{ZEROS, joined};
 use crate::log::reader::{Counted, Tally};
+use crate::made::ONES;
 use gix_ref_files::files::FileError;
 use gix_ref_log::log::iter::{EmptyBuffer, ReverseError, decode, forward, reverse};
 use std::alloc::Global;

@@ -1,6 +1,7 @@
 //! Lines of reflogs: which texts are read, what is written, and what cannot be (`git reflog`, `git update-ref`).
-use crate::log::made::{ONES, ZEROS, committer, copy, id, joined};
+use crate::log::made::{ZEROS, committer, joined};
 use crate::log::writer::Slow;
+use crate::made::{ONES, copy, id};
 use gix_ref_hash::hash::Kind;
 use gix_ref_log::log::{AppendError, Line, LineRef, WriteError};
 use std::alloc::Global;

@@ -1,5 +1,5 @@
 //! Signatures: which texts are read, what is written, and what cannot be (`git commit-tree`).
-use crate::log::made::copy;
+use crate::made::copy;
 use gix_ref_log::actor::{SignatureRef, Time, WriteError};
 use std::process::Abort;
 

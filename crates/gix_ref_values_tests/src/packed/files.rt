@@ -1,5 +1,6 @@
 //! The search in a file that stays where it is, with reads that fail.
-use crate::packed::made::{NAMES, TEXT, full, id, sorted, stored};
+use crate::made::{full, id};
+use crate::packed::made::{NAMES, TEXT, sorted, stored};
 use gix_ref_files::files::{Files, ReadAt};
 use gix_ref_hash::hash::Kind;
 use gix_ref_name::name::FullNameRef;

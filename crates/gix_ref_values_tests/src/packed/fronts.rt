@@ -1,6 +1,7 @@
 //! The search in memory and the search in a file give the same result on every front of a text, and with every byte
 //! of it replaced; and so do listings.
-use crate::packed::made::{CRLF, NAMES, TEXT, buffer, copied, full, sorted, stored};
+use crate::made::full;
+use crate::packed::made::{CRLF, NAMES, TEXT, buffer, copied, sorted, stored};
 use gix_ref_files::files::Files;
 use gix_ref_hash::hash::{Kind, ObjectId};
 use gix_ref_memory::memory::Memory;

@@ -1,7 +1,6 @@
-//! Values for tests of packed references: a text that is not what the test means it to be ends the test.
-use gix_ref_hash::hash::{Kind, ObjectId};
+//! Values for tests of packed references.
+use gix_ref_hash::hash::Kind;
 use gix_ref_memory::memory::Memory;
-use gix_ref_name::name::{FullNameRef, PartialNameRef};
 use gix_ref_packed::packed::Buffer;
 use std::alloc::Global;
 use std::process::Abort;
@@ -37,18 +36,6 @@ pub fn sorted(rt: &impl Abort, alloc: Global, text: &[u8]) -> Vec<u8> {
 
 pub fn buffer(rt: &impl Abort, alloc: Global, text: &[u8]) -> Buffer {
     Buffer::from_bytes(alloc, copied(rt, alloc, text), Kind::Sha1).expect(rt, "a buffer")
-}
-
-pub fn full<'a>(rt: &impl Abort, text: &'a str) -> FullNameRef<'a> {
-    FullNameRef::try_from(text).expect(rt, "a full name")
-}
-
-pub fn partial<'a>(rt: &impl Abort, text: &'a str) -> PartialNameRef<'a> {
-    PartialNameRef::try_from(text).expect(rt, "a partial name")
-}
-
-pub fn id(rt: &impl Abort, digits: &[u8]) -> ObjectId {
-    ObjectId::from_hex(digits).expect(rt, "an id")
 }
 
 /// Files with one `packed-refs` in them, below the folder `r`.

@@ -1,12 +1,10 @@
 //! A hundred thousand records, out of their order: opened, listed and searched.
-use crate::packed::made::full;
+use crate::made::{ONES, full};
 use gix_ref_hash::hash::Kind;
 use gix_ref_packed::packed::Buffer;
 use gix_ref_packed::packed::written::push_record;
 use std::alloc::Global;
 use std::process::Abort;
-
-const ONES: &[u8] = b"1111111111111111111111111111111111111111";
 
 /// So many records, the last name first.
 fn descending(rt: &impl Abort, alloc: Global, count: u32) -> Vec<u8> {

@@ -1,14 +1,13 @@
 //! A header that says `sorted` over names that descend, and over doubled names: the records stay as they are, and a search
 //! finds what git finds. The wanted results are those of `git rev-parse --verify` and `git show-ref` of git 2.39.5 for the
 //! same texts.
-use crate::packed::made::{buffer, copied, full, id, sorted, stored};
+use crate::made::{ONES, full, id};
+use crate::packed::made::{buffer, copied, sorted, stored};
 use gix_ref_hash::hash::{Kind, ObjectId};
 use gix_ref_packed::packed::Iter;
 use gix_ref_packed::packed::file::PackedFile;
 use std::alloc::Global;
 use std::process::Abort;
-
-const ONES: &[u8] = b"1111111111111111111111111111111111111111";
 
 const TWOS: &[u8] = b"2222222222222222222222222222222222222222";
 

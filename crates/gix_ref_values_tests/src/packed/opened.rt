@@ -1,5 +1,6 @@
 //! A `packed-refs` that is opened: as a buffer, and for searches in its file.
-use crate::packed::made::{SORTED, full, id, stored};
+use crate::made::{full, id};
+use crate::packed::made::{SORTED, stored};
 use gix_ref_files::files::Files;
 use gix_ref_hash::hash::Kind;
 use gix_ref_memory::memory::Memory;

@@ -1,4 +1,5 @@
 //! Of an opened file only the records of a prefix are read, with the numbers of its lines.
+use crate::made::ONES;
 use crate::packed::made::{copied, sorted, stored};
 use gix_ref_hash::hash::Kind;
 use gix_ref_memory::memory::Memory;
@@ -9,8 +10,6 @@ use gix_ref_packed::packed::sorted_file::ReadError;
 use gix_ref_packed::packed::written::push_record;
 use std::alloc::Global;
 use std::process::Abort;
-
-const ONES: &[u8] = b"1111111111111111111111111111111111111111";
 
 /// What two tags and a peeled one are written as; the last is not the last of all records.
 const TAGS: &[u8] = b"2222222222222222222222222222222222222222 refs/tags/v1\n\

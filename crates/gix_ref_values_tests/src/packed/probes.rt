@@ -1,7 +1,8 @@
 //! How many looks a search makes, counted as the program runs.
 ghost use Rattle.std.specs.Prelude.{◌≡◌, ◌<◌};
 
-use crate::packed::made::{NAMES, TEXT, buffer, full, sorted};
+use crate::made::full;
+use crate::packed::made::{NAMES, TEXT, buffer, sorted};
 use gix_ref_hash::hash::Kind;
 use gix_ref_name::name::FullNameRef;
 use gix_ref_packed::packed::search::search;

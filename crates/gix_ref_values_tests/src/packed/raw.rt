@@ -1,5 +1,6 @@
 //! References as values: made of a record, copied, and inside of a namespace.
-use crate::packed::made::{NAMES, TEXT, buffer, full, id, partial};
+use crate::made::{full, id, partial};
+use crate::packed::made::{NAMES, TEXT, buffer};
 use gix_ref_name::namespace::expand;
 use gix_ref_packed::raw::Reference;
 use gix_ref_target::target::{Kind, Target};

@@ -1,5 +1,6 @@
 //! Worked cases: records that are removed and put, and what is copied of the others.
-use gix_ref_hash::hash::{Kind, ObjectId};
+use crate::made::id;
+use gix_ref_hash::hash::Kind;
 use gix_ref_packed_text::edit::{NewRecord, RecordEdit};
 use gix_ref_packed_text::error::Error;
 use gix_ref_packed_text::outcome::Rewrite;
@@ -175,10 +176,6 @@ fn sizes(rt: HostRuntime) {
         Ok(Rewrite::Text(text)) => assert!(rt; text.len() == 99),
         _ => assert!(rt; false, "a text"),
     }
-}
-
-fn id(rt: &impl Abort, digits: &[u8]) -> ObjectId {
-    ObjectId::from_hex(digits).expect(rt, "an id")
 }
 
 #[test]

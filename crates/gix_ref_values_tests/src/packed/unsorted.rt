@@ -1,5 +1,6 @@
 //! A `packed-refs` whose names do not rise: it is searched line by line, and once many searches were made, in order.
-use crate::packed::made::{full, id, stored};
+use crate::made::{full, id};
+use crate::packed::made::stored;
 use gix_ref_hash::hash::{Kind, ObjectId};
 use gix_ref_memory::memory::MemoryReader;
 use gix_ref_packed::packed::Found;

@@ -1,6 +1,7 @@
 //! What a partial name may be short for, devices of Windows, and the forms of Unicode.
+use crate::made::partial;
 use crate::uses::candidates_of;
-use crate::values::made::{full_name, partial};
+use crate::values::made::full_name;
 use gix_ref_name::name::candidates::remote_head;
 use gix_ref_name::name::compose::{compose, decompose};
 use gix_ref_name::name::device::{has_device_name, is_device_name};

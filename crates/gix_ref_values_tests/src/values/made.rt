@@ -1,20 +1,12 @@
-//! Values for tests. A text that is not what the test means it to be ends the test.
+//! Values for tests of names, targets and edits.
+use crate::made::{full, id, partial};
 use gix_ref_edits::transaction::{Change, EditEntry, LogChange, PreviousValue, RefEdit, RefLog};
-use gix_ref_hash::hash::ObjectId;
-use gix_ref_name::name::{FullName, FullNameRef, PartialName, PartialNameRef};
+use gix_ref_name::name::{FullName, PartialName, PartialNameRef};
 use gix_ref_name::namespace::{Namespace, expand};
 use gix_ref_target::target::Target;
-use std::alloc::{AllocError, Global};
+use std::alloc::Global;
 use std::fmt::Display;
 use std::process::Abort;
-
-pub fn full<'a>(rt: &impl Abort, text: &'a str) -> FullNameRef<'a> {
-    FullNameRef::try_from(text).expect(rt, "a full name")
-}
-
-pub fn partial<'a>(rt: &impl Abort, text: &'a str) -> PartialNameRef<'a> {
-    PartialNameRef::try_from(text).expect(rt, "a partial name")
-}
 
 pub fn bytes(rt: &impl Abort, alloc: Global, text: &str) -> Vec<u8> {
     text.as_bytes().to_vec(alloc).expect(rt, "memory")
@@ -32,17 +24,8 @@ pub fn namespace(rt: &impl Abort, alloc: Global, text: &str) -> Namespace {
     expand(alloc, partial(rt, text)).expect(rt, "memory")
 }
 
-pub fn id(rt: &impl Abort, digits: &[u8]) -> ObjectId {
-    ObjectId::from_hex(digits).expect(rt, "an id")
-}
-
 pub fn shown<T: Display>(rt: &impl Abort, alloc: Global, value: &T) -> String {
     value.to_string(alloc).expect(rt, "memory")
-}
-
-pub fn copy<T: Clone>(rt: &impl Abort, value: &T) -> T {
-    let made: Result<T, AllocError> = value.clone();
-    made.expect(rt, "memory")
 }
 
 /// The object whose id is forty times this digit.

@@ -1,5 +1,6 @@
 //! Names: the grammar, with the results of `git check-ref-format`, and what names are made of.
-use crate::values::made::{bytes, copy, full, full_name, partial, partial_name, shown};
+use crate::made::{copy, full, partial};
+use crate::values::made::{bytes, full_name, partial_name, shown};
 use gix_ref_name::name::{Error, FullName, FullNameRef, PartialName};
 use std::alloc::{AllocError, Global};
 use std::collections::HashSet;

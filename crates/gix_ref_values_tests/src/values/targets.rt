@@ -1,5 +1,6 @@
 //! Targets of references.
-use crate::values::made::{copy, full, full_name, id, shown};
+use crate::made::{copy, full, id};
+use crate::values::made::{full_name, shown};
 use gix_ref_hash::hash::ObjectId;
 use gix_ref_target::target::{Target, TargetRef};
 
