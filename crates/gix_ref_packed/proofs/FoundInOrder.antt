@@ -22,11 +22,8 @@ use Rattle.gix_ref_packed_text.proofs.RecordPlaces.{parts_of, form_of, front_of,
 use Rattle.gix_ref_packed.specs.FileSearches.{FindsInFile}
 use Rattle.gix_ref_packed.specs.InOrder.{in_order}
 use Rattle.gix_ref_packed.proofs.RecordsInOrder.{order_sorts}
+use Rattle.gix_ref_packed.proofs.PrefixParts.{drop_zero}
 use Rattle.gix_ref_packed.proofs.WellFormedLemmas.{distinct_counts, same_named}
-
-drop_none : (t : List ℕ) → drop 0 t ≡ t
-drop_none [] = refl
-drop_none (b ∷ t) = refl
 
 -- each record of a text begins a line
 record_at : (k : Kind) (t : List ℕ) (rs : List Record) → Records k t rs → (i : ℕ) (d : Record) → i < length rs → RecordBeginsLine k t (get_or rs i d)
@@ -35,7 +32,7 @@ record_at k t (r ∷ rs) h zero d within = record {
   start = 0;
   line = λ some. absurd (omega arith);
   rest = h.0;
-  takes = subst (λ (u : List ℕ). Takes k u r h.0) (sym (drop_none t)) h.1;
+  takes = subst (λ (u : List ℕ). Takes k u r h.0) (sym (drop_zero t)) h.1;
 }
 record_at k t (r ∷ rs) h (suc i) d within =
     let more = record_at k h.0 rs h.2 i d (omega arith) in
@@ -70,7 +67,7 @@ records_lines k t (r ∷ rs) h some = record {
   };
   name = r.name;
   some = some_name r.name h.1.valid;
-  named = subst (λ (u : List ℕ). NameAt k u r.name) (sym (drop_none t)) (r.target, h.1.after, h.1.line);
+  named = subst (λ (u : List ℕ). NameAt k u r.name) (sym (drop_zero t)) (r.target, h.1.after, h.1.line);
 }
 
 -- the lines of a text of records have the form of no others

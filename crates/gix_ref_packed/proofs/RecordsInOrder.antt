@@ -1,6 +1,9 @@
 -- Sorting keeps of a text of records just these records in the order of their names, and what a search in that finds.
 use Rattle.std.proofs.Common.{◌≡◌, ◌≢◌, ⊎_elim, ℕ, ◌+◌, ◌*◌, ◌==◌, ◌&&◌, Bool, true, false, not, cond, if◌then◌else◌, List, [], ◌∷◌, ◌++◌, map, length, drop, refl, sym, ◌∙◌, ap, subst, arith, append-nil, append_assoc, length-append, ne_eqb}
 use Rattle.std.specs.List.{All, AllPass, flat_map, take_while}
+use Rattle.std.specs.List.Sorted.{IsPermutation, IsSortedByKey, IsStableByKey}
+use Rattle.std.specs.Cmp.Lexicographic.{slice_cmp}
+use Rattle.std.specs.Ordering.{nat_cmp}
 use Rattle.std.proofs.lemmas.List.{append_cancel_right, drop_at}
 use Rattle.std.proofs.lemmas.List.Elements.{All-head, All-tail, All-cons, All-nil}
 use Rattle.std.proofs.lemmas.List.Sums.{take_while-cons}
@@ -15,7 +18,9 @@ use Rattle.gix_ref_packed_text.proofs.RecordPlaces.{NoLf, Parts, parts_of, form_
 use Rattle.gix_ref_packed_text.proofs.RecordBytes.{records_stop}
 use Rattle.gix_ref_packed.specs.InOrder.{sorted_by, begins_with_caret, add_to_first, record_lines, name_in_lines, in_order}
 use Rattle.gix_ref_packed.proofs.InOrderLemmas.{NeverFalls, sorted_never_falls, sorted_moves, sorted_stable, sorts_once, sorted_images, sorted_same}
-use Rattle.gix_ref_packed.proofs.SortedPieces.{pieces_of, pieces_together}
+use Rattle.gix_ref_packed.specs.declared.packed.sorting.Entry.{Entry}
+use Rattle.gix_ref_packed.specs.internal.Entries.{entry_record, entry_piece, entry_ref_name, entry_bytes}
+use Rattle.gix_ref_packed.proofs.SortedPieces.{pieces_of, pieces_together, same_bytes_in, same_records_in, sorts}
 
 abbrev piece_name : Piece → List ℕ
 piece_name p = p.said.name
@@ -133,6 +138,30 @@ one_order old new s =
     (λ p has. s.stable p (Contains-permutation new old p (IsPermutation-sym old new s.moved) has) ∙ sym (sorted_stable piece_name old p))
     (λ p has. s.stable p (Contains-permutation held old p (IsPermutation-sym old held moved) has) ∙ sym (sorted_stable piece_name old p))
 
+-- pieces whose names rise stay in their order
+stays_so : (old new : List Piece) → SortsByName old new → Rising (records_in old) → new ≡ old
+stays_so old new s up = one_order old new s ∙ sym (one_order old old (record { moved = IsPermutation-refl old; rises = up; stable = λ p has. refl }))
+
+-- the sorted records are kept
+pub keeps_sorted : (k : Kind) (t kept : List ℕ) (es fs ds : List Entry) → ds ≡ fs → Records k t (map entry_record es) → All (IsPiece k) (map entry_piece es) → t ≡ flat_map entry_bytes es → IsPermutation es fs → IsSortedByKey entry_ref_name (slice_cmp nat_cmp) fs → IsStableByKey entry_ref_name (slice_cmp nat_cmp) es fs → kept ≡ flat_map entry_bytes ds → SortsText k t kept
+keeps_sorted k t kept es fs ds same records pieces cut moved up stable is =
+    let old = map entry_piece es in
+    let new = map entry_piece fs in
+    let whole : kept ≡ bytes_in new = is ∙ ap (flat_map entry_bytes) same ∙ sym (same_bytes_in fs) in
+    let bytes : t ≡ bytes_in old = cut ∙ sym (same_bytes_in es) in
+    let order = sorts es fs moved up stable in
+    record {
+      old = old;
+      new = new;
+      pieces = pieces;
+      cut = bytes;
+      sorts = order;
+      joined = whole;
+      stays = λ rises. whole ∙ ap bytes_in (stays_so old new order rises) ∙ sym bytes;
+      before = subst (Records k t) (sym (same_records_in es)) records;
+      after = subst (λ (u : List ℕ). Records k u (records_in new)) (sym whole) (pieces_together k new (All-permutation (IsPiece k) old new order.moved pieces));
+    }
+
 -- what sorting keeps of a text is that
 pub kept_is : (k : Kind) (t kept : List ℕ) → SortsText k t kept → kept ≡ in_order k t
 kept_is k t kept s = s.joined ∙ ap bytes_in (one_order s.old s.new s.sorts) ∙ sym (order_is k t s.old s.pieces s.cut)
@@ -152,7 +181,7 @@ order_sorts k t rs h =
       cut = ps.2;
       sorts = sorts;
       joined = is;
-      stays = λ up. is ∙ ap bytes_in (sym (one_order ps.0 ps.0 (record { moved = IsPermutation-refl ps.0; rises = up; stable = λ p has. refl }))) ∙ sym ps.2;
+      stays = λ up. is ∙ ap bytes_in (stays_so ps.0 new sorts up) ∙ sym ps.2;
       before = subst (Records k t) (sym ps.3) h;
       after = subst (λ (u : List ℕ). Records k u (records_in new)) (sym is) (pieces_together k new (All-permutation (IsPiece k) ps.0 new moved ps.1));
     }

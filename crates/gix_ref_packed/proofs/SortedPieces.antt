@@ -1,12 +1,12 @@
 -- Records that were read, each with its bytes, in the order of their names.
-use Rattle.std.proofs.Common.{◌≡◌, ℕ, ◌+◌, ◌<◌, Bool, true, false, cond, List, [], ◌∷◌, ◌++◌, map, length, get_or, take, refl, sym, ◌∙◌, ap, subst, arith, is_lt, suc, append-nil, append_assoc}
+use Rattle.std.proofs.Common.{◌≡◌, ℕ, ◌+◌, ◌<◌, ◌==◌, eqb-true, Bool, true, false, cond, List, [], ◌∷◌, ◌++◌, map, length, get_or, take, refl, sym, ◌∙◌, ap, subst, arith, is_lt, suc, append-nil, append_assoc}
 use Rattle.std.specs.List.{All, filter, flat_map}
 use Rattle.std.specs.List.Sorted.{IsPermutation, IsSortedByKey, IsStableByKey, ties}
 use Rattle.std.specs.Cmp.Lexicographic.{slice_cmp}
 use Rattle.std.specs.Ordering.{nat_cmp}
 use Rattle.std.proofs.lemmas.List.{get_or-map, length-map, map-append}
 use Rattle.std.proofs.lemmas.List.Elements.{All-head, All-tail, All-append, All-cons, All-nil, All-weaker}
-use Rattle.std.proofs.lemmas.List.Sorted.{IsPermutation-map, IsPermutation-refl, All-permutation}
+use Rattle.std.proofs.lemmas.List.Sorted.{IsPermutation-map, IsPermutation-refl}
 use Rattle.gix_ref_hash.specs.declared.hash.Kind.{Kind}
 use Rattle.gix_ref_packed.specs.declared.packed.sorting.Entry.{Entry}
 use Rattle.std.proofs.lemmas.Grind.{flat_map-append}
@@ -15,9 +15,6 @@ use Rattle.gix_ref_packed_text.specs.RecordGrammar.{Takes, Records, Below, Risin
 use Rattle.gix_ref_packed_text.specs.OpenedText.{Piece, IsPiece, SortsByName, SortsText, is_lower, records_in, bytes_in, Fronts, lines_of, line_count}
 use Rattle.gix_ref_packed.specs.internal.Entries.{entry_record, entry_piece, entry_ref_name, entry_bytes}
 use Rattle.gix_ref_packed_text.proofs.RecordBytes.{lines_taken, front_is, records_stop, fronts_more, fronts_all, lines_more}
-use Rattle.gix_ref_packed_text.proofs.OneReading.{same_record}
-use Rattle.gix_ref_packed_text.proofs.ReadBack.{same_records}
-use Rattle.gix_ref_packed_text.proofs.RecordPlaces.{shorter_record}
 use Rattle.gix_ref_packed_text.proofs.LowerBounds.{below_or}
 
 pub piece_taken : (k : Kind) (e : Entry) (t rest : List ℕ) (n : ℕ) → Takes k t (entry_record e) rest → entry_bytes e ≡ take n t → n + length rest ≡ length t → IsPiece k (entry_piece e)
@@ -33,11 +30,11 @@ pieces_together k (p ∷ ps) all =
     let here = All-head (IsPiece k) p ps all in
     (bytes_in ps, here (bytes_in ps) (records_stop k (bytes_in ps) (records_in ps) more), more)
 
-same_records_in : (es : List Entry) → records_in (map entry_piece es) ≡ map entry_record es
+pub same_records_in : (es : List Entry) → records_in (map entry_piece es) ≡ map entry_record es
 same_records_in [] = refl
 same_records_in (e ∷ es) = ap (λ rs. entry_record e ∷ rs) (same_records_in es)
 
-same_bytes_in : (es : List Entry) → bytes_in (map entry_piece es) ≡ flat_map entry_bytes es
+pub same_bytes_in : (es : List Entry) → bytes_in (map entry_piece es) ≡ flat_map entry_bytes es
 same_bytes_in [] = refl
 same_bytes_in (e ∷ es) = ap (λ t. entry_bytes e ++ t) (same_bytes_in es)
 
@@ -134,54 +131,27 @@ keeps_text k t rs h up =
       after = records;
     }
 
--- the sorted records are kept
-pub keeps_sorted : (k : Kind) (t kept : List ℕ) (rs : List Record) (es fs ds : List Entry) → ds ≡ fs → Records k t rs → (Rising rs → ⊥) → Records k t (map entry_record es) → All (IsPiece k) (map entry_piece es) → t ≡ flat_map entry_bytes es → IsPermutation es fs → IsSortedByKey entry_ref_name (slice_cmp nat_cmp) fs → IsStableByKey entry_ref_name (slice_cmp nat_cmp) es fs → kept ≡ flat_map entry_bytes ds → SortsText k t kept
-keeps_sorted k t kept rs es fs ds same all falls records pieces cut moved up stable is =
-    let whole : kept ≡ bytes_in (map entry_piece fs) = is ∙ ap (flat_map entry_bytes) same ∙ sym (same_bytes_in fs) in
-    let order = sorts es fs moved up stable in
-    record {
-      old = map entry_piece es;
-      new = map entry_piece fs;
-      pieces = pieces;
-      cut = cut ∙ sym (same_bytes_in es);
-      sorts = order;
-      joined = whole;
-      stays = λ rises. absurd (falls (subst Rising (same_records_in es ∙ same_records k t (map entry_record es) rs records all) rises));
-      before = subst (Records k t) (sym (same_records_in es)) records;
-      after = subst (λ (u : List ℕ). Records k u (records_in (map entry_piece fs))) (sym whole) (pieces_together k (map entry_piece fs) (All-permutation (IsPiece k) (map entry_piece es) (map entry_piece fs) order.moved pieces));
-    }
-
 -- ---- records, read one by one
 
--- what was read of the text
-pub record ReadSoFar (k : Kind) (t rest : List ℕ) (first line : ℕ) : Type 0 where
-  pub read : List Record
-  pub fronts : Fronts k t read rest
-  pub number : line ≡ first + line_count read
-
-pub read_more : (k : Kind) (t mid : List ℕ) (first line : ℕ) (r : Record) (rest : List ℕ) (count : ℕ) → ReadSoFar k t mid first line → Takes k mid r rest → count ≡ line + lines_of r → ReadSoFar k t rest first count
-read_more k t mid first line r rest count was takes sum =
-    let lines = lines_more was.read r in
-    let number = was.number in
-    record { read = was.read ++ r ∷ []; fronts = fronts_more k t was.read mid r rest was.fronts takes; number = omega arith }
-
--- ---- names that do not descend, read one by one
+pub no_bytes : (t : List ℕ) → (length t == 0) ≡ true → t ≡ []
+no_bytes [] none = refl
+no_bytes (b ∷ t) none = let bad : length (b ∷ t) ≡ 0 = eqb-true _ _ none in absurd (omega arith)
 
 abbrev pub last_name : List Record → List ℕ
 last_name [] = []
 last_name (r ∷ []) = r.name
 last_name (r ∷ s ∷ rs) = last_name (s ∷ rs)
 
--- what was read of the text: whether the names rise so far, and the last of them
-pub record Reads (k : Kind) (t rest last : List ℕ) (first line : ℕ) : Type 0 where
+-- what was read of the text, the last name in it, and that names rise where that is said
+pub record Reads (k : Kind) (t rest last : List ℕ) (rises : Bool) (first line : ℕ) : Type 0 where
   pub read : List Record
   pub fronts : Fronts k t read rest
   pub number : line ≡ first + line_count read
   pub last_is : last ≡ last_name read
-  pub rise : Rising read
+  pub rise : rises ≡ true → Rising read
 
-pub nothing_read : (k : Kind) (t : List ℕ) (first : ℕ) → Reads k t t [] first first
-nothing_read k t first = record { read = []; fronts = refl; number = omega arith; last_is = refl; rise = tt }
+pub nothing_read : (k : Kind) (t : List ℕ) (first : ℕ) → Reads k t t [] true first first
+nothing_read k t first = record { read = []; fronts = refl; number = omega arith; last_is = refl; rise = λ so. tt }
 
 last_more : (rs : List Record) (r : Record) → last_name (rs ++ r ∷ []) ≡ r.name
 last_more [] r = refl
@@ -199,30 +169,9 @@ rising_more (x ∷ y ∷ rs) r up above =
     let P : Record → Type 0 = λ s. Below s.name x.name → ⊥ in
     (All-append P (y ∷ rs) (r ∷ []) up.0 (All-cons P r [] (λ below. above (below_or r.name x.name (last_name (y ∷ rs)) below (not_below_last y rs x up.0))) (All-nil P)), rising_more (y ∷ rs) r up.1 above)
 
-rising_front : (rs more : List Record) → Rising (rs ++ more) → Rising rs
-rising_front [] more up = tt
-rising_front (x ∷ rs) more up = (front rs up.0, rising_front rs more up.1)
-  where
-    front : (xs : List Record) → All (λ s. Below s.name x.name → ⊥) (xs ++ more) → All (λ s. Below s.name x.name → ⊥) xs
-    front [] all = All-nil (λ s. Below s.name x.name → ⊥)
-    front (y ∷ ys) all = All-cons (λ s. Below s.name x.name → ⊥) y ys (All-head (λ s. Below s.name x.name → ⊥) y (ys ++ more) all) (front ys (All-tail (λ s. Below s.name x.name → ⊥) y (ys ++ more) all))
-
-last_of_all : (P : Record → Type 0) (xs : List Record) (r : Record) → All P (xs ++ r ∷ []) → P r
-last_of_all P [] r all = All-head P r [] all
-last_of_all P (x ∷ xs) r all = last_of_all P xs r (All-tail P x (xs ++ r ∷ []) all)
-
-rising_last : (rs : List Record) (r : Record) → Rising (rs ++ r ∷ []) → Below r.name (last_name rs) → ⊥
-rising_last [] r up below = not_below_nothing r.name below
-  where
-    not_below_nothing : (n : List ℕ) → Below n [] → ⊥
-    not_below_nothing [] below = cc
-    not_below_nothing (b ∷ n) below = cc
-rising_last (x ∷ []) r up below = All-head (λ s. Below s.name x.name → ⊥) r [] up.0 below
-rising_last (x ∷ y ∷ rs) r up below = rising_last (y ∷ rs) r up.1 below
-
-pub reads_more : (k : Kind) (t mid last : List ℕ) (first line : ℕ) (r : Record) (rest name : List ℕ) (count : ℕ) → Reads k t mid last first line → Takes k mid r rest → count ≡ line + lines_of r → name ≡ r.name
-    → (Below name last → ⊥) → Reads k t rest name first count
-reads_more k t mid last first line r rest name count was takes sum is above =
+pub reads_more : (k : Kind) (t mid last : List ℕ) (rises : Bool) (first line : ℕ) (r : Record) (rest name : List ℕ) (still : Bool) (count : ℕ) → Reads k t mid last rises first line → Takes k mid r rest → count ≡ line + lines_of r → name ≡ r.name
+    → (still ≡ true → (rises ≡ true) × (Below name last → ⊥)) → Reads k t rest name still first count
+reads_more k t mid last rises first line r rest name still count was takes sum is above =
     let lines = lines_more was.read r in
     let number = was.number in
     record {
@@ -230,26 +179,10 @@ reads_more k t mid last first line r rest name count was takes sum is above =
       fronts = fronts_more k t was.read mid r rest was.fronts takes;
       number = omega arith;
       last_is = is ∙ sym (last_more was.read r);
-      rise = rising_more was.read r was.rise (λ below. above (subst (λ (n : List ℕ). Below n last) (sym is) (subst (λ (n : List ℕ). Below r.name n) (sym was.last_is) below)));
+      rise = λ so.
+          let both = above so in
+          rising_more was.read r (was.rise both.0) (λ below. both.1 (subst (λ (n : List ℕ). Below n last) (sym is) (subst (λ (n : List ℕ). Below r.name n) (sym was.last_is) below)));
     }
 
-pub read_all : (k : Kind) (t last : List ℕ) (rest : List ℕ) (first line : ℕ) → Reads k t rest last first line → rest ≡ [] → (rs : List Record) × Records k t rs × Rising rs
-read_all k t last rest first line was end = (was.read, fronts_all k t was.read rest end was.fronts, was.rise)
-
--- records that are at the front of a text are the first of its records
-first_of_all : (k : Kind) (t : List ℕ) (before : List Record) (rest : List ℕ) (rs : List Record) → Fronts k t before rest → Records k t rs → (more : List Record) × (rs ≡ before ++ more)
-first_of_all k t [] rest rs fronts all = (rs, refl)
-first_of_all k t (x ∷ before) rest [] fronts all =
-    let less = shorter_record k t x fronts.0 fronts.1 in
-    let none : length t ≡ 0 = ap length all in absurd (omega arith)
-first_of_all k t (x ∷ before) rest (r ∷ rs) fronts all =
-    let same = same_record k t r all.0 x fronts.0 all.1 fronts.1 in
-    let more = first_of_all k fronts.0 before rest rs fronts.2 (subst (λ (u : List ℕ). Records k u rs) same.1 all.2) in
-    (more.0, ap (λ (y : Record). y ∷ rs) same.0 ∙ ap (λ (ys : List Record). x ∷ ys) more.1)
-
--- after a name below the one before it, whatever follows, names do not rise
-pub falls : (k : Kind) (t mid last : List ℕ) (first line : ℕ) (r : Record) (rest name : List ℕ) → Reads k t mid last first line → Takes k mid r rest → name ≡ r.name → Below name last → (rs : List Record) → Records k t rs → Rising rs → ⊥
-falls k t mid last first line r rest name was takes is below rs all up =
-    let whole = first_of_all k t (was.read ++ r ∷ []) rest rs (fronts_more k t was.read mid r rest was.fronts takes) all in
-    rising_last was.read r (rising_front (was.read ++ r ∷ []) whole.0 (subst Rising whole.1 up))
-    (subst (λ (n : List ℕ). Below r.name n) was.last_is (subst (λ (n : List ℕ). Below n last) is below))
+pub read_all : (k : Kind) (t last rest : List ℕ) (rises : Bool) (first line : ℕ) → Reads k t rest last rises first line → rest ≡ [] → (rs : List Record) × Records k t rs × (rises ≡ true → Rising rs)
+read_all k t last rest rises first line was end = (was.read, fronts_all k t was.read rest end was.fronts, was.rise)

@@ -1,5 +1,5 @@
 -- What a search in a file returns.
-use Rattle.std.specs.Prelude.{◌≢◌, ℕ, List, Option, Result, IfOk, IfErr, IfSome, IfNone, MatchResult}
+use Rattle.std.specs.Prelude.{◌≢◌, ℕ, List, Option, Result, Ok, Err, IfOk, IfErr, IfSome, IfNone, MatchResult}
 use Rattle.gix_ref_hash.specs.declared.hash.Kind.{Kind}
 use Rattle.gix_ref_files.specs.Files.{FaultCounts, count_with}
 use Rattle.gix_ref_files.specs.declared.files.FileError.TheVariants.{Memory as NoMemory}
@@ -57,7 +57,13 @@ count_read (Io error) n = count_with error n
 count_read Memory n = n
 count_read Changed n = n
 
--- and after a record was not found
-abbrev pub count_find : FindError → FaultCounts → FaultCounts
-count_find (Read error) n = count_read error n
-count_find Parse n = n
+-- after a part of a file was read
+abbrev pub count_part : {A : Type 0} → Result A ReadError → FaultCounts → FaultCounts
+count_part (Ok part) n = n
+count_part (Err error) n = count_read error n
+
+-- and after a record was sought
+abbrev pub count_found : Result (Option Found) FindError → FaultCounts → FaultCounts
+count_found (Ok found) n = n
+count_found (Err (Read error)) n = count_read error n
+count_found (Err Parse) n = n

@@ -3,7 +3,7 @@ ghost use Rattle.std.specs.Prelude.{◌≤◌, ◌<◌, vec_len};
 
 pub mod open;
 
-use crate::packed::sorting::sorted_text;
+use crate::packed::sorting::{read_order, sorted_text};
 use gix_ref_files::files::{FileError, Files, Node};
 use gix_ref_hash::hash::Kind;
 use gix_ref_packed_text::packed::header_end::{
@@ -93,32 +93,12 @@ impl Buffer {
         };
         let first_line = first_line_behind(header);
         if says_sorted(header) {
-            return Ok(Buffer {
-                bytes,
-                start,
-                kind,
-                first_line,
-            });
+            return Ok(Buffer::from_start(bytes, start, kind, first_line));
         }
         Buffer::sorted(alloc, bytes, start, kind, first_line)
     }
 
-    /// The buffer of a text without a header, whose first line has that number in the file.
-    pub(crate) fn of_records(bytes: Vec<u8>, kind: Kind, first_line: u64) -> Buffer
-        requires { first_line ≤ 2 }
-        ensures text { buffer_text result ≡ bytes.items }
-        ensures kind { buffer_kind result ≡ kind }
-        ensures line { buffer_line result ≡ first_line }
-    {
-        Buffer {
-            bytes,
-            start: 0,
-            kind,
-            first_line,
-        }
-    }
-
-    /// The buffer of a text whose records begin at a byte, and their first line has that number in the file.
+    /// The buffer of a text whose records begin at a byte, the first line of them having that number in the file.
     pub(crate) fn from_start(bytes: Vec<u8>, start: usize, kind: Kind, first_line: u64) -> Buffer
         requires inside { start ≤ vec_len bytes }
         requires line { first_line ≤ 2 }
@@ -155,21 +135,13 @@ impl Buffer {
         ensures line { IfOk result (λ b. buffer_line b ≡ first_line) }
         ensures refused { IfErr result (IsStuck kind first_line (drop start bytes.items)) }
     {
-        match sorted_text(alloc, &bytes[start..], kind, first_line) {
-            Ok(None) => Ok(Buffer {
-                bytes,
-                start,
-                kind,
-                first_line,
-            }),
-            Ok(Some(text)) => Ok(Buffer {
-                bytes: text,
-                start: 0,
-                kind,
-                first_line,
-            }),
-            Err(error) => Err(error),
+        let text = &bytes[start..];
+        let rises = read_order(text, kind, first_line)?;
+        if rises {
+            return Ok(Buffer::from_start(bytes, start, kind, first_line));
         }
+        let sorted = sorted_text(alloc, text, kind, first_line)?;
+        Ok(Buffer::from_start(sorted, 0, kind, first_line))
     }
 
     /// The text of the records, without the header. As gix-ref's `packed::Buffer::as_ref`.

@@ -10,7 +10,7 @@ use crate::packed::buffer::open::Error;
 use crate::packed::file_header::file_header;
 use crate::packed::find::ParseError;
 use crate::packed::sorted_file::{FindError, ReadError, SortedFile, read_window};
-use crate::packed::sorting::names_rise;
+use crate::packed::sorting::read_order;
 use crate::packed::unsorted::Unsorted;
 use gix_ref_files::files::{FileError, Files, ReadAt};
 use gix_ref_hash::hash::Kind;
@@ -30,7 +30,7 @@ pub enum PackedFile<R: ReadAt + Drop> {
     /// The file was read as a whole, and its records are in the order of their names.
     InMemory(Buffer),
     /// The file was read as a whole, and its records are in another order.
-    AsItStands(Unsorted),
+    Unsorted(Unsorted),
 }
 
 /// The number of the first line after a header.
@@ -61,14 +61,11 @@ fn open_text<R: ReadAt + Drop>(bytes: Vec<u8>, kind: Kind) -> Result<PackedFile<
     if says_sorted(header) {
         return Ok(PackedFile::InMemory(records));
     }
-    match names_rise(records.as_bytes(), kind, records.first_line()) {
-        Ok(true) => Ok(PackedFile::InMemory(records)),
-        Ok(false) => match Unsorted::new(records) {
-            Ok(records) => Ok(PackedFile::AsItStands(records)),
-            Err(error) => Err(error),
-        },
-        Err(error) => Err(error),
+    let rises = read_order(records.as_bytes(), kind, records.first_line())?;
+    if rises {
+        return Ok(PackedFile::InMemory(records));
     }
+    Ok(PackedFile::Unsorted(Unsorted::new(records)))
 }
 
 /// Opens the file of a reader.
@@ -107,10 +104,10 @@ impl<R: ReadAt + Drop> PackedFile<R> {
     ghost use Rattle.gix_ref_files.specs.Calls.{Unchanged};
     ghost use Rattle.gix_ref_files.specs.DiskCalls.{Untouched};
     ghost use Rattle.gix_ref_packed.specs.Buffers.{IsRefusedFile};
-    ghost use Rattle.gix_ref_packed.specs.OpenFiles.{OpenedFile, CountsRefusal, packed_file_text, packed_file_kind, packed_file_line, packed_file_faults, FailsFindByRead};
+    ghost use Rattle.gix_ref_packed.specs.OpenFiles.{OpenedFile, CountsRefusal, packed_file_text, packed_file_kind, packed_file_line, packed_file_faults, FailsFindByRead, HasSameRecords};
     ghost use Rattle.gix_ref_packed.specs.FilePrefixes.{BufferHoldsAsked, HoldsPrefix, FailsReadBy};
     ghost use Rattle.gix_ref_packed_text.specs.Prefixes.{NamesAscend};
-    ghost use Rattle.gix_ref_packed.specs.FileSearches.{FindsInFile, IsNoChange, count_find};
+    ghost use Rattle.gix_ref_packed.specs.FileSearches.{FindsInFile, IsNoChange, count_found};
 
     /// Opens the file at a path, whose ids are of the kind; `None` where no file is there. In place of the memory map of gix-ref's
     /// `packed::Buffer::open`.
@@ -154,30 +151,29 @@ impl<R: ReadAt + Drop> PackedFile<R> {
         }
     }
 
-    /// Sorts records that were searched so often that their order is worth it; `Memory` where there was no memory for that.
-    fn sort_if_worn(&mut self) -> Result<(), ReadError>
-        ensures text { packed_file_text self.new ≡ packed_file_text self.old }
-        ensures kind { packed_file_kind self.new ≡ packed_file_kind self.old }
+    /// Sorts records that were searched so often that their order is worth it. Where there was no memory for that, they
+    /// stay as they are.
+    fn sort_if_worn(&mut self)
+        ensures same { HasSameRecords self.old self.new }
         ensures faults { packed_file_faults self.new ≡ packed_file_faults self.old }
-        ensures memory { IfErr result (λ error. error ≡ ReadError.Memory) }
     {
-        let PackedFile::AsItStands(records) = self else {
-            return Ok(());
+        let PackedFile::Unsorted(records) = self else {
+            return;
         };
         if !records.is_worn() {
-            return Ok(());
+            return;
         }
-        let sorted = records.sorted()?;
-        *self = PackedFile::InMemory(sorted);
-        Ok(())
+        if let Ok(sorted) = records.sorted() {
+            *self = PackedFile::InMemory(sorted);
+        }
     }
 
     /// The ids of the record of a full name; `None` where there is no such record. In a file, by halving: a name among a
     /// million records costs some seventeen reads of 1 KB. In records that are not in the order of their names, one after the
     /// other, which costs as much as a fifteenth of sorting them; a later search sorts them, so that many searches cost
-    /// twice the sorting at most. `Read` where the file cannot be read, or there was no memory for sorting; `Parse` where a
-    /// line is malformed and nothing was found, or the record that was found cannot be read. As `Buffer::try_find_key`,
-    /// without the text in memory.
+    /// twice the sorting at most. `Read` where the file cannot be read, or there was no memory for what is read; `Parse`
+    /// where a line is malformed and nothing was found, or the record that was found cannot be read. As
+    /// `Buffer::try_find_key`, without the text in memory.
     ///
     /// ```text
     /// if let Some(found) = packed.find(FullNameRef::try_from("refs/tags/v1.0")?)? {
@@ -185,21 +181,16 @@ impl<R: ReadAt + Drop> PackedFile<R> {
     /// }
     /// ```
     pub fn find(&mut self, name: FullNameRef<'_>) -> Result<Option<Found>, FindError>
-        ensures same { packed_file_text self.new ≡ packed_file_text self.old }
-        ensures kind { packed_file_kind self.new ≡ packed_file_kind self.old }
+        ensures same { HasSameRecords self.old self.new }
         ensures finds { R.honest → FindsInFile (packed_file_kind self.old)
             (packed_file_text self.old) (full_ref_bytes name.entry) result }
 
-        // A fault is counted where the file could not be read, and nowhere else.
-        ensures no_fault { IfOk result (λ _. packed_file_faults self.new
-            ≡ packed_file_faults self.old) }
-        ensures fault { IfErr result (λ error. packed_file_faults self.new
-            ≡ count_find error (packed_file_faults self.old)) }
+        // A fault is counted where the file could not be read, and no other.
+        ensures count { packed_file_faults self.new
+            ≡ count_found result (packed_file_faults self.old) }
         ensures failed { IfErr result (FailsFindByRead R.faults) }
     {
-        if let Err(error) = self.sort_if_worn() {
-            return Err(FindError::Read(error));
-        }
+        self.sort_if_worn();
         match self {
             PackedFile::InFile { source, kind } => source.find(*kind, name),
             PackedFile::InMemory(buffer) => match buffer.try_find_key(name) {
@@ -207,7 +198,7 @@ impl<R: ReadAt + Drop> PackedFile<R> {
                 Ok(None) => Ok(None),
                 Err(ParseError) => Err(FindError::Parse),
             },
-            PackedFile::AsItStands(records) => Ok(records.find(name)),
+            PackedFile::Unsorted(records) => Ok(records.find(name)),
         }
     }
 
@@ -238,7 +229,7 @@ impl<R: ReadAt + Drop> PackedFile<R> {
                 source.read_prefixed(alloc, kind, prefix, LINE_BEHIND_HEADER)
             }
             PackedFile::InMemory(buffer) => Ok(buffer),
-            PackedFile::AsItStands(records) => records.sorted(),
+            PackedFile::Unsorted(records) => records.sorted(),
         }
     }
 }

@@ -3,7 +3,7 @@ ghost use Rattle.std.specs.Prelude.{◌≡◌, ℕ, List, length, take, true, If
 ghost use Rattle.gix_ref_packed_text.specs.Shown.{IfHere, IsHere};
 ghost use Rattle.gix_ref_packed_text.specs.OpenedText.{NoHeader};
 ghost use Rattle.gix_ref_packed_text.specs.HeaderEnds.{HeadsAt};
-ghost use Rattle.gix_ref_packed.specs.FileSearches.{IsNoChange, count_read};
+ghost use Rattle.gix_ref_packed.specs.FileSearches.{IsNoChange, count_part};
 
 use crate::packed::sorted_file::{MAX_WINDOW_DOUBLINGS, ReadError, read_window, window_size};
 use gix_ref_files::files::ReadAt;
@@ -43,9 +43,7 @@ pub fn file_header<R: ReadAt>(
     reader: &mut R,
 ) -> Result<Option<HeaderEnd>, ReadError>
     ensures same { R.bytes reader.new ≡ R.bytes reader.old }
-    ensures no_fault { IfOk result (λ _. R.faults reader.new ≡ R.faults reader.old) }
-    ensures fault { IfErr result (λ error. R.faults reader.new
-        ≡ count_read error (R.faults reader.old)) }
+    ensures count { R.faults reader.new ≡ count_part result (R.faults reader.old) }
     ensures stays { IfErr result IsNoChange }
     ensures heads { R.honest → IfOk result (λ found. MatchOption found
         (NoHeader (R.bytes reader.old)) (HeadsAt (R.bytes reader.old))) }

@@ -52,7 +52,8 @@ impl<R: ReadAt + Drop> SortedFile<R> {
     ghost use Rattle.std.specs.Prelude.{◌≡◌, ◌≤◌, ◌-◌, length, take, drop, IfOk, IfErr};
     ghost use Rattle.gix_ref_packed.specs.FilePrefixes.{BufferHoldsAsked, Encloses, EnclosesAsked, HoldsPrefix};
     ghost use Rattle.gix_ref_packed_text.specs.Prefixes.{NamesAscend};
-    ghost use Rattle.gix_ref_packed.specs.FileSearches.{IsNoChange, count_read};
+    ghost use Rattle.gix_ref_packed.specs.FileSearches.{IsNoChange, count_part};
+    ghost use Rattle.gix_ref_packed.specs.OpenFiles.{IsSameFile};
 
     /// Two places between which all records of the prefix are: halving finds either. They are those of all records where
     /// that costs less, where halving met a line that has not the form of a record, and where the file is not sorted.
@@ -62,12 +63,8 @@ impl<R: ReadAt + Drop> SortedFile<R> {
         kind: Kind,
         prefix: &[u8],
     ) -> Result<(u64, u64), ReadError>
-        ensures same { R.bytes self.new.reader ≡ R.bytes self.old.reader }
-        ensures place { (self.new.base ≡ self.old.base)
-            × (R.size self.new.reader ≡ R.size self.old.reader) }
-        ensures no_fault { IfOk result (λ _. R.faults self.new.reader ≡ R.faults self.old.reader) }
-        ensures fault { IfErr result (λ error. R.faults self.new.reader
-            ≡ count_read error (R.faults self.old.reader)) }
+        ensures same { IsSameFile self.old self.new }
+        ensures count { R.faults self.new.reader ≡ count_part result (R.faults self.old.reader) }
         ensures encloses { R.honest → IfOk result (λ places. Encloses kind
             (drop self.old.base (R.bytes self.old.reader)) prefix.now places.0 places.1) }
 
@@ -102,12 +99,8 @@ impl<R: ReadAt + Drop> SortedFile<R> {
 
     /// The bytes of the records from one place up to another.
     fn read_part(&mut self, alloc: Global, start: u64, end: u64) -> Result<Vec<u8>, ReadError>
-        ensures same { R.bytes self.new.reader ≡ R.bytes self.old.reader }
-        ensures place { (self.new.base ≡ self.old.base)
-            × (R.size self.new.reader ≡ R.size self.old.reader) }
-        ensures no_fault { IfOk result (λ _. R.faults self.new.reader ≡ R.faults self.old.reader) }
-        ensures fault { IfErr result (λ error. R.faults self.new.reader
-            ≡ count_read error (R.faults self.old.reader)) }
+        ensures same { IsSameFile self.old self.new }
+        ensures count { R.faults self.new.reader ≡ count_part result (R.faults self.old.reader) }
         ensures part { R.honest → IfOk result (λ part. part.items
             ≡ take (end - start) (drop start (drop self.old.base (R.bytes self.old.reader)))) }
         ensures stays { R.honest → start ≤ length (drop self.old.base (R.bytes self.old.reader)) →
@@ -138,9 +131,7 @@ impl<R: ReadAt + Drop> SortedFile<R> {
         first_line: u64,
     ) -> Result<Buffer, ReadError>
         requires { first_line ≤ 2 }
-        ensures no_fault { IfOk result (λ _. R.faults self.new.reader ≡ R.faults self.old.reader) }
-        ensures fault { IfErr result (λ error. R.faults self.new.reader
-            ≡ count_read error (R.faults self.old.reader)) }
+        ensures count { R.faults self.new.reader ≡ count_part result (R.faults self.old.reader) }
         ensures holds { R.honest → IfOk result (HoldsPrefix kind
             (drop self.old.base (R.bytes self.old.reader)) first_line prefix.now) }
         ensures asked { R.honest → NamesAscend kind (drop self.old.base (R.bytes self.old.reader)) →
@@ -151,10 +142,10 @@ impl<R: ReadAt + Drop> SortedFile<R> {
         let (start, end) = self.places_of(alloc, kind, prefix)?;
         let part = self.read_part(alloc, start, end)?;
         if start == 0 || is_records(part.as_slice(), kind) {
-            return Ok(Buffer::of_records(part, kind, first_line));
+            return Ok(Buffer::from_start(part, 0, kind, first_line));
         }
         let len = self.records_len();
         let whole = self.read_part(alloc, 0, len)?;
-        Ok(Buffer::of_records(whole, kind, first_line))
+        Ok(Buffer::from_start(whole, 0, kind, first_line))
     }
 }

@@ -1,7 +1,6 @@
 //! The records of a `packed-refs` that is not in memory: probed at windows of its file.
-ghost use Rattle.std.specs.Prelude.{◌≡◌, ◌+◌, ◌-◌, ◌<◌, ◌≤◌, ◌^◌, length, take, drop, OnOk, IfOk, IfErr};
-ghost use Rattle.gix_ref_name.specs.Names.{full_ref_bytes};
-ghost use Rattle.gix_ref_packed.specs.FileSearches.{IsNoChange, FindsInFile, count_read, count_find};
+ghost use Rattle.std.specs.Prelude.{◌≡◌, ◌+◌, ◌-◌, ◌<◌, ◌≤◌, ◌^◌, length, take, drop, OnOk, IfErr};
+ghost use Rattle.gix_ref_packed.specs.FileSearches.{IsNoChange, count_part};
 ghost use Rattle.gix_ref_packed_text.specs.Windows.{IsWindow};
 ghost use Rattle.gix_ref_packed.specs.declared.packed.sorted_file.TheConstants.{MAX_WINDOW_DOUBLINGS};
 
@@ -106,11 +105,9 @@ pub(crate) fn read_window<R: ReadAt>(
     place: u64,
     len: usize,
 ) -> Result<(), ReadError>
-    ensures same { R.bytes reader.new ≡ R.bytes reader.old }
-    ensures size { R.size reader.new ≡ R.size reader.old }
-    ensures no_fault { OnOk result (R.faults reader.new ≡ R.faults reader.old) }
-    ensures fault { IfErr result (λ error. R.faults reader.new
-        ≡ count_read error (R.faults reader.old)) }
+    ensures same { (R.bytes reader.new ≡ R.bytes reader.old)
+        × (R.size reader.new ≡ R.size reader.old) }
+    ensures count { R.faults reader.new ≡ count_part result (R.faults reader.old) }
     ensures stays { IfErr result IsNoChange }
     ensures len { OnOk result (length window.new.items ≡ len) }
     ensures read { R.honest → OnOk result (window.new.items
@@ -131,7 +128,8 @@ impl<R: ReadAt + Drop> SortedFile<R> {
     ghost use Rattle.gix_ref_packed_text.specs.Positions.{IsPlain};
     ghost use Rattle.gix_ref_packed_text.specs.Probed.{IsProbeAt};
     ghost use Rattle.gix_ref_packed_text.specs.Shown.{IfHere, IsHere};
-    ghost use Rattle.gix_ref_packed.specs.FileSearches.{IsNoChange, FindsInFile, count_read, count_find};
+    ghost use Rattle.gix_ref_packed.specs.FileSearches.{IsNoChange, FindsInFile, count_part, count_found};
+    ghost use Rattle.gix_ref_packed.specs.OpenFiles.{IsSameFile};
 
     /// The records of a file from that place on, in bytes. Nothing is read yet. Not in gix-ref, which maps the file into memory.
     pub fn new(alloc: Global, reader: R, base: u64) -> SortedFile<R>
@@ -165,12 +163,8 @@ impl<R: ReadAt + Drop> SortedFile<R> {
 
     /// Reads a window of that size around the place; all where the size holds any file.
     fn fill(&mut self, offset: u64, size: u64) -> Result<(), ReadError>
-        ensures same { R.bytes self.new.reader ≡ R.bytes self.old.reader }
-        ensures place { (self.new.base ≡ self.old.base)
-            × (R.size self.new.reader ≡ R.size self.old.reader) }
-        ensures no_fault { IfOk result (λ _. R.faults self.new.reader ≡ R.faults self.old.reader) }
-        ensures fault { IfErr result (λ error. R.faults self.new.reader
-            ≡ count_read error (R.faults self.old.reader)) }
+        ensures same { IsSameFile self.old self.new }
+        ensures count { R.faults self.new.reader ≡ count_part result (R.faults self.old.reader) }
         ensures whole { R.honest → size ≡ 2 ^ 64 - 1 →
             IfOk result (λ _. (self.new.from ≡ 0) × (length self.new.window.items
             ≡ length (drop self.old.base (R.bytes self.old.reader)))) }
@@ -246,12 +240,8 @@ impl<R: ReadAt + Drop> SortedFile<R> {
 
     /// The record that begins at the place, if one does.
     fn record_at(&mut self, kind: Kind, start: u64) -> Result<Option<Found>, ReadError>
-        ensures same { R.bytes self.new.reader ≡ R.bytes self.old.reader }
-        ensures place { (self.new.base ≡ self.old.base)
-            × (R.size self.new.reader ≡ R.size self.old.reader) }
-        ensures no_fault { IfOk result (λ _. R.faults self.new.reader ≡ R.faults self.old.reader) }
-        ensures fault { IfErr result (λ error. R.faults self.new.reader
-            ≡ count_read error (R.faults self.old.reader)) }
+        ensures same { IsSameFile self.old self.new }
+        ensures count { R.faults self.new.reader ≡ count_part result (R.faults self.old.reader) }
         ensures front { R.honest → IfOk result
             (FrontIs kind (drop start (drop self.old.base (R.bytes self.old.reader)))) }
         ensures stays { R.honest → start < length (drop self.old.base (R.bytes self.old.reader)) →
@@ -280,19 +270,15 @@ impl<R: ReadAt + Drop> SortedFile<R> {
         name: FullNameRef<'_>,
         probes: &mut Probes<L>,
     ) -> Result<Option<Found>, FindError>
-        ensures same { R.bytes self.new.reader ≡ R.bytes self.old.reader }
-        ensures place { (self.new.base ≡ self.old.base)
-            × (R.size self.new.reader ≡ R.size self.old.reader) }
-        ensures counts { probes.old ≤ probes.new }
+        ensures same { IsSameFile self.old self.new }
+        ensures probes { probes.old ≤ probes.new }
         ensures cost { R.honest → CountsProbes
             (length (drop self.old.base (R.bytes self.old.reader))) probes.old probes.new }
         ensures finds { R.honest → FindsInFile kind (drop self.old.base (R.bytes self.old.reader))
             (full_ref_bytes name.entry) result }
 
-        // The reader counts a fault where the file could not be read, and nowhere else.
-        ensures no_fault { IfOk result (λ _. R.faults self.new.reader ≡ R.faults self.old.reader) }
-        ensures fault { IfErr result (λ error. R.faults self.new.reader
-            ≡ count_find error (R.faults self.old.reader)) }
+        // The reader counts a fault where the file could not be read, and no other.
+        ensures count { R.faults self.new.reader ≡ count_found result (R.faults self.old.reader) }
     {
         let start = match search(self, kind, name.to_path(), probes) {
             Ok(Some(start)) => start,
@@ -306,51 +292,37 @@ impl<R: ReadAt + Drop> SortedFile<R> {
             Err(error) => Err(FindError::Read(error)),
         }
     }
-}
 
-/// The record of a full name, where the ledger of the count is new.
-fn find_blank<R: ReadAt + Drop, L: Ledger>(
-    source: &mut SortedFile<R>,
-    kind: Kind,
-    name: FullNameRef<'_>,
-    blank: Blank,
-) -> Result<Option<Found>, FindError>
-    requires name { blank.name ≡ L.name }
-    requires parts { blank.parts ≡ L.parts }
-    requires some { 0 < blank.parts }
-    ensures same { R.bytes source.new.reader ≡ R.bytes source.old.reader }
-    ensures place { (source.new.base ≡ source.old.base)
-        × (R.size source.new.reader ≡ R.size source.old.reader) }
-    ensures finds { R.honest → FindsInFile kind (drop source.old.base (R.bytes source.old.reader))
-        (full_ref_bytes name.entry) result }
-    ensures no_fault { IfOk result (λ _. R.faults source.new.reader ≡ R.faults source.old.reader) }
-    ensures fault { IfErr result (λ error. R.faults source.new.reader
-        ≡ count_find error (R.faults source.old.reader)) }
-{
-    let mut probes = Probes::<L>::new(blank);
-    source.try_find_full(kind, name, &mut probes)
-}
-
-impl<R: ReadAt + Drop> SortedFile<R> {
-    ghost use Rattle.std.specs.Prelude.{◌≡◌, drop, IfOk, IfErr};
-    ghost use Rattle.gix_ref_name.specs.Names.{full_ref_bytes};
-    ghost use Rattle.gix_ref_packed.specs.FileSearches.{FindsInFile, count_find};
+    /// The record of a full name, where the ledger of the count is new.
+    fn find_blank<L: Ledger>(
+        &mut self,
+        kind: Kind,
+        name: FullNameRef<'_>,
+        blank: Blank,
+    ) -> Result<Option<Found>, FindError>
+        requires name { blank.name ≡ L.name }
+        requires parts { blank.parts ≡ L.parts }
+        requires some { 0 < blank.parts }
+        ensures same { IsSameFile self.old self.new }
+        ensures finds { R.honest → FindsInFile kind (drop self.old.base (R.bytes self.old.reader))
+            (full_ref_bytes name.entry) result }
+        ensures count { R.faults self.new.reader ≡ count_found result (R.faults self.old.reader) }
+    {
+        let mut probes = Probes::<L>::new(blank);
+        self.try_find_full(kind, name, &mut probes)
+    }
 
     /// The ids of the record of a full name, as `try_find_full` finds it, for a caller who does not count. As gix-ref's
     /// `packed::Buffer::try_find`.
     pub fn find(&mut self, kind: Kind, name: FullNameRef<'_>) -> Result<Option<Found>, FindError>
-        ensures same { R.bytes self.new.reader ≡ R.bytes self.old.reader }
-        ensures place { (self.new.base ≡ self.old.base)
-            × (R.size self.new.reader ≡ R.size self.old.reader) }
+        ensures same { IsSameFile self.old self.new }
         ensures finds { R.honest → FindsInFile kind (drop self.old.base (R.bytes self.old.reader))
             (full_ref_bytes name.entry) result }
 
         // The reader counts a fault where the file could not be read, and nowhere else.
-        ensures no_fault { IfOk result (λ _. R.faults self.new.reader ≡ R.faults self.old.reader) }
-        ensures fault { IfErr result (λ error. R.faults self.new.reader
-            ≡ count_find error (R.faults self.old.reader)) }
+        ensures count { R.faults self.new.reader ≡ count_found result (R.faults self.old.reader) }
     {
-        find_blank::<R, Brand>(self, kind, name, Blank::new(1))
+        self.find_blank::<Brand>(kind, name, Blank::new(1))
     }
 }
 

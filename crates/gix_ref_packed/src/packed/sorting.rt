@@ -1,5 +1,5 @@
 //! Records in the order of their names: what opening makes of a text whose header does not say that it is sorted.
-ghost use Rattle.std.specs.Prelude.{◌≡◌, ◌≤◌, List, true, false, map, MatchOption, MatchBool, IfOk, IfErr, OnOk};
+ghost use Rattle.std.specs.Prelude.{◌≡◌, ◌≤◌, List, true, map, MatchBool, IfOk, IfErr, OnOk};
 ghost use Rattle.std.specs.List.{All, flat_map};
 ghost use Rattle.std.specs.List.Sorted.{IsPermutation, IsSortedByKey, IsStableByKey};
 ghost use Rattle.std.specs.Cmp.Lexicographic.{slice_cmp};
@@ -37,50 +37,36 @@ pub fn line_count(reference: &Reference<'_>) -> u64
     }
 }
 
-/// Whether no name in a text of records is below the one before it. It ends at the first that is, and what follows is not looked at.
-/// The first line has the number `first`; the error is `Iter` at the first line that is no record, among those that were read.
-pub(crate) fn names_rise(text: &[u8], kind: Kind, first: u64) -> Result<bool, Error>
+/// Whether no name is below the one before it, where that was so up to here.
+fn still_rises(rises: bool, name: &[u8], last: &[u8]) -> bool
+    ensures { result ≡ true → (rises ≡ true) × (Below name.now last.now → ⊥) }
+{
+    rises && !is_below(name, last)
+}
+
+/// Reads each record of the text; whether no name is below the one before it. The first line has the number `first`; the error is
+/// `Iter` at the first line that is no record.
+pub(crate) fn read_order(text: &[u8], kind: Kind, first: u64) -> Result<bool, Error>
     requires { first ≤ 2 }
-    ensures rise { IfOk result (λ rises. rises ≡ true →
-        (rs : List Record) × Records kind text.now rs × Rising rs) }
-    ensures fall { IfOk result (λ rises. rises ≡ false → (rs : List Record) →
-        Records kind text.now rs → Rising rs → ⊥) }
+    ensures order { IfOk result (λ rises. (rs : List Record) × Records kind text.now rs
+        × (rises ≡ true → Rising rs)) }
     ensures refused { IfErr result (IsStuck kind first text.now) }
 {
     let mut rest = text;
     let mut line = first;
     let mut last: &[u8] = b"";
+    let mut rises = true;
     while !rest.is_empty() {
         let Some((reference, after)) = take_record(rest, kind) else {
             return Err(Error::Iter { line_number: line });
         };
         let name = reference.name.to_path();
-        if is_below(name, last) {
-            return Ok(false);
-        }
+        rises = still_rises(rises, name, last);
         last = name;
         line += line_count(&reference);
         rest = after;
     }
-    Ok(true)
-}
-
-/// Reads each record of the text. The first line has the number `first`; the error is `Iter` at the first line that is no record.
-pub(crate) fn check_records(text: &[u8], kind: Kind, first: u64) -> Result<(), Error>
-    requires { first ≤ 2 }
-    ensures whole { OnOk result ((rs : List Record) × Records kind text.now rs) }
-    ensures refused { IfErr result (IsStuck kind first text.now) }
-{
-    let mut rest = text;
-    let mut line = first;
-    while !rest.is_empty() {
-        let Some((reference, after)) = take_record(rest, kind) else {
-            return Err(Error::Iter { line_number: line });
-        };
-        line += line_count(&reference);
-        rest = after;
-    }
-    Ok(())
+    Ok(rises)
 }
 
 /// The records of the text, in their order. The first line has the number `first`.
@@ -146,25 +132,20 @@ fn joined(alloc: Global, entries: &[Entry<'_>], len: usize) -> Result<Vec<u8>, A
     Ok(text)
 }
 
-/// The text of the records in the order of their names; `None` where no name is below the one before it, which takes no
-/// memory. The error reports the first line that is no record, the first line having the number `first`, or that there
-/// was no memory.
-pub fn sorted_text(
+/// The text of the records in the order of their names, those of one name in their old order. The error is `Iter` at the
+/// first line that is no record, the first line having the number `first`, or `Memory`.
+pub(crate) fn sorted_text(
     alloc: Global,
     text: &[u8],
     kind: Kind,
     first: u64,
-) -> Result<Option<Vec<u8>>, Error>
+) -> Result<Vec<u8>, Error>
     requires { first ≤ 2 }
-    ensures keeps { IfOk result (λ found. MatchOption found (SortsText kind text.now text.now)
-        (λ kept. SortsText kind text.now kept.items)) }
+    ensures sorts { IfOk result (λ sorted. SortsText kind text.now sorted.items) }
     ensures refused { IfErr result (IsStuck kind first text.now) }
 {
-    let rises = names_rise(text, kind, first)?;
-    if rises {
-        return Ok(None);
-    }
     let mut entries = read_entries(alloc, text, kind, first)?;
     sort_by_name(&mut entries)?;
-    Ok(Some(joined(alloc, &entries, text.len())?))
+    let sorted = joined(alloc, &entries, text.len())?;
+    Ok(sorted)
 }

@@ -9,9 +9,8 @@ ghost use Rattle.gix_ref_packed.specs.Buffers.{buffer_text, buffer_kind};
 ghost use Rattle.gix_ref_packed.specs.InOrder.{are_records};
 
 use crate::packed::buffer::Buffer;
-use crate::packed::buffer::open::Error;
 use crate::packed::sorted_file::ReadError;
-use crate::packed::sorting::{check_records, sorted_text};
+use crate::packed::sorting::sorted_text;
 use gix_ref_hash::hash::Kind;
 use gix_ref_name::name::FullNameRef;
 use gix_ref_packed_text::packed::Reference;
@@ -65,27 +64,22 @@ fn first_named<'a>(text: &'a [u8], kind: Kind, wanted: &[u8]) -> Option<Referenc
 }
 
 impl Unsorted {
-    ghost use Rattle.std.specs.Prelude.{◌≡◌, List, Ok, IfOk, IfErr};
+    ghost use Rattle.std.specs.Prelude.{◌≡◌, Ok, IfOk, IfErr, true};
     ghost use Rattle.gix_ref_name.specs.Names.{full_ref_bytes};
-    ghost use Rattle.gix_ref_target.specs.PackedRecords.{Record};
-    ghost use Rattle.gix_ref_packed_text.specs.RecordGrammar.{Records};
-    ghost use Rattle.gix_ref_packed.specs.Buffers.{buffer_text, buffer_kind, buffer_line, IsStuck};
+    ghost use Rattle.gix_ref_packed.specs.Buffers.{buffer_text, buffer_kind, buffer_line};
     ghost use Rattle.gix_ref_packed.specs.FileSearches.{FindsInFile};
+    ghost use Rattle.gix_ref_packed.specs.InOrder.{are_records};
     ghost use Rattle.gix_ref_packed.specs.Unsorted.{unsorted_records, unsorted_text};
 
-    /// Reads each of the records. `Iter` at the first line that is no record.
-    pub(crate) fn new(records: Buffer) -> Result<Unsorted, Error>
-        ensures kept { IfOk result (λ u. unsorted_records u ≡ records) }
-        ensures whole { IfOk result
-            (λ _. (rs : List Record) × Records (buffer_kind records) (buffer_text records) rs) }
-        ensures refused { IfErr result
-            (IsStuck (buffer_kind records) (buffer_line records) (buffer_text records)) }
+    /// The records of a buffer, each of which was read.
+    pub(crate) fn new(records: Buffer) -> Unsorted
+        requires { are_records (buffer_kind records) (buffer_text records) ≡ true }
+        ensures { unsorted_records result ≡ records }
     {
-        check_records(records.as_bytes(), records.kind(), records.first_line())?;
-        Ok(Unsorted {
+        Unsorted {
             records,
             searches: 0,
-        })
+        }
     }
 
     /// The ids of the first record of the name, after a look at each record before it.
@@ -117,10 +111,8 @@ impl Unsorted {
     {
         let records = &self.records;
         let (kind, first_line) = (records.kind(), records.first_line());
-        let (alloc, text) = (records.alloc(), records.as_bytes());
-        match sorted_text(alloc, text, kind, first_line) {
-            Ok(Some(sorted)) => Ok(Buffer::of_records(sorted, kind, first_line)),
-            Ok(None) => Ok(Buffer::of_records(text.to_vec(alloc)?, kind, first_line)),
+        match sorted_text(records.alloc(), records.as_bytes(), kind, first_line) {
+            Ok(sorted) => Ok(Buffer::from_start(sorted, 0, kind, first_line)),
             Err(_) => Err(ReadError::Memory),
         }
     }

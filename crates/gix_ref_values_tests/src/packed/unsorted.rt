@@ -69,10 +69,7 @@ fn opened(rt: &impl Abort, alloc: Global) -> PackedFile<MemoryReader> {
 #[test]
 fn each_of_many_searches_finds_the_record(rt: HostRuntime) {
     let mut packed = opened(&rt, rt.alloc());
-    assert!(rt;
-        matches!(packed, PackedFile::AsItStands(_)),
-        "not sorted yet"
-    );
+    assert!(rt; matches!(packed, PackedFile::Unsorted(_)), "not sorted yet");
     for _ in 0..8 {
         for &(name, target, object) in ROWS {
             let found = packed.find(full(&rt, name)).expect(&rt, "an answer");

@@ -1,11 +1,12 @@
 use Rattle.std.proofs.lemmas.List.{take_all, length-drop}
-use Rattle.std.proofs.Common.{◌≡◌, Bool, true, Option, Some, None, Result, Ok, Err, IfOk, IfErr, List, ℕ, [], ◌∷◌, arith, drop, take, length, refl, sym, ◌∙◌, ap, subst}
+use Rattle.std.proofs.Common.{◌≡◌, Bool, true, Option, Some, None, Result, Ok, Err, IfOk, IfErr, List, ℕ, arith, drop, take, length, refl, sym, ◌∙◌, ap, subst}
 use Rattle.gix_ref_hash.specs.declared.hash.Kind.{Kind}
 use Rattle.gix_ref_packed.specs.declared.packed.buffer.open.Error.{Error}
 use Rattle.gix_ref_packed.specs.declared.packed.buffer.open.Error.TheVariants.{Iter, HeaderParsing, Io, Memory}
 use Rattle.gix_ref_packed_text.specs.OpenedText.{Keeps, line_behind, says_sorted}
 use Rattle.gix_ref_packed_text.specs.declared.packed.decode.options.Header.{Header}
 use Rattle.gix_ref_packed.specs.Buffers.{IsRefusedText, IsRefusedBytes}
+use Rattle.gix_ref_packed.proofs.PrefixParts.{drop_zero}
 use Rattle.gix_ref_packed.proofs.packed.file.open_reader.Goals as goal
 
 refused_bytes : (k : Kind) (t : List ℕ) (e : Error) → IsRefusedText k t e → IsRefusedBytes k t e
@@ -41,10 +42,6 @@ returns-then-says_sorted-clause-opened g c = λ honest.
 
 whole_read : (w t u : List ℕ) → w ≡ take (length w) (drop 0 t) → length w ≡ length t → t ≡ u → w ≡ u
 whole_read w t u is len same = is ∙ take_all (length w) (drop 0 t) (omega (arith, length-drop 0 t)) ∙ drop_zero t ∙ same
-  where
-    drop_zero : (t : List ℕ) → drop 0 t ≡ t
-    drop_zero [] = refl
-    drop_zero (b ∷ t) = refl
 
 refused_result : {A : Type 0} (k : Kind) (t u : List ℕ) (r : Result A Error) → t ≡ u → IfErr r (IsRefusedText k t) → IfErr r (IsRefusedBytes k u)
 refused_result k t u (Ok a) same h = tt

@@ -1,14 +1,10 @@
-use Rattle.std.proofs.Common.{◌≡◌, ◌==◌, ◌-◌, List, ℕ, [], ◌∷◌, true, length, map, refl, sym, ◌∙◌, ap, ◌++◌, append-nil, arith, eqb-true}
+use Rattle.std.proofs.Common.{◌-◌, length, map, refl, sym, ◌∙◌, ap, ◌++◌, append-nil, arith}
 use Rattle.gix_ref_packed.specs.internal.Entries.{entry_record, entry_bytes}
 use Rattle.std.specs.List.{flat_map}
 use Rattle.gix_ref_packed_text.specs.Views.{record_of}
 use Rattle.gix_ref_packed_text.proofs.RecordBytes.{fronts_all, lines_fit}
-use Rattle.gix_ref_packed.proofs.SortedPieces.{entries_more}
+use Rattle.gix_ref_packed.proofs.SortedPieces.{entries_more, no_bytes}
 use Rattle.gix_ref_packed.proofs.packed.sorting.read_entries.Goals as goal
-
-empty : (n : List ℕ) → (length n == 0) ≡ true → n ≡ []
-empty [] e = refl
-empty (b ∷ n) e = let none : length (b ∷ n) ≡ 0 = eqb-true _ _ e in absurd (omega arith)
 
 pub loop-rest-preserved : goal.loop-rest-preserved
 loop-rest-preserved c =
@@ -24,8 +20,8 @@ loop-rest-preserved c =
 
 pub returns-clause-records : goal.returns-clause-records
 returns-clause-records c =
-    fronts_all c.args.kind c.args.text.now (map entry_record c.loop-rest.entries.items) c.loop-rest.rest.now (empty c.loop-rest.rest.now (sym c.loop-rest-test.ensures)) c.loop-rest.invariant.fronts
+    fronts_all c.args.kind c.args.text.now (map entry_record c.loop-rest.entries.items) c.loop-rest.rest.now (no_bytes c.loop-rest.rest.now (sym c.loop-rest-test.ensures)) c.loop-rest.invariant.fronts
 
 pub returns-clause-cut : goal.returns-clause-cut
 returns-clause-cut c =
-    c.loop-rest.invariant.cut ∙ ap (λ u. flat_map entry_bytes c.loop-rest.entries.items ++ u) (empty c.loop-rest.rest.now (sym c.loop-rest-test.ensures)) ∙ append-nil _
+    c.loop-rest.invariant.cut ∙ ap (λ u. flat_map entry_bytes c.loop-rest.entries.items ++ u) (no_bytes c.loop-rest.rest.now (sym c.loop-rest-test.ensures)) ∙ append-nil _

@@ -26,15 +26,15 @@ sorted_holds : (kind : Kind) (text : List ℕ) (line : ℕ) (prefix : List ℕ) 
 sorted_holds kind text line prefix (Ok b) is kind_is line_is = holds_all kind text prefix line b kind_is (length text) refl (is ∙ sym (whole_part text (length text) refl)) line_is
 sorted_holds kind text line prefix (Err e) is kind_is line_is = tt
 
-pub returns-in-AsItStands-clause-holds : goal.returns-in-AsItStands-clause-holds
-returns-in-AsItStands-clause-holds g c = λ honest. rw c.in-AsItStands.is
-    (let u = c.in-AsItStands.records in
+pub returns-in-Unsorted-clause-holds : goal.returns-in-Unsorted-clause-holds
+returns-in-Unsorted-clause-holds g c = λ honest. rw c.in-Unsorted.is
+    (let u = c.in-Unsorted.records in
     sorted_holds (buffer_kind (unsorted_records u)) (unsorted_text u) (buffer_line (unsorted_records u)) c.args.prefix.now c.sorted.result c.sorted.ensures.text c.sorted.ensures.kind c.sorted.ensures.line)
 
 sorted_asked : (kind : Kind) (text prefix : List ℕ) (r : Result Buffer ReadError) → NamesAscend kind text → IfOk r (λ b. buffer_text b ≡ text) → IfOk r (BufferHoldsAsked kind text prefix)
 sorted_asked kind text prefix (Ok b) ascend is = subst (HoldsAsked kind text prefix) (sym is) (ascend, λ r asked. asked)
 sorted_asked kind text prefix (Err e) ascend is = tt
 
-pub returns-in-AsItStands-clause-asked : goal.returns-in-AsItStands-clause-asked
-returns-in-AsItStands-clause-asked g c = λ honest. rw c.in-AsItStands.is
-    (let u = c.in-AsItStands.records in λ ascend. sorted_asked (buffer_kind (unsorted_records u)) (unsorted_text u) c.args.prefix.now c.sorted.result ascend c.sorted.ensures.text)
+pub returns-in-Unsorted-clause-asked : goal.returns-in-Unsorted-clause-asked
+returns-in-Unsorted-clause-asked g c = λ honest. rw c.in-Unsorted.is
+    (let u = c.in-Unsorted.records in λ ascend. sorted_asked (buffer_kind (unsorted_records u)) (unsorted_text u) c.args.prefix.now c.sorted.result ascend c.sorted.ensures.text)

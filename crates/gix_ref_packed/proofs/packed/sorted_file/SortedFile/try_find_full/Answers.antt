@@ -3,22 +3,37 @@ use Rattle.gix_ref_packed.proofs.FileSearchLemmas.{found_finds, bad_finds, none_
 use Rattle.gix_ref_packed.proofs.packed.sorted_file.SortedFile.try_find_full.Goals as goal
 
 pub returns-in-Ok-None-clause-same : goal.returns-in-Ok-None-clause-same
-returns-in-Ok-None-clause-same g c = ap (λ f. f.0) c.search.ensures.kept.1
+returns-in-Ok-None-clause-same g c =
+    let was = c.search.ensures.kept.1 in
+    (ap (λ f. f.0) was, ap (λ f. f.1) was, ap (λ f. f.2) was)
 
 pub returns-in-Err-Read-clause-same : goal.returns-in-Err-Read-clause-same
-returns-in-Err-Read-clause-same g c = ap (λ f. f.0) c.search.ensures.kept.1
+returns-in-Err-Read-clause-same g c =
+    let was = c.search.ensures.kept.1 in
+    (ap (λ f. f.0) was, ap (λ f. f.1) was, ap (λ f. f.2) was)
 
 pub returns-in-Err-Parse-clause-same : goal.returns-in-Err-Parse-clause-same
-returns-in-Err-Parse-clause-same g c = ap (λ f. f.0) c.search.ensures.kept.1
+returns-in-Err-Parse-clause-same g c =
+    let was = c.search.ensures.kept.1 in
+    (ap (λ f. f.0) was, ap (λ f. f.1) was, ap (λ f. f.2) was)
 
 pub returns-in-Ok-Some-record_at-clause-same : goal.returns-in-Ok-Some-record_at-clause-same
-returns-in-Ok-Some-record_at-clause-same g c = c.record_at.ensures.same ∙ ap (λ f. f.0) c.search.ensures.kept.1
+returns-in-Ok-Some-record_at-clause-same g c =
+    let was = c.search.ensures.kept.1 in
+    let now = c.record_at.ensures.same in
+    (now.0 ∙ ap (λ f. f.0) was, now.1 ∙ ap (λ f. f.1) was, now.2 ∙ ap (λ f. f.2) was)
 
 pub returns-in-Ok-None-record_at-clause-same : goal.returns-in-Ok-None-record_at-clause-same
-returns-in-Ok-None-record_at-clause-same g c = c.record_at.ensures.same ∙ ap (λ f. f.0) c.search.ensures.kept.1
+returns-in-Ok-None-record_at-clause-same g c =
+    let was = c.search.ensures.kept.1 in
+    let now = c.record_at.ensures.same in
+    (now.0 ∙ ap (λ f. f.0) was, now.1 ∙ ap (λ f. f.1) was, now.2 ∙ ap (λ f. f.2) was)
 
 pub returns-in-Err-clause-same : goal.returns-in-Err-clause-same
-returns-in-Err-clause-same g c = c.record_at.ensures.same ∙ ap (λ f. f.0) c.search.ensures.kept.1
+returns-in-Err-clause-same g c =
+    let was = c.search.ensures.kept.1 in
+    let now = c.record_at.ensures.same in
+    (now.0 ∙ ap (λ f. f.0) was, now.1 ∙ ap (λ f. f.1) was, now.2 ∙ ap (λ f. f.2) was)
 
 pub returns-in-Ok-None-clause-finds : goal.returns-in-Ok-None-clause-finds
 returns-in-Ok-None-clause-finds g c = λ honest.
