@@ -1,9 +1,10 @@
 -- What stops among steps leave.
-use Rattle.std.proofs.Common.{inl, inr, ⊎_elim, ℕ, zero, suc, List, [], ◌∷◌, length, refl, sym, ◌∙◌, ap, subst}
+use Rattle.std.proofs.Common.{◌≢◌, inl, inr, ⊎_elim, ℕ, zero, suc, List, [], ◌∷◌, length, refl, sym, ◌∙◌, ap, subst}
 use Rattle.std.proofs.Math.Seq.{take-length}
 use Rattle.gix_ref_files.specs.Tree.{Tree, Path, appended, folders_to, with_folders}
 use Rattle.gix_ref_files.specs.Calls.{created, Creating}
-use Rattle.gix_ref_files.specs.Steps.{Step, Create, Append, Line, Rename, RemoveFile, MakeFolders, RemoveFolder, End, Does, Begins, IsAfter, IsLeftBy, EndsBy, EndsAt, HasMemory, cause_of_sync}
+use Rattle.gix_ref_files.specs.Steps.{Step, Create, Append, Line, Rename, RemoveFile, MakeFolders, RemoveFolder, End, Does, Begins, IsAfter, IsLeftBy, EndsBy, EndsAt, IsCounted, IsCountedSync, cause_of_sync}
+use Rattle.gix_ref_files.specs.Files.{FaultCounts}
 use Rattle.gix_ref_files.specs.declared.steps.Cause.{Cause}
 use Rattle.gix_ref_files.specs.declared.steps.Cause.TheVariants.{File, Sync, Unexpected, Asked}
 use Rattle.gix_ref_files.proofs.Puts.{appended_none}
@@ -62,9 +63,9 @@ ended_is_left [] at cause before T ends = absurd ends
 ended_is_left (step ∷ steps) zero cause before T ends = inl (ended_is_begun step cause before T ends)
 ended_is_left (step ∷ steps) (suc at) cause before T ends = inr (ends.0, ends.1, ended_is_left steps at cause ends.0 T ends.2)
 
--- a run that did not want memory in a sync did not want it in the step
-pub memory_once_done : (cause : Cause) → HasMemory cause → HasMemory (cause_of_sync cause)
-memory_once_done (File error) memory = memory
-memory_once_done (Sync error) memory = memory
-memory_once_done Unexpected memory = memory
-memory_once_done Asked memory = memory
+-- a sync's cause, as that of a run whose step is done
+pub counted_once_done : (cause : Cause) (a b : FaultCounts) → IsCountedSync cause a b → IsCounted (cause_of_sync cause) a b × (cause_of_sync cause ≢ Asked)
+counted_once_done (File error) a b is = (is.0, (λ asked. absurd (cc)))
+counted_once_done (Sync error) a b is = (is.0, (λ asked. absurd (cc)))
+counted_once_done Unexpected a b is = (is.0, (λ asked. absurd (cc)))
+counted_once_done Asked a b is = absurd (is.1 refl)

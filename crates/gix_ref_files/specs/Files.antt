@@ -1,6 +1,6 @@
 -- What files mean: a disk, a clock, and the disks that were found on the way; and so what a stop and what a loss of power could
 -- have left.
-use Rattle.std.specs.Prelude.{◌≡◌, ◌⊎◌, ℕ, ◌+◌, ◌-◌, ◌<◌, ◌≤◌, ◌^◌, Result, Ok, Err, nat_lt, ◌==◌, if◌then◌else◌}
+use Rattle.std.specs.Prelude.{◌≡◌, ◌⊎◌, ℕ, ◌+◌, ◌-◌, ◌<◌, ◌≤◌, ◌^◌, Result, Ok, Err, nat_lt, ◌==◌, if◌then◌else◌, IsErrOf}
 use Rattle.gix_ref_files.specs.Kinds.{number_of_kind}
 use Rattle.gix_ref_files.specs.Tree.{Tree}
 use Rattle.gix_ref_files.specs.Disk.{Disk, Unsynced, Lost}
@@ -44,6 +44,10 @@ count_with Memory n = n
 abbrev pub count_after : {T : Type 0} → Result T FileError → FaultCounts → FaultCounts
 count_after (Ok value) n = n
 count_after (Err error) n = count_with error n
+
+-- the counts before and after a call whose fault is no lack of memory
+abbrev pub CountsCall : {T : Type 0} → Result T FileError → FaultCounts → FaultCounts → Type 0
+CountsCall result before now = (now ≡ count_after result before) × (IsErrOf result Memory → ⊥)
 
 -- one number has risen to another; the greatest one counts as risen
 abbrev pub IsRise : ℕ → ℕ → Type 0

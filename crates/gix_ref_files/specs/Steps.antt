@@ -134,3 +134,11 @@ HasMemory (File error) = error ≢ no_memory
 HasMemory (Sync error) = error ≢ no_memory
 HasMemory Unexpected = Unit {0}
 HasMemory Asked = Unit {0}
+
+-- a step ended for this cause, whose fault is counted
+abbrev pub IsCounted : Cause → FaultCounts → FaultCounts → Type 0
+IsCounted cause before now = (now ≡ count_ended cause before) × HasMemory cause
+
+-- so a sync, which never ends because it was asked to
+abbrev pub IsCountedSync : Cause → FaultCounts → FaultCounts → Type 0
+IsCountedSync cause before now = IsCounted cause before now × (cause ≢ Asked)

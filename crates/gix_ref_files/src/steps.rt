@@ -3,10 +3,10 @@
 ghost use Rattle.std.specs.Prelude.{◌≡◌, ◌<◌, ◌≤◌, ◌-◌, IsTrue, OnOk, OnErr, IfOk, IfErr, IsErrOf, MatchResult, [], ◌∷◌, length, true, false};
 ghost use Rattle.gix_ref_files.specs.Tree.{is_folder, is_file, has_folders};
 ghost use Rattle.gix_ref_files.specs.Disk.{folder_of};
-ghost use Rattle.gix_ref_files.specs.Files.{AtEveryStop, OnEveryDisk, disk_of, count_after, DiskBecomes};
+ghost use Rattle.gix_ref_files.specs.Files.{AtEveryStop, OnEveryDisk, disk_of, CountsCall, DiskBecomes};
 ghost use Rattle.gix_ref_files.specs.Settled.{synced, synced_by, sync_of_folder, folders_up, climb, from_one};
 ghost use Rattle.gix_ref_files.specs.Settled.Sync.{OfFile, OfFolder};
-ghost use Rattle.gix_ref_files.specs.Steps.{Does, EndsBy, IsAfter, IsLeftBy, EndsAt, step_of, steps_of, cause_of_sync, count_ended, HasMemory, MayBeSynced};
+ghost use Rattle.gix_ref_files.specs.Steps.{Does, EndsBy, IsAfter, IsLeftBy, EndsAt, step_of, steps_of, cause_of_sync, IsCounted, IsCountedSync, MayBeSynced};
 ghost use Rattle.gix_ref_files.specs.Steps.Step.{Line};
 ghost use Rattle.gix_ref_files.specs.DiskSteps.{DoesOn, BeginsOn, With, IsReachedBy, IsSyncedAfter, IsEndedAt, IsSomeSynced, Settling, folder_syncs, path_syncs, syncs_of, synced_steps, needs, CanSync, CanSettle};
 ghost use Rattle.gix_ref_files.specs.declared.steps.Cause.TheVariants.{File};
@@ -121,8 +121,7 @@ fn append_line<F: Files>(files: &mut F, path: &[u8], bytes: &[u8]) -> Result<boo
         bytes.now) Cause.Unexpected (F.means files.old).tree (F.means files.new).tree) }
     ensures passes { F.honest → OnEveryDisk F.means files.old files.new
         (BeginsOn (Line path.now bytes.now)) }
-    ensures count { F.faults files.new ≡ count_after result (F.faults files.old) }
-    ensures memory { IsErrOf result FileError.Memory → ⊥ }
+    ensures count { CountsCall result (F.faults files.old) (F.faults files.new) }
 {
     if files.append(path, bytes)? {
         return Ok(true);
@@ -143,8 +142,7 @@ fn make_line<F: Files>(files: &mut F, path: &[u8], bytes: &[u8]) -> Result<bool,
         bytes.now) Cause.Unexpected (F.means files.old).tree (F.means files.new).tree) }
     ensures passes { F.honest → OnEveryDisk F.means files.old files.new
         (BeginsOn (Line path.now bytes.now)) }
-    ensures count { F.faults files.new ≡ count_after result (F.faults files.old) }
-    ensures memory { IsErrOf result FileError.Memory → ⊥ }
+    ensures count { CountsCall result (F.faults files.old) (F.faults files.new) }
 {
     match files.create_new(path)? {
         Create::Made | Create::Standing => files.append(path, bytes),
@@ -167,8 +165,7 @@ fn add_line<F: Files>(
         bytes.now) Cause.Unexpected (F.means files.old).tree (F.means files.new).tree) }
     ensures passes { F.honest → OnEveryDisk F.means files.old files.new
         (BeginsOn (Line path.now bytes.now)) }
-    ensures count { F.faults files.new ≡ count_after result (F.faults files.old) }
-    ensures memory { IsErrOf result FileError.Memory → ⊥ }
+    ensures count { CountsCall result (F.faults files.old) (F.faults files.new) }
 {
     if seen {
         append_line(files, path, bytes)
@@ -206,9 +203,8 @@ fn change<F: Files>(files: &mut F, action: &Action<'_>) -> Result<bool, Cause>
     ensures passes { F.honest → OnEveryDisk F.means files.old files.new
         (BeginsOn (step_of action.now)) }
     ensures count { MatchResult result (λ _. F.faults files.new ≡ F.faults files.old)
-        (λ cause. F.faults files.new ≡ count_ended cause (F.faults files.old)) }
+        (λ cause. IsCounted cause (F.faults files.old) (F.faults files.new)) }
     ensures asked { IsErrOf result Cause.Asked → action.now ≡ Action.End }
-    ensures memory { IfErr result HasMemory }
 {
     match *action {
         Action::Create { path } => as_done(files.create_new(path)? == Create::Made),
@@ -234,9 +230,7 @@ fn sync_bytes<F: Files>(files: &mut F, path: &[u8]) -> Result<(), Cause>
     ensures passes { F.honest → OnEveryDisk F.means files.old files.new
         (Settling (OfFile path.now)) }
     ensures count { MatchResult result (λ _. F.faults files.new ≡ F.faults files.old)
-        (λ cause. F.faults files.new ≡ count_ended cause (F.faults files.old)) }
-    ensures asked { IsErrOf result Cause.Asked → ⊥ }
-    ensures memory { IfErr result HasMemory }
+        (λ cause. IsCountedSync cause (F.faults files.old) (F.faults files.new)) }
 {
     if files.sync_file(path)? {
         Ok(())
@@ -254,9 +248,7 @@ fn sync_entries<F: Files>(files: &mut F, path: &[u8]) -> Result<(), Cause>
     ensures passes { F.honest → OnEveryDisk F.means files.old files.new
         (Settling (OfFolder path.now)) }
     ensures count { MatchResult result (λ _. F.faults files.new ≡ F.faults files.old)
-        (λ cause. F.faults files.new ≡ count_ended cause (F.faults files.old)) }
-    ensures asked { IsErrOf result Cause.Asked → ⊥ }
-    ensures memory { IfErr result HasMemory }
+        (λ cause. IsCountedSync cause (F.faults files.old) (F.faults files.new)) }
 {
     if files.sync_folder(path)? {
         Ok(())
@@ -283,9 +275,7 @@ fn sync_up<F: Files>(files: &mut F, path: &[u8], top: usize) -> Result<(), Cause
     ensures passes { F.honest → OnEveryDisk F.means files.old files.new
         (IsSomeSynced (folders_up path.now top (length path.now - top))) }
     ensures count { MatchResult result (λ _. F.faults files.new ≡ F.faults files.old)
-        (λ cause. F.faults files.new ≡ count_ended cause (F.faults files.old)) }
-    ensures asked { IsErrOf result Cause.Asked → ⊥ }
-    ensures memory { IfErr result HasMemory }
+        (λ cause. IsCountedSync cause (F.faults files.old) (F.faults files.new)) }
 {
     let mut end = path.len();
     while end > top {
@@ -306,9 +296,7 @@ fn sync_folders<F: Files>(files: &mut F, path: &[u8], root: usize) -> Result<(),
     ensures passes { F.honest → OnEveryDisk F.means files.old files.new
         (IsSomeSynced (climb path.now root)) }
     ensures count { MatchResult result (λ _. F.faults files.new ≡ F.faults files.old)
-        (λ cause. F.faults files.new ≡ count_ended cause (F.faults files.old)) }
-    ensures asked { IsErrOf result Cause.Asked → ⊥ }
-    ensures memory { IfErr result HasMemory }
+        (λ cause. IsCountedSync cause (F.faults files.old) (F.faults files.new)) }
 {
     let top = root_of(root);
     sync_up(files, path, top)
@@ -323,9 +311,7 @@ fn sync_own_folder<F: Files>(files: &mut F, path: &[u8]) -> Result<(), Cause>
     ensures passes { F.honest → OnEveryDisk F.means files.old files.new
         (IsSomeSynced (sync_of_folder (folder_of path.now))) }
     ensures count { MatchResult result (λ _. F.faults files.new ≡ F.faults files.old)
-        (λ cause. F.faults files.new ≡ count_ended cause (F.faults files.old)) }
-    ensures asked { IsErrOf result Cause.Asked → ⊥ }
-    ensures memory { IfErr result HasMemory }
+        (λ cause. IsCountedSync cause (F.faults files.old) (F.faults files.new)) }
 {
     let folder = folder(path);
     if folder.is_empty() {
@@ -343,9 +329,7 @@ fn sync_above<F: Files>(files: &mut F, path: &[u8], settle: Settle) -> Result<()
     ensures passes { F.honest → OnEveryDisk F.means files.old files.new
         (IsSomeSynced (folder_syncs path.now settle)) }
     ensures count { MatchResult result (λ _. F.faults files.new ≡ F.faults files.old)
-        (λ cause. F.faults files.new ≡ count_ended cause (F.faults files.old)) }
-    ensures asked { IsErrOf result Cause.Asked → ⊥ }
-    ensures memory { IfErr result HasMemory }
+        (λ cause. IsCountedSync cause (F.faults files.old) (F.faults files.new)) }
 {
     match settle {
         Settle::Nothing | Settle::File => Ok(()),
@@ -363,9 +347,7 @@ fn sync_line<F: Files>(files: &mut F, path: &[u8], settle: Settle) -> Result<(),
     ensures passes { F.honest → OnEveryDisk F.means files.old files.new
         (IsSomeSynced (OfFile path.now ∷ folder_syncs path.now settle)) }
     ensures count { MatchResult result (λ _. F.faults files.new ≡ F.faults files.old)
-        (λ cause. F.faults files.new ≡ count_ended cause (F.faults files.old)) }
-    ensures asked { IsErrOf result Cause.Asked → ⊥ }
-    ensures memory { IfErr result HasMemory }
+        (λ cause. IsCountedSync cause (F.faults files.old) (F.faults files.new)) }
 {
     sync_bytes(files, path)?;
     sync_above(files, path, settle)
@@ -380,9 +362,7 @@ fn sync_path<F: Files>(files: &mut F, grows: bool, path: &[u8], settle: Settle) 
     ensures passes { F.honest → OnEveryDisk F.means files.old files.new
         (IsSomeSynced (path_syncs grows path.now settle)) }
     ensures count { MatchResult result (λ _. F.faults files.new ≡ F.faults files.old)
-        (λ cause. F.faults files.new ≡ count_ended cause (F.faults files.old)) }
-    ensures asked { IsErrOf result Cause.Asked → ⊥ }
-    ensures memory { IfErr result HasMemory }
+        (λ cause. IsCountedSync cause (F.faults files.old) (F.faults files.new)) }
 {
     match settle {
         Settle::Nothing => Ok(()),
@@ -405,10 +385,8 @@ fn sync_after<F: Files>(files: &mut F, action: &Action<'_>, settle: Settle) -> R
     ensures passes { F.honest → OnEveryDisk F.means files.old files.new
         (IsSomeSynced (syncs_of action.now settle)) }
     ensures count { MatchResult result (λ _. F.faults files.new ≡ F.faults files.old)
-        (λ cause. F.faults files.new ≡ count_ended cause (F.faults files.old)) }
+        (λ cause. IsCountedSync cause (F.faults files.old) (F.faults files.new)) }
     ensures synced { OnErr result (MayBeSynced (step_of action.now)) }
-    ensures asked { IsErrOf result Cause.Asked → ⊥ }
-    ensures memory { IfErr result HasMemory }
 {
     match *action {
         Action::Create { path } => sync_path(files, false, path, settle),
@@ -444,9 +422,8 @@ fn run_step<F: Files>(files: &mut F, action: &Action<'_>, settle: Settle) -> Res
     ensures passes { F.honest → OnEveryDisk F.means files.old files.new
         (IsReachedBy (With (step_of action.now) (syncs_of action.now settle) ∷ [])) }
     ensures count { MatchResult result (λ _. F.faults files.new ≡ F.faults files.old)
-        (λ cause. F.faults files.new ≡ count_ended cause (F.faults files.old)) }
+        (λ cause. IsCounted cause (F.faults files.old) (F.faults files.new)) }
     ensures asked { IsErrOf result Cause.Asked → action.now ≡ Action.End }
-    ensures memory { IfErr result HasMemory }
 {
     if !change(files, action)? {
         return Ok(());
@@ -481,9 +458,8 @@ pub fn run_steps<F: Files, E>(files: &mut F, plan: &[Planned<'_, E>]) -> Result<
         (IsReachedBy (synced_steps plan.now)) }
 
     ensures count { MatchResult result (λ _. F.faults files.new ≡ F.faults files.old)
-        (λ end. F.faults files.new ≡ count_ended end.cause (F.faults files.old)) }
+        (λ end. IsCounted end.cause (F.faults files.old) (F.faults files.new)) }
     ensures place { IfErr result (λ end. end.at < length plan.now) }
-    ensures memory { IfErr result (λ end. HasMemory end.cause) }
 {
     for (at, planned) in plan.iter().enumerate() {
         if let Err(cause) = run_step(files, &planned.action, planned.settle) {

@@ -51,7 +51,7 @@ pub returns-clause-runs : goal.returns-clause-runs
 returns-clause-runs g c = record {
   leaves = λ h. rw (bares_are c.deref.result.now _ (ap entries c.deref.ensures.value ∙ (c.in-Ok-clear.ensures ∙ ap (cleared (folder_lists c.args.ways.now)) c.in-Ok.ensures))) at (c.run_steps.ensures.leaves h);
   passes = λ h. rw (synced_are c.deref.result.now _ (ap entries c.deref.ensures.value ∙ (c.in-Ok-clear.ensures ∙ ap (cleared (folder_lists c.args.ways.now)) c.in-Ok.ensures))) at (c.run_steps.ensures.passes h);
-  no_fewer = no_fewer_at_end c.in-Err.ended.cause _ _ c.in-Err.ensures.count;
+  no_fewer = no_fewer_at_end c.in-Err.ended.cause _ _ c.in-Err.ensures.count.0;
 }
 
 pub returns-clause-stopped : goal.returns-clause-stopped
@@ -66,5 +66,5 @@ returns-clause-stopped g c =
           (ap entries c.deref.ensures.value ∙ (c.in-Ok-clear.ensures ∙ ap (cleared (folder_lists c.args.ways.now)) c.in-Ok.ensures)) c.in-Err.ensures.place
           (subst (λ (l : List (Planned About)). IsStepAt l c.in-Err.ended c.step_of_end.result) same c.step_of_end.ensures)
           c.in-Err.ensures.ended;
-      counted = raised_at_end c.deref-in-Err.result.now c.in-Err.ended c.step_of_end.result _ _ c.step_of_end.ensures c.in-Err.ensures.count c.in-Err.ensures.memory;
+      counted = raised_at_end c.deref-in-Err.result.now c.in-Err.ended c.step_of_end.result _ _ c.step_of_end.ensures c.in-Err.ensures.count.0 c.in-Err.ensures.count.1;
     }

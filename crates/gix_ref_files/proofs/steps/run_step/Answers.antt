@@ -1,6 +1,9 @@
-use Rattle.std.proofs.Common.{◌≡◌, sym, subst, rules}
-use Rattle.gix_ref_files.specs.Steps.{Does, HasMemory, step_of}
-use Rattle.gix_ref_files.proofs.Between.{memory_once_done}
+use Rattle.std.proofs.Common.{◌≡◌, sym, ◌∙◌, subst, rules}
+use Rattle.gix_ref_files.specs.Steps.{Does, IsCounted, step_of}
+use Rattle.gix_ref_files.specs.Files.{FaultCounts}
+use Rattle.gix_ref_files.specs.declared.steps.Cause.{Cause}
+use Rattle.gix_ref_files.specs.declared.steps.Cause.TheVariants.{Asked}
+use Rattle.gix_ref_files.proofs.Between.{counted_once_done}
 use Rattle.gix_ref_files.specs.Tree.{Tree}
 use Rattle.gix_ref_files.specs.DiskSteps.{syncs_of}
 use Rattle.gix_ref_files.proofs.Stops.{some_synced_trees}
@@ -21,5 +24,14 @@ returns-in-Err-clause-ended g c h =
     subst (λ (T : Tree). Does (step_of c.args.action.now) before T) (sym same) (c.in_ok-change.ensures.done h) in
     search (rules, does)
 
-pub returns-in-Err-clause-memory : goal.returns-in-Err-clause-memory
-returns-in-Err-clause-memory g c = subst HasMemory (sym c.as_sync_error.ensures) (memory_once_done c.in-Err.cause c.in-Err.ensures.memory)
+pub returns-in-Err-clause-count : goal.returns-in-Err-clause-count
+returns-in-Err-clause-count g c =
+    let before = g.F.Files.faults c.change.new.files in
+    let counted = (counted_once_done c.in-Err.cause before (g.F.Files.faults c.sync_after.new.files) c.in-Err.ensures.count).0 in
+    subst (λ (n : FaultCounts). IsCounted c.as_sync_error.result n (g.F.Files.faults c.sync_after.new.files)) c.in_ok-change.ensures.count
+    (subst (λ (cause : Cause). IsCounted cause before (g.F.Files.faults c.sync_after.new.files)) (sym c.as_sync_error.ensures) counted)
+
+pub returns-in-Err-clause-asked : goal.returns-in-Err-clause-asked
+returns-in-Err-clause-asked g c is =
+    let asked : c.as_sync_error.result ≡ Asked = cc (is) in
+    absurd ((counted_once_done c.in-Err.cause (g.F.Files.faults c.change.new.files) (g.F.Files.faults c.sync_after.new.files) c.in-Err.ensures.count).1 (sym c.as_sync_error.ensures ∙ asked))
