@@ -5,7 +5,7 @@ use Rattle.std.specs.List.{list_any}
 use Rattle.std.proofs.lemmas.List.{length-take-le}
 use Rattle.gix_ref_files.specs.Tree.{Tree, Path, put, is_file, is_blocked, fronts, fronts_after, folders_to, with_folders}
 use Rattle.gix_ref_files.specs.Tree.Content.{Folder}
-use Rattle.gix_ref_files.specs.Disk.{Disk, created_on, with_folders_on}
+use Rattle.gix_ref_files.specs.Disk.{Disk, created_on, folder_of, with_folders_on}
 use Rattle.gix_ref_files.specs.DiskCalls.{MakingFoldersOn, CreatingOn, after_create}
 use Rattle.gix_ref_files.specs.Files.{Meaning, disk_of, Passes}
 use Rattle.gix_ref_files.specs.Calls.{MakesFolders, MakingFolders, is_in_the_way, Creates}
@@ -49,13 +49,25 @@ readying_on before q p some is D making =
     (λ made. inr (sym (way_is_blocked before.tree q p some is) ∙ made.0, (made.1.0, made.1.1 ∙ ap (λ (l : List Path). with_folders_on before (take made.1.0 l)) (sym is))))
     making
 
--- past the next byte
-pub end_next : (p : Path) (i end : ℕ) (slash : Bool) → 1 ≤ i → i < length p → (get_or p i 0 == 47) ≡ slash → fronts (take i p) ≡ folders_up_to p end → fronts (take (i + 1) p) ≡ folders_up_to p (if slash then i else end)
-end_next p zero end slash some lt is so_far = absurd (omega arith)
-end_next p (suc i) end true some lt is so_far =
+-- at a slash
+pub fronts_at_slash : (p : Path) (i : ℕ) → 1 ≤ i → i < length p → (get_or p i 0 == 47) ≡ true → fronts (take (i + 1) p) ≡ folders_up_to p i
+fronts_at_slash p zero some lt is = absurd (omega arith)
+fronts_at_slash p (suc i) some lt is =
     fronts_next p (suc i) true some lt is
     ∙ sym (fronts_snoc (take (suc i) p) 47 (let le : suc i ≤ length p = omega arith in omega (arith, length-take-le (suc i) p le)))
-end_next p (suc i) end false some lt is so_far = fronts_next p (suc i) false some lt is ∙ so_far
+
+-- a text of at most one byte has no folder and no front
+pub no_fronts : (p : Path) (end : ℕ) → end ≤ 1 → fronts (take end p) ≡ []
+no_fronts p zero le = refl
+no_fronts [] (suc end) le = refl
+no_fronts (b ∷ p) (suc zero) le = refl
+no_fronts (b ∷ p) (suc (suc end)) le = absurd (omega arith)
+
+pub no_folder : (p : Path) (end : ℕ) → end ≤ 1 → folder_of (take end p) ≡ []
+no_folder p zero le = refl
+no_folder [] (suc end) le = refl
+no_folder (b ∷ p) (suc zero) le = refl
+no_folder (b ∷ p) (suc (suc end)) le = absurd (omega arith)
 
 -- the folders up to a slash that is there
 pub up_to_slash : (p : Path) (end : ℕ) → (end ≡ 0 → ⊥) → folders_up_to p end ≡ folders_to (take end p)

@@ -40,7 +40,7 @@ pub struct Disk {
 /// A file that was made and is open.
 #[derive(Drop)]
 struct MadeFile {
-    path: Vec<u8>,
+    path: String,
     file: File,
 }
 
@@ -122,11 +122,18 @@ impl Disk {
     ghost use Rattle.std.specs.Prelude.{IsErrOf};
     ghost use Rattle.gix_ref_files.specs.Files.{count_after};
 
-    /// Whether the file that was made last is the one at a path, and is open.
-    fn made_here(&self, path: &[u8]) -> bool {
-        match &self.made {
-            Some(made) => made.path.as_slice() == path,
-            None => false,
+    /// Closes the file that was made last. Returns its path, where that is this one.
+    fn close_made(&mut self, path: &[u8]) -> Option<String>
+        ensures { counts_of self.new.faults ≡ counts_of self.old.faults }
+    {
+        let MadeFile {
+            path: made,
+            file: _,
+        } = self.made.take()?;
+        if made.as_bytes() == path {
+            Some(made)
+        } else {
+            None
         }
     }
 
@@ -287,7 +294,7 @@ impl Files for Disk {
         };
         match made {
             Ok(file) => {
-                self.made = kept(self.rt.alloc(), path, file);
+                self.made = kept(self.rt.alloc(), name, file);
                 Ok(Create::Made)
             }
             Err(error) => match error.kind() {
@@ -320,7 +327,7 @@ impl Files for Disk {
     /// Four system calls, and one for the file that was made last.
     fn append(&mut self, path: &[u8], bytes: &[u8]) -> Result<bool, FileError> {
         let appended = match &mut self.made {
-            Some(made) if made.path.as_slice() == path => write_to(&mut made.file, bytes),
+            Some(made) if made.path.as_bytes() == path => write_to(&mut made.file, bytes),
             _ => append_to(&self.rt, text_of(&mut self.faults, path)?, bytes),
         };
         match appended {
@@ -335,14 +342,13 @@ impl Files for Disk {
     /// Two system calls: the first one looks whether it is a file, since the second would move a folder too. For the file that was made
     /// last the second alone, and one that closes it.
     fn rename(&mut self, from: &[u8], to: &[u8]) -> Result<Rename, FileError> {
-        let is_made = self.made_here(from);
-        self.made = None;
-        let from = text_of(&mut self.faults, from)?;
-        let to = text_of(&mut self.faults, to)?;
-        let renamed = if is_made {
-            move_file(&self.rt, from, to)
-        } else {
-            rename_file(&self.rt, from, to)
+        let made = self.close_made(from);
+        let renamed = match &made {
+            Some(from) => move_file(&self.rt, from, text_of(&mut self.faults, to)?),
+            None => {
+                let from = text_of(&mut self.faults, from)?;
+                rename_file(&self.rt, from, text_of(&mut self.faults, to)?)
+            }
         };
         match renamed {
             Ok(rename) => Ok(rename),
@@ -370,7 +376,7 @@ impl Files for Disk {
             return Ok(true);
         }
         match &self.made {
-            Some(made) if made.path.as_slice() == path => match made.file.sync_all() {
+            Some(made) if made.path.as_bytes() == path => match made.file.sync_all() {
                 Ok(()) => Ok(true),
                 Err(error) => Err(fault(&mut self.faults, error.kind())),
             },
@@ -493,8 +499,8 @@ fn append_to(rt: &HostRuntime, path: &str, bytes: &[u8]) -> io::Result<bool> {
 }
 
 /// A file that was made, with its path; `None` where there is no memory for that, and then it is closed.
-fn kept(alloc: Global, path: &[u8], file: File) -> Option<MadeFile> {
-    let path = path.to_vec(alloc).ok()?;
+fn kept(alloc: Global, path: &str, file: File) -> Option<MadeFile> {
+    let path = String::from_str(alloc, path).ok()?;
     Some(MadeFile { path, file })
 }
 

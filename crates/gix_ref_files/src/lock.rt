@@ -97,7 +97,9 @@ impl LockFile {
     pub fn at(place: Vec<u8>) -> Result<LockFile, AllocError>
         ensures { IfOk result (λ file. file ≡ place.items) }
     {
-        let mut lock = place.clone()?;
+        let room = place.len().saturating_add(5);
+        let mut lock = Vec::with_capacity(*place.allocator(), room)?;
+        lock.extend_from_slice(&place)?;
         lock.extend_from_slice(b".lock")?;
         Ok(LockFile { place, lock })
     }

@@ -10,13 +10,14 @@ pub fn folder_end(path: &[u8]) -> usize
     ensures folder { take result path.now ≡ folder_of path.now }
     ensures folders { fronts path.now ≡ folders_up_to path.now result }
 {
-    let mut end = 0;
-    for i in 1..path.len() {
-        if path[i] == b'/' {
-            end = i;
+    let mut end = path.len();
+    while end > 1 {
+        end -= 1;
+        if path[end] == b'/' {
+            return end;
         }
     }
-    end
+    0
 }
 
 /// The folder of a path: what is before its last slash, unless that is its first byte. As `Path::parent`.
