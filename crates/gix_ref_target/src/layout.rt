@@ -1,5 +1,5 @@
 //! Where a store keeps a name: its loose file, its log, and its key in `packed-refs` (`git worktree`, `gitnamespaces`).
-ghost use Rattle.std.specs.Prelude.{◌≡◌, ◌++◌, ◌∷◌, IfOk, MatchOption, Some, None, true, false, codes};
+ghost use Rattle.std.specs.Prelude.{◌≡◌, ◌≢◌, ◌++◌, ◌∷◌, List, ℕ, IfOk, MatchOption, Some, None, true, false, codes};
 ghost use Rattle.std.specs.Bool.{OnTrue};
 ghost use Rattle.std.specs.Option.{option_map};
 ghost use Rattle.gix_ref_name.specs.Names.{full_ref_bytes};
@@ -9,7 +9,6 @@ ghost use Rattle.gix_ref_target.specs.Locations.{is_safe, paths_at, row_of, key_
 ghost use Rattle.gix_ref_target.specs.Locations.Location.{Common as CommonName};
 ghost use Rattle.gix_ref_target.specs.RefLayout.{location_value};
 
-use gix_ref_hash::bytes::strip_front;
 use gix_ref_name::name::{Category, FullNameRef};
 use std::alloc::{AllocError, Global};
 
@@ -105,12 +104,23 @@ fn is_elsewhere(name: &[u8]) -> bool
     }
 }
 
+/// What follows `refs/` in a name that begins with it.
+fn below_refs(name: &[u8]) -> Option<&[u8]>
+    ensures { MatchOption result ((rest : List ℕ) → name.now ≢ codes "refs/" ++ rest)
+        (λ rest. name.now ≡ codes "refs/" ++ rest.now) }
+{
+    match name {
+        [b'r', b'e', b'f', b's', b'/', rest @ ..] => Some(rest),
+        _ => None,
+    }
+}
+
 /// Whether some bytes of a name show that all worktrees share its reference under the same name: so they do for most
 /// names, and then no category need be looked for.
 fn is_shared(name: &[u8]) -> bool
     ensures { OnTrue result ((f : Layout) → paths_at f name.now ≡ row_of f (CommonName name.now)) }
 {
-    match strip_front(name, b"refs/") {
+    match below_refs(name) {
         Some(rest) => is_shared_below_refs(rest),
         None => is_elsewhere(name),
     }
@@ -270,12 +280,10 @@ impl<'a> RefLayout<'a> {
         ensures { OnTrue result ((paths_at (layout_of self.entry) (full_ref_bytes name.entry)).key
             ≡ Some (full_ref_bytes name.entry)) }
     {
-        match location_or_common(name) {
-            Location::Common(key) => self.namespace.is_empty() && name.eq_bytes(key),
-            Location::ThisWorktree(_)
-            | Location::MainWorktree(_)
-            | Location::LinkedWorktree { .. } => false,
+        if !self.namespace.is_empty() {
+            return false;
         }
+        is_shared(name.to_path())
     }
 
     /// The path of the loose file of a location.

@@ -47,6 +47,9 @@ pub(crate) fn assure_single_names<T: EditEntry>(
     ensures doubled { IfErr result
         (IsNameFault (IsLeastDoubled (entry_names T.edit_of entries.now))) }
 {
+    if entries.len() < 2 {
+        return Ok(());
+    }
     let mut names = names_of_entries(alloc, entries)?;
     names.sort_unstable();
     match least_doubled(&names) {
