@@ -10,6 +10,7 @@ pub mod LineSteps
 pub mod LinesAgain
 pub mod LogRuns
 pub mod NumberLemmas
+pub mod PlainTexts
 pub mod SignatureLemmas
 pub mod SignaturesAgain
 pub mod StampNumbers

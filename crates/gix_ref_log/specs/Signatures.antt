@@ -1,5 +1,5 @@
 -- Signatures: who made a change, and when, and their text. Git's page is `git commit-tree` (the committer's line).
-use Rattle.std.specs.Prelude.{ℕ, ◌+◌, ◌-◌, ◌*◌, ◌/◌, ◌%◌, ◌≡◌, ◌≢◌, ◌<◌, ◌==◌, ◌⊎◌, ◌&&◌, nat_lt, List, [], ◌∷◌, ◌++◌, length, take, drop, slice_index, if◌then◌else◌, ℤ, pos, negsuc, neg_ℤ, FitsSigned}
+use Rattle.std.specs.Prelude.{ℕ, ◌+◌, ◌-◌, ◌*◌, ◌/◌, ◌%◌, ◌≡◌, ◌≢◌, ◌<◌, ◌==◌, ◌⊎◌, ◌&&◌, ◌||◌, nat_lt, Bool, List, [], ◌∷◌, ◌++◌, length, take, drop, slice_index, if◌then◌else◌, ℤ, pos, negsuc, neg_ℤ, FitsSigned}
 use Rattle.std.specs.List.{prefix_len, suffix_len}
 use Rattle.std.specs.Char.{is_ascii_whitespace}
 use Rattle.std.specs.Fmt.{signed_decimal}
@@ -85,6 +85,10 @@ pub record IsStamp (text : List ℕ) (seconds offset : ℤ) : Type 0 where
   pub no_bracket : NoByte 62 (32 ∷ (digits ++ 32 ∷ zone))
   pub seconds_are : IsSeconds digits seconds
   pub offset_is : IsZone zone offset
+
+-- `<`, `>` or LF
+abbrev pub is_mark : ℕ → Bool
+is_mark b = (b == 60) || (b == 62) || (b == 10)
 
 -- no `<`, no `>` and no LF
 abbrev pub IsPlainText : List ℕ → Type 0

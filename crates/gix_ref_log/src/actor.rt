@@ -1,9 +1,8 @@
 //! Who made a change, and when: the signatures in reflogs, as `git commit-tree` writes them.
 ghost use Rattle.std.specs.Prelude.{◌≡◌, ◌+◌, ◌-◌, ◌*◌, ◌↔◌, IsTrue, ℤ, pos, MatchOption, IfSome};
-ghost use Rattle.gix_ref_log.specs.Signatures.{Who, IsSeconds, IsZone, IsDigit, IsPlainText, IsSignature, IsWritableOffset, CanWrite, offset_text, signature_text, trimmed, without_space};
+ghost use Rattle.gix_ref_log.specs.Signatures.{Who, IsSeconds, IsZone, IsDigit, IsPlainText, IsSignature, IsWritableOffset, CanWrite, is_mark, offset_text, signature_text, trimmed, without_space};
 
-use crate::writer::write_parts;
-use bstr::ByteSlice;
+use crate::writer::{push_parts, write_parts};
 use gix_ref_hash::bytes::{cut, cut_last};
 use std::alloc::{AllocError, Global};
 use std::io;
@@ -123,13 +122,23 @@ fn before_space(name: &[u8]) -> &[u8]
     &name[..len - 1]
 }
 
+/// Whether a byte cannot be in a name or an email: `<`, `>` or LF.
+fn is_mark(byte: u8) -> bool
+    ensures { result ≡ is_mark byte }
+{
+    matches!(byte, b'<' | b'>' | b'\n')
+}
+
 /// Whether a name or an email can be written: it holds no `<`, no `>` and no LF.
 fn is_plain(text: &[u8]) -> bool
     ensures { IsTrue result ↔ IsPlainText text.now }
 {
-    text.find_byte(b'<').is_none()
-        && text.find_byte(b'>').is_none()
-        && text.find_byte(b'\n').is_none()
+    for byte in text {
+        if is_mark(*byte) {
+            return false;
+        }
+    }
+    true
 }
 
 /// A sign, hours and minutes, where the offset is of whole minutes and fits.
@@ -176,7 +185,7 @@ impl Signature {
 }
 
 impl<'a> SignatureRef<'a> {
-    ghost use Rattle.std.specs.Prelude.{OnOk, IfOk, IfErr, IsErrOf};
+    ghost use Rattle.std.specs.Prelude.{◌++◌, OnOk, IfOk, IfErr, IsErrOf};
     ghost use Rattle.std.specs.Io.KnownBytes.{Appends};
     ghost use Rattle.gix_ref_log.specs.Writers.{StopsShort};
     ghost use Rattle.gix_ref_log.specs.Signatures.{trimmed_who, signature_who, signature_ref_who};
@@ -286,6 +295,20 @@ impl<'a> SignatureRef<'a> {
         let seconds = digits.format(self.time.seconds).as_bytes();
         write_parts(
             out,
+            &[self.name, b" <", self.email, b"> ", seconds, b" ", zone],
+        )
+    }
+
+    /// Adds the signature, of whose offset this is the text, to a text.
+    pub(crate) fn push_stamped(self, zone: &[u8], text: &mut Vec<u8>) -> Result<(), AllocError>
+        requires { zone.now ≡ offset_text self.time.offset }
+        ensures { OnOk result (text.new.items ≡ text.old.items
+            ++ signature_text (signature_ref_who self.entry)) }
+    {
+        let mut digits = itoa::Buffer::new();
+        let seconds = digits.format(self.time.seconds).as_bytes();
+        push_parts(
+            text,
             &[self.name, b" <", self.email, b"> ", seconds, b" ", zone],
         )
     }

@@ -13,7 +13,7 @@ ghost use Rattle.gix_ref_hash.specs.declared.hash.ObjectId.{ObjectId};
 ghost use Rattle.gix_ref_log.specs.declared.log.line.Line.{Line};
 
 use super::Line;
-use crate::actor::{self, SignatureRef};
+use crate::actor::SignatureRef;
 use crate::writer::{push_parts, write_parts};
 use bstr::ByteSlice;
 use gix_ref_hash::hash::ObjectId;
@@ -115,14 +115,15 @@ pub(super) fn push_line(line: &Line, zone: &[u8], text: &mut Vec<u8>) -> Result<
 /// The bytes that most ids and signatures need.
 const HEAD_LEN: usize = 160;
 
-/// Adds the ids and the signature.
+/// Adds the ids and the signature, of whose offset this is the text.
 fn push_head(
     previous: &ObjectId,
     new: &ObjectId,
     who: SignatureRef<'_>,
+    zone: &[u8],
     line: &mut Vec<u8>,
-) -> io::Result<()>
-    requires { CanWrite (signature_ref_who who) }
+) -> Result<(), AllocError>
+    requires { zone.now ≡ offset_text who.time.offset }
     ensures { OnOk result (line.new.items ≡ line.old.items ++ head_text previous.now new.now
         (signature_ref_who who.entry)) }
 {
@@ -130,32 +131,29 @@ fn push_head(
     line.push(b' ')?;
     new.push_hex(line)?;
     line.push(b' ')?;
-    match who.write_to(line) {
-        Ok(()) => Ok(()),
-        Err(actor::WriteError::Io(error)) => Err(error),
-        Err(actor::WriteError::SignatureUnwritable) => unreachable!(),
-    }
+    who.push_stamped(zone, line)
 }
 
-/// The bytes of a line, whose signature can be written, without a tab before an empty message.
+/// The bytes of a line, of whose offset this is the text, without a tab before an empty message.
 fn append_parts(
     alloc: Global,
     previous: &ObjectId,
     new: &ObjectId,
     who: SignatureRef<'_>,
+    zone: &[u8],
     message: &[u8],
-) -> io::Result<Vec<u8>>
-    requires { CanWrite (signature_ref_who who) }
+) -> Result<Vec<u8>, AllocError>
+    requires { zone.now ≡ offset_text who.time.offset }
     ensures { IfOk result (λ line. line.items ≡ head_text previous.now new.now
         (signature_ref_who who.entry) ++ (message_part message.now ++ 10 ∷ [])) }
 {
     let mut line = Vec::with_capacity(alloc, HEAD_LEN.saturating_add(message.len()))?;
-    push_head(previous, new, who, &mut line)?;
+    push_head(previous, new, who, zone, &mut line)?;
     if !message.is_empty() {
-        line.extend_from_slice(b"\t")?;
+        line.push(b'\t')?;
         line.extend_from_slice(message)?;
     }
-    line.extend_from_slice(b"\n")?;
+    line.push(b'\n')?;
     Ok(line)
 }
 
@@ -185,10 +183,10 @@ pub fn appended_line(
         return Err(AppendError::MessageWithNewlines);
     }
     let who = committer.trim();
-    if !who.is_writable() {
+    let Some(zone) = who.writable_zone() else {
         return Err(AppendError::SignatureUnwritable);
-    }
-    match append_parts(alloc, previous, new, who, message) {
+    };
+    match append_parts(alloc, previous, new, who, &zone, message) {
         Ok(line) => Ok(line),
         Err(_) => Err(AppendError::Memory),
     }
