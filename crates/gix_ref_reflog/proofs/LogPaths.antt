@@ -1,7 +1,8 @@
 -- Sets of paths.
-use Rattle.std.proofs.Common.{◌≡◌, ℕ, List, [], ◌∷◌, map, Bool, true, false, not, refl, sym, subst, ◌∙◌, ap}
+use Rattle.std.proofs.Common.{◌≡◌, ℕ, List, [], ◌∷◌, ◌++◌, map, Bool, true, false, not, refl, sym, subst, ◌∙◌, ap}
 use Rattle.std.specs.Prelude.{◌||◌, bytes_eq, Vec}
 use Rattle.std.specs.List.{list_any}
+use Rattle.std.proofs.lemmas.List.Folds.{list_any-append}
 use Rattle.std.specs.Prelude.{MatchBool}
 use Rattle.std.specs.List.Sorted.{IsPermutation}
 use Rattle.std.proofs.lemmas.List.Sorted.{list_any-IsPermutation}
@@ -48,3 +49,8 @@ key_added q k ks now false is same =
     held : (b : Bool) → bytes_eq k.items q ≡ b → is_in (map (λ (x : Vec ℕ Global). x.items) ks) q ≡ (b || is_in (map (λ (x : Vec ℕ Global). x.items) ks) q)
     held true e = subst (λ (p : Path). is_in (map (λ (x : Vec ℕ Global). x.items) ks) p ≡ true) ((bytes_eq-Decides k.items q).0 e) there
     held false e = refl
+
+-- a path is the last or one of the earlier ones
+pub among_both : (q : Path) (l ks : List Path) (now before : Bool) → now ≡ is_in l q → before ≡ is_in ks q → (now || before) ≡ is_in (l ++ ks) q
+among_both q l ks now before first rest =
+    ap (λ (b : Bool). b || before) first ∙ (ap (λ (b : Bool). is_in l q || b) rest ∙ sym (list_any-append (λ (p : Path). bytes_eq p q) l ks))

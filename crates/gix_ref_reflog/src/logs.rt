@@ -2,7 +2,7 @@
 ghost use Rattle.std.specs.Prelude.{◌≡◌, ◌||◌, OnOk, bytes_eq, false};
 ghost use Rattle.std.specs.List.{list_any};
 ghost use Rattle.gix_ref_files.specs.Tree.{fronts, Path};
-ghost use Rattle.gix_ref_reflog.specs.internal.SeenLogs.{due_paths, IsBounded};
+ghost use Rattle.gix_ref_reflog.specs.internal.SeenLogs.{due_paths, last_path, IsBounded};
 ghost use Rattle.gix_ref_transaction.specs.OwnLocks.{is_in};
 
 use std::alloc::{AllocFailed, Global};
@@ -11,7 +11,10 @@ use std::collections::HashSet;
 /// The logs that have a line due, by their paths.
 #[derive(Drop)]
 pub struct DueLogs {
-    paths: HashSet<Vec<u8>>,
+    /// All but the one that was added last: so a transaction of one edit hashes none.
+    earlier: HashSet<Vec<u8>>,
+    /// The one that was added last.
+    last: Option<Vec<u8>>,
     /// None of the paths has fewer bytes.
     shortest: usize,
 }
@@ -23,8 +26,19 @@ impl DueLogs {
         ensures bounded { IsBounded result }
     {
         DueLogs {
-            paths: HashSet::new(alloc),
+            earlier: HashSet::new(alloc),
+            last: None,
             shortest: usize::MAX,
+        }
+    }
+
+    /// Whether this is the path that was added last.
+    fn is_last(&self, path: &[u8]) -> bool
+        ensures { result ≡ is_in (last_path self.now.last) path.now }
+    {
+        match &self.last {
+            Some(last) => last.as_slice() == path,
+            None => false,
         }
     }
 
@@ -32,7 +46,7 @@ impl DueLogs {
     pub fn contains(&self, path: &[u8]) -> bool
         ensures { result ≡ is_in (due_paths self.now) path.now }
     {
-        self.paths.contains(path)
+        self.is_last(path) || self.earlier.contains(path)
     }
 
     /// Adds the log at this path.
@@ -42,7 +56,9 @@ impl DueLogs {
         ensures bounded { IsBounded self.old → OnOk result (IsBounded self.new) }
     {
         let len = path.len();
-        self.paths.insert(path)?;
+        if let Some(before) = self.last.replace(path) {
+            self.earlier.insert(before)?;
+        }
         self.shortest = self.shortest.min(len);
         Ok(())
     }
