@@ -173,7 +173,8 @@ fn object_text(alloc: Global, id: &ObjectId) -> Result<Vec<u8>, AllocError>
     ensures text { IfOk result (λ text. text.items ≡ loose_text (object_id id.now)) }
     ensures whole { IsWhole id.now }
 {
-    let mut text = hex::encode(alloc, id.as_bytes())?.into_bytes();
+    let mut text = Vec::with_capacity(alloc, 2 * id.as_bytes().len() + 1)?;
+    id.push_hex(&mut text)?;
     text.push(b'\n')?;
     Ok(text)
 }
