@@ -13,7 +13,7 @@ use Rattle.gix_ref_lookup.specs.declared.find.existing.Error.{Error as Missing}
 use Rattle.gix_ref_lookup.specs.declared.find.existing.Error.TheVariants.{Find, NotFound}
 use Rattle.gix_ref_follow.specs.Following.{At, HitsByName, IsStep, Leads, at_of, follow, following, is_one_of, step_from, step_by, arrive}
 use Rattle.gix_ref_follow.specs.Following.EndOfChain.{Reached, Circular, TooDeep}
-use Rattle.gix_ref_follow.specs.Followed.{bytes_of_names, OfStep, IsCycle, IsReturn, RefusesStep, Follows}
+use Rattle.gix_ref_follow.specs.Followed.{bytes_of_names, OfStep, OnStep, IsCycle, IsReturn, RefusesStep, Follows}
 use Rattle.gix_ref_follow.specs.declared.peel.to_object.Error.{Error}
 use Rattle.gix_ref_follow.specs.declared.peel.to_object.Error.TheVariants.{Follow, Cycle, DepthLimitExceeded, Memory}
 
@@ -30,13 +30,18 @@ names_append (m ∷ names) n = ap (λ l. full_bytes m ∷ l) (names_append names
 abbrev pub FindsNext : HitsByName → (Miss : List ℕ → Missing → Type 0) → List ℕ → Result Reference Missing → Type 0
 FindsNext find Miss name result = MatchResult result (λ next. ReturnsHit (find name) (Some next)) (Miss name)
 
-pub both : {A E : Type 0} (P : List ℕ → A → Type 0) (Q : List ℕ → E → Type 0) (n m : List ℕ) (r : Result A E) → n ≡ m → IfOk r (P n) → IfErr r (Q n) → MatchResult r (P m) (Q m)
-both P Q n m (Ok a) same ok err = subst (λ k. P k a) same ok
-both P Q n m (Err e) same ok err = subst (λ k. Q k e) same err
-
 pub ok_named : {A E : Type 0} (P : List ℕ → A → Type 0) (n m : List ℕ) (r : Result A E) → n ≡ m → IfOk r (P n) → IfOk r (P m)
 ok_named P n m (Ok a) same ok = subst (λ k. P k a) same ok
 ok_named P n m (Err e) same ok = tt
+
+pub err_named : {A E : Type 0} (P : List ℕ → E → Type 0) (n m : List ℕ) (r : Result A E) → n ≡ m → IfErr r (P n) → IfErr r (P m)
+err_named P n m (Ok a) same err = tt
+err_named P n m (Err e) same err = subst (λ k. P k e) same err
+
+-- of a lookup that was made
+pub on_step : (P : Type 0) (r : Result Reference Missing) → OnOk r P → OnStep (Some r) P
+on_step P (Ok reference) p = p
+on_step P (Err error) p = tt
 
 pub on_ok : {A E : Type 0} {P Q : Type 0} (r : Result A E) → (P → Q) → OnOk r P → OnOk r Q
 on_ok (Ok a) f p = f p

@@ -13,7 +13,7 @@ use Rattle.gix_ref_lookup.specs.Lookups.{IsSound}
 use Rattle.gix_ref_lookup.specs.declared.find.records.Records.{Records}
 use Rattle.gix_ref_lookup.specs.declared.find.existing.Error.{Error as Missing}
 use Rattle.gix_ref_lookup.specs.declared.find.existing.Error.TheVariants.{Find, NotFound}
-use Rattle.gix_ref_store.specs.Lookup.{hit_in, FindsBy, MissesBy, HitsIn, MissesIn}
+use Rattle.gix_ref_store.specs.Lookup.{hit_in, FindsBy, MissesBy, SeesIn, MissesIn}
 use Rattle.gix_ref_store.specs.Store as stores
 use Rattle.gix_ref_store.specs.declared.file.store.Store.{Store}
 use Rattle.gix_ref_follow.specs.Following.{At, HitsByName, IsStep, LeadsWithinLimit, following, is_one_of}
@@ -91,14 +91,14 @@ module _ {F R : Type 0} {G : Ghosts R} (means : F → Meaning) where
   abbrev pub StepHits : (asks_records : Bool) → Store F → Records R G → TargetValue →
       Option (Result Reference Missing) → Type 0
   StepHits asks_records store asked target result = OfStep target
-      (λ name r. IfOk r (λ next. HitsIn means asks_records store asked name (Some next))) result
+      (λ name r. IfOk r (λ next. SeesIn means asks_records store asked name (Some next))) result
 
   -- on any text of `packed-refs`: the next reference is one that the target is short for
   abbrev pub HitsNext : (asks_records : Bool) → Store F → Records R G →
       (at next : Reference) → Type 0
   HitsNext asks_records store asked at next = (name : List ℕ)
       × (target_value at.target ≡ symbolic_name name)
-      × HitsIn means asks_records store asked name (Some next)
+      × SeesIn means asks_records store asked name (Some next)
 
 module _ {F R : Type 0} {G : Ghosts R} (honest : Type 0) (means : F → Meaning)
     (faults : F → FaultCounts) where

@@ -1,5 +1,5 @@
 //! Following a reference, step by step (`git symbolic-ref`).
-ghost use Rattle.std.specs.Prelude.{◌≡◌, ◌++◌, ◌∷◌, [], List, Option, Some, None, IfOk, IfErr, OnOk, OnErr, false, bytes_eq};
+ghost use Rattle.std.specs.Prelude.{◌≡◌, ◌++◌, ◌∷◌, [], List, Option, Some, None, IfOk, IfErr, OnOk, OnErr, MatchResult, false, bytes_eq};
 ghost use Rattle.std.specs.List.{list_any};
 ghost use Rattle.gix_ref_name.specs.Names.{full_bytes, full_ref_bytes};
 ghost use Rattle.gix_ref_target.specs.PackedRecords.{Record};
@@ -164,9 +164,10 @@ pub(crate) fn follow_among<F: Files>(
     ensures hits { F.honest → AreHonest asked.old → LeadsWithinLimit
         (HitsNext F.means asks_records store.old asked.old) reference.old reference.new }
     ensures object { IfOk result (λ id. target_value reference.new.target ≡ object_id id) }
-    ensures failed { IfErr result (IsNotFollowed F.honest F.means F.faults asks_records store.old
-        store.new asked.old reference.new) }
-    ensures no_fault { OnOk result (F.faults (files_of store.new) ≡ F.faults (files_of store.old)) }
+    ensures failed { MatchResult result
+        (λ _. F.faults (files_of store.new) ≡ F.faults (files_of store.old))
+        (IsNotFollowed F.honest F.means F.faults asks_records store.old store.new asked.old
+        reference.new) }
     ensures unchanged { LooksUp F.honest F.means store.old store.new }
 {
     let mut reached = Vec::new(alloc);

@@ -16,7 +16,7 @@
 //!   clauses `at_once`, `done`
 //! - on any text: each step was a hit of the lookup of the target; why a following or a peeling is refused, and at which
 //!   reference: clauses `hits`, `failed`
-//! - nothing changes but the reference, and a success counts no fault: clauses `unchanged`, `no_fault`
+//! - nothing changes but the reference, and a success counts no fault: clauses `unchanged`, `no_fault`, `failed`
 //! - the orders of `WriteReflog` and of `loose::Reference` are total, and equality is that of all fields:
 //!   `gix_ref_follow::orders`
 //! - the reflog calls of references are those of the store under their names: `ReferenceExt::log_exists`, `log_iter`,

@@ -142,7 +142,7 @@ pub trait ReferenceExt: Sealed {
 }
 
 impl ReferenceExt for Reference {
-    ghost use Rattle.std.specs.Prelude.{◌≡◌, [], List, Option, Some, None, Ok, IfOk, IfErr, IfSome, OnOk, true, false, is_some};
+    ghost use Rattle.std.specs.Prelude.{◌≡◌, [], List, Option, Some, None, Ok, IfOk, IfErr, IfSome, OnOk, MatchResult, true, false, is_some};
     ghost use Rattle.gix_ref_name.specs.Names.{full_bytes, full_ref_bytes};
     ghost use Rattle.gix_ref_target.specs.PackedRecords.{Record};
     ghost use Rattle.gix_ref_target.specs.Targets.{target_value};
@@ -307,10 +307,10 @@ impl ReferenceExt for Reference {
         ensures hits { F.honest → LeadsWithinLimit (HitsNext {G = F.Reader.ReadAt} F.means
             (is_some packed.entry) store.old (held packed.entry)) self.old self.new }
         ensures object { IfOk result (λ id. target_value self.new.target ≡ object_id id) }
-        ensures failed { IfErr result (IsNotFollowed {G = F.Reader.ReadAt} F.honest F.means F.faults
+        ensures failed { MatchResult result
+            (λ _. F.faults (files_of store.new) ≡ F.faults (files_of store.old))
+            (IsNotFollowed {G = F.Reader.ReadAt} F.honest F.means F.faults
             (is_some packed.entry) store.old store.new (held packed.entry) self.new) }
-        ensures no_fault { OnOk result (F.faults (files_of store.new)
-            ≡ F.faults (files_of store.old)) }
         ensures unchanged { LooksUp F.honest F.means store.old store.new }
     {
         match packed {
@@ -331,10 +331,10 @@ impl ReferenceExt for Reference {
         ensures hits { F.honest → LeadsWithinLimit (HitsNext {G = F.Reader.ReadAt} F.means
             (is_some packed.entry) store.old (held packed.entry)) self.old self.new }
         ensures object { IfOk result (λ id. target_value self.new.target ≡ object_id id) }
-        ensures failed { IfErr result (IsNotFollowed {G = F.Reader.ReadAt} F.honest F.means F.faults
+        ensures failed { MatchResult result
+            (λ _. F.faults (files_of store.new) ≡ F.faults (files_of store.old))
+            (IsNotFollowed {G = F.Reader.ReadAt} F.honest F.means F.faults
             (is_some packed.entry) store.old store.new (held packed.entry) self.new) }
-        ensures no_fault { OnOk result (F.faults (files_of store.new)
-            ≡ F.faults (files_of store.old)) }
         ensures unchanged { LooksUp F.honest F.means store.old store.new }
     {
         self.follow_to_object_packed(alloc, store, packed)

@@ -1,7 +1,7 @@
 -- A name that is asked for once more, since its file is gone.
 use Rattle.std.proofs.Common.{◌≡◌, ℕ, List, inl, inr, refl, sym, subst, Option, Some, None, Result, Ok, Err}
 use Rattle.gix_ref_files.specs.Files.{FaultCounts}
-use Rattle.std.specs.Prelude.{IfOk, IfNone, IfSome, MatchResult}
+use Rattle.std.specs.Prelude.{IfOk, IfNone, IfSome}
 use Rattle.gix_ref_hash.specs.declared.hash.Kind.{Kind}
 use Rattle.gix_ref_name.specs.Names.{full_bytes}
 use Rattle.gix_ref_name.specs.declared.name.FullName.{FullName}
@@ -25,10 +25,6 @@ use Rattle.gix_ref_listing.specs.declared.error.Error.{Error}
 use Rattle.gix_ref_listing.specs.declared.error.Error.TheVariants.{Traversal, ReadFileContents, ReferenceCreation, PackedReference, Memory}
 
 -- ---- the record of a key
-
-pub match_ok : {X E : Type 0} (P : X → Type 0) (Q : E → Type 0) (r : Result X E) → MatchResult r P Q → IfOk r P
-match_ok P Q (Ok x) m = m
-match_ok P Q (Err e) m = tt
 
 none_named : (r : Option Record) → AreFound r None → r ≡ None
 none_named None h = refl

@@ -1,5 +1,5 @@
 -- A lookup of a composed name, as it is given.
-use Rattle.std.proofs.Common.{◌≡◌, ◌≢◌, ℕ, List, Option, Some, None, Bool, true, false, if◌then◌else◌, nat_eq, Result, Ok, Err, IfOk, IfErr, IfSome, refl, sym, ◌∙◌, ap, subst}
+use Rattle.std.proofs.Common.{◌≡◌, ◌≢◌, ℕ, List, Option, Some, None, Bool, true, false, if◌then◌else◌, nat_eq, Result, Ok, Err, IfOk, MatchOption, MatchResult, refl, sym, ◌∙◌, ap, subst}
 use Rattle.std.specs.Option.{option_map}
 use Rattle.std.specs.Cmp.Lexicographic.{pointwise, same_text, other_text}
 use Rattle.gix_ref_name.specs.Names.{full_bytes}
@@ -10,7 +10,7 @@ use Rattle.gix_ref_theory.specs.Readings.Reading.{Is}
 use Rattle.gix_ref_packed_text.specs.declared.raw.Reference.{Reference}
 use Rattle.gix_ref_files.specs.declared.files.ReadAt.{Ghosts}
 use Rattle.gix_ref_theory.specs.Views.{View}
-use Rattle.gix_ref_lookup.specs.Lookups.{ReturnsHit, Among, IsHit, IsHitOf, IsNamed, IsGivenOf, asked_names, name_asked, name_given, hit_given}
+use Rattle.gix_ref_lookup.specs.Lookups.{ReturnsHit, Finds, IsSound, Among, IsHit, IsHitOf, IsNamed, IsGivenOf, asked_names, name_asked, name_given, hit_given}
 use Rattle.gix_ref_lookup.specs.declared.settings.Settings.{Settings}
 use Rattle.gix_ref_lookup.specs.declared.find.records.Records.{Records as Asked}
 use Rattle.gix_ref_lookup.specs.declared.find.error.Error.{Error}
@@ -64,25 +64,25 @@ hit_as_asked composes settings view records p as_is r hit = (
 
 -- what is said of what was found is said of what is given
 pub given_answers : (asked p : List ℕ) → asked ≢ p → (hit : Option Hit) (found given : Result (Option Reference) Error) → IsGivenOf found given →
-    IfOk found (ReturnsHit hit) → IfOk given (ReturnsHit (option_map (hit_given asked p) hit))
+    Finds hit found → Finds (option_map (hit_given asked p) hit) given
 given_answers asked p other hit (Ok (Some r)) (Ok (Some g)) named is = answers_named asked p other hit r g named is
-given_answers asked p other hit (Ok (Some r)) (Err e) memory is = tt
+given_answers asked p other hit (Ok (Some r)) (Err e) memory is = subst IsSound (sym memory) tt
 given_answers asked p other hit (Ok (Some r)) (Ok None) none is = absurd none
-given_answers asked p other hit (Ok None) given none is = subst (λ g. IfOk g (ReturnsHit (option_map (hit_given asked p) hit))) (sym none) (none_given (hit_given asked p) hit is)
-given_answers asked p other hit (Err e) given failed is = subst (λ g. IfOk g (ReturnsHit (option_map (hit_given asked p) hit))) (sym failed) tt
+given_answers asked p other hit (Ok None) given none is = subst (Finds (option_map (hit_given asked p) hit)) (sym none) (none_given (hit_given asked p) hit is)
+given_answers asked p other hit (Err e) given failed is = subst (Finds (option_map (hit_given asked p) hit)) (sym failed) is
 
-pub given_some : (asked p : List ℕ) → asked ≢ p → (P Q : Reference → Type 0) (found given : Result (Option Reference) Error) → IsGivenOf found given →
-    ((r g : Reference) → P r → IsNamed (name_given asked p) r g → Q g) → IfOk found (λ r. IfSome r P) → IfOk given (λ r. IfSome r Q)
-given_some asked p other P Q (Ok (Some r)) (Ok (Some g)) named wider is =
+pub given_seen : (asked p : List ℕ) → asked ≢ p → (N : Type 0) (P Q : Reference → Type 0) (found given : Result (Option Reference) Error) → IsGivenOf found given →
+    ((r g : Reference) → P r → IsNamed (name_given asked p) r g → Q g) → IfOk found (λ r. MatchOption r N P) → IfOk given (λ r. MatchOption r N Q)
+given_seen asked p other N P Q (Ok (Some r)) (Ok (Some g)) named wider is =
     wider r g is (record { name = named.name ∙ sym (given_other asked p (full_bytes r.name) other); target = named.target; peeled = named.peeled })
-given_some asked p other P Q (Ok (Some r)) (Err e) memory wider is = tt
-given_some asked p other P Q (Ok (Some r)) (Ok None) none wider is = absurd none
-given_some asked p other P Q (Ok None) given none wider is = subst (λ g. IfOk g (λ r. IfSome r Q)) (sym none) tt
-given_some asked p other P Q (Err e) given failed wider is = subst (λ g. IfOk g (λ r. IfSome r Q)) (sym failed) tt
+given_seen asked p other N P Q (Ok (Some r)) (Err e) memory wider is = tt
+given_seen asked p other N P Q (Ok (Some r)) (Ok None) none wider is = absurd none
+given_seen asked p other N P Q (Ok None) given none wider is = subst (λ g. IfOk g (λ r. MatchOption r N Q)) (sym none) is
+given_seen asked p other N P Q (Err e) given failed wider is = subst (λ g. IfOk g (λ r. MatchOption r N Q)) (sym failed) tt
 
-pub given_err : (P : Error → Type 0) → P Memory → (found given : Result (Option Reference) Error) → IsGivenOf found given → IfErr found P → IfErr given P
-given_err P memory (Ok (Some r)) (Ok (Some g)) named is = tt
-given_err P memory (Ok (Some r)) (Err e) no_memory is = subst P (sym no_memory) memory
-given_err P memory (Ok (Some r)) (Ok None) none is = absurd none
-given_err P memory (Ok None) given none is = subst (λ g. IfErr g P) (sym none) tt
-given_err P memory (Err e) given failed is = subst (λ g. IfErr g P) (sym failed) is
+pub given_err : (S : Type 0) (P : Error → Type 0) → P Memory → (found given : Result (Option Reference) Error) → IsGivenOf found given → MatchResult found (λ r. S) P → MatchResult given (λ r. S) P
+given_err S P memory (Ok (Some r)) (Ok (Some g)) named is = is
+given_err S P memory (Ok (Some r)) (Err e) no_memory is = subst P (sym no_memory) memory
+given_err S P memory (Ok (Some r)) (Ok None) none is = absurd none
+given_err S P memory (Ok None) given none is = subst (λ g. MatchResult g (λ r. S) P) (sym none) is
+given_err S P memory (Err e) given failed is = subst (λ g. MatchResult g (λ r. S) P) (sym failed) is

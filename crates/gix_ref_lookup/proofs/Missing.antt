@@ -1,37 +1,57 @@
 -- Why nothing is found on any text of `packed-refs`.
-use Rattle.std.proofs.Common.{◌≡◌, inl, inr, ⊎_elim, ℕ, List, Option, Some, None, false, Result, Ok, Err, refl, sym, subst, IfOk, IfNone}
+use Rattle.std.proofs.Common.{◌≡◌, inl, inr, ⊎_elim, ℕ, List, [], ◌∷◌, Option, Some, None, true, false, ◌∙◌, Result, Ok, Err, refl, sym, subst, IfOk, IfNone, IfSome, MatchOption}
 use Rattle.gix_ref_hash.specs.declared.hash.Kind.{Kind}
 use Rattle.gix_ref_target.specs.PackedRecords.{Record}
-use Rattle.gix_ref_files.specs.Tree.{Tree, Content, is_file, file_of}
+use Rattle.gix_ref_files.specs.Tree.{Tree, Content, is_file, bytes_of, file_of}
 use Rattle.gix_ref_files.specs.Tree.Content.{File, Folder}
 use Rattle.gix_ref_files.specs.declared.files.ReadAt.{Ghosts}
+use Rattle.std.specs.List.{AllByRecursion}
+use Rattle.gix_ref_theory.specs.Views.{View}
 use Rattle.gix_ref_theory.specs.OnRealTrees.{view_of}
 use Rattle.gix_ref_packed_text.specs.Positions.{IsNotMalformed}
 use Rattle.gix_ref_packed_text.specs.declared.packed.window.Found.{Found}
 use Rattle.gix_ref_packed.specs.declared.packed.sorted_file.FindError.{FindError}
 use Rattle.gix_ref_packed.specs.Buffers.{buffer_kind, buffer_text}
-use Rattle.gix_ref_packed.specs.OpenFiles.{packed_file_kind, packed_file_text}
-use Rattle.gix_ref_lookup.specs.Lookups.{AreAsked, FindsNone, IsMissing, IsOpenable, IsOpenedText, IsReady, IsSearched, SearchesNone, as_found}
+use Rattle.gix_ref_packed.specs.declared.packed.file.PackedFile.{PackedFile}
+use Rattle.gix_ref_packed.specs.OpenFiles.{OpenedFile, packed_file_kind, packed_file_text}
+use Rattle.gix_ref_packed_text.specs.OpenedText.{OpensTo}
+use Rattle.gix_ref_lookup.specs.Lookups.{meaning_in, AreAsked, FindsNone, IsMissing, IsOpenable, IsOpenedText, IsReady, IsSearched, SearchesNone, as_found}
 use Rattle.gix_ref_lookup.specs.declared.settings.Settings.{Settings}
 use Rattle.gix_ref_lookup.specs.declared.find.records.Records.{Records as Asked}
 use Rattle.gix_ref_lookup.specs.declared.find.records.Records.TheVariants as sources
 use Rattle.gix_ref_lookup.proofs.Looking.{packed_refs_at}
 use Rattle.gix_ref_lookup.proofs.Opening.{searched_wider}
 
-pub if_none : {X P Q : Type 0} (r : Option X) → (P → Q) → IfNone r P → IfNone r Q
-if_none None wider holds = wider holds
-if_none (Some x) wider holds = holds
+-- what a search says of a record and of none is what the lookup says
+pub found_seen : {N N' : Type 0} {P Q : Found → Type 0} (found : Result (Option Found) FindError) → (N → N') → ((f : Found) → P f → Q f) → IfOk found (λ f. IfNone f N) → IfOk found (λ f. IfSome f P) →
+    IfOk (as_found found) (λ f. MatchOption f N' Q)
+found_seen (Ok None) none some nothing hit = none nothing
+found_seen (Ok (Some f)) none some nothing hit = some f hit
+found_seen (Err error) none some nothing hit = tt
 
--- what a search says of no record is what the lookup says
-pub found_none : {P Q : Type 0} (found : Result (Option Found) FindError) → (P → Q) → IfOk found (λ f. IfNone f P) → IfOk (as_found found) (λ f. IfNone f Q)
-found_none (Ok found) wider holds = if_none found wider holds
-found_none (Err error) wider holds = tt
+-- candidates that are nothing have no loose files
+pub no_loose_files : {R : Type 0} {G : Ghosts R} (settings : Settings) (view : View) (records : Asked R G) (names : List (List ℕ)) → AllByRecursion (IsMissing settings view records) names →
+    AllByRecursion (λ n. view ((meaning_in settings).place n) ≡ None) names
+no_loose_files settings view records [] all = tt
+no_loose_files settings view records (n ∷ names) all = (all.0.loose, no_loose_files settings view records names all.1)
 
 -- no file is there
 pub no_file : (content : Option Content) → is_file content ≡ false → file_of content ≡ None
 no_file None none = refl
 no_file (Some (File bytes)) none = absurd (cc)
 no_file (Some Folder) none = refl
+
+-- a file is there
+some_file : (content : Option Content) → is_file content ≡ true → file_of content ≡ Some (bytes_of content)
+some_file None some = absurd (cc)
+some_file (Some (File bytes)) some = refl
+some_file (Some Folder) some = absurd (cc)
+
+-- what is searched in an open file is a text of it
+pub opened_text : {R : Type 0} {G : Ghosts R} (kind : Kind) (content : Option Content) (p : PackedFile R G) → is_file content ≡ true → OpenedFile kind (bytes_of content) p →
+    (k : Kind) (text : List ℕ) → IsSearched kind None (sources.Open p) k text → IsOpenedText kind (file_of content) k text
+opened_text kind content p some opened k text is =
+    (is.0 ∙ opened.kind_is, bytes_of content, opened.line, some_file content some, subst (λ (t : List ℕ). OpensTo kind (bytes_of content) t opened.line) (sym is.1) opened.opens)
 
 -- where `packed-refs` is open, it is of no matter what file it is now
 pub any_file : {R : Type 0} {G : Ghosts R} (f f' : Option (List ℕ)) (r : Asked R G) → IsReady r → SearchesNone f r → SearchesNone f' r

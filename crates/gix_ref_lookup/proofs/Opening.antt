@@ -1,5 +1,5 @@
 -- What an opened `packed-refs` holds.
-use Rattle.std.proofs.Common.{◌≡◌, ◌≢◌, inl, inr, ℕ, List, Option, Some, None, [], ◌∷◌, length, Result, Ok, Err, IfOk, IfErr, IfSome, true, refl, sym, ◌∙◌, ap, subst, arith}
+use Rattle.std.proofs.Common.{◌≡◌, ◌≢◌, inl, inr, ℕ, List, Option, Some, None, [], ◌∷◌, length, Result, Ok, Err, IfOk, IfErr, IfSome, OnOk, MatchResult, MatchOption, true, refl, sym, ◌∙◌, ap, subst, arith}
 use Rattle.gix_ref_hash.specs.declared.hash.Kind.{Kind}
 use Rattle.gix_ref_target.specs.PackedRecords.{Record}
 use Rattle.gix_ref_files.specs.Tree.{Content, is_file, bytes_of}
@@ -15,7 +15,7 @@ use Rattle.gix_ref_packed.specs.declared.packed.sorted_file.FindError.{FindError
 use Rattle.gix_ref_packed.specs.declared.packed.sorted_file.FindError.TheVariants.{Read, Parse}
 use Rattle.gix_ref_packed.specs.declared.packed.sorted_file.ReadError.TheVariants as reading
 use Rattle.gix_ref_packed.proofs.WellFormedLemmas.{opened_file_holds}
-use Rattle.gix_ref_lookup.specs.Lookups.{ArePackedRecords, IsSearched, OfSearched, IsHitOfKey, IsRecordIn, IsFaultOf, IsNotPacked, IsFaultOrMemory, of_opening, as_found}
+use Rattle.gix_ref_lookup.specs.Lookups.{ArePackedRecords, IsSearched, OfSearched, IsHitOfKey, IsRecordIn, IsFaultOf, IsNotPacked, IsFaultOrMemory, IsSound, of_opening, as_found}
 use Rattle.gix_ref_lookup.specs.declared.find.records.Records.{Records as Asked}
 use Rattle.gix_ref_packed_text.specs.declared.raw.Reference.{Reference}
 use Rattle.gix_ref_packed_text.specs.OpenedText.{Fronts, PackedText}
@@ -106,6 +106,18 @@ opens_sound kind (Some (File bytes)) rs error are refused = opens_bytes kind byt
 opens_sound kind (Some Folder) rs error are refused = opens_bytes kind [] None [] error ([], (refl, tt), refl) refused
 opens_sound kind None rs error are refused = opens_bytes kind [] None [] error ([], (refl, tt), refl) refused
 
+-- a record's fault is no more than a lookup's
+pub is_sound : (error : Error) → IsFaultOrMemory error → IsSound error
+is_sound (PackedOpen (Io error)) is = tt
+is_sound (PackedOpen HeaderParsing) is = absurd is
+is_sound (PackedOpen (Iter line)) is = absurd is
+is_sound (PackedOpen open_memory) is = absurd is
+is_sound (PackedRef error) is = absurd is
+is_sound (RefnameValidation error) is = absurd is
+is_sound (ReadFileContents error path) is = absurd is
+is_sound (ReferenceCreation error path) is = absurd is
+is_sound Memory is = tt
+
 -- what is searched, from a source that is open to one that was not yet
 pub searched_wider : {R : Type 0} {G : Ghosts R} (kind : Kind) (f f' : Option (List ℕ)) (r r' : Asked R G) (P : Kind → List ℕ → Type 0) →
     ((k : Kind) (text : List ℕ) → IsSearched kind f r k text → IsSearched kind f' r' k text) → OfSearched kind f r P → OfSearched kind f' r' P
@@ -124,6 +136,36 @@ if_ok (Err e) wider holds = holds
 pub if_err : {X E : Type 0} {P Q : E → Type 0} (r : Result X E) → ((e : E) → P e → Q e) → IfErr r P → IfErr r Q
 if_err (Ok x) wider holds = holds
 if_err (Err e) wider holds = wider e holds
+
+pub both_ways : {X E : Type 0} {P P' : X → Type 0} {Q Q' : E → Type 0} (r : Result X E) → ((x : X) → P x → P' x) → ((e : E) → Q e → Q' e) → MatchResult r P Q → MatchResult r P' Q'
+both_ways (Ok x) found failed holds = found x holds
+both_ways (Err e) found failed holds = failed e holds
+
+-- one way alone
+pub ok_of : {X E : Type 0} (P : X → Type 0) (Q : E → Type 0) (r : Result X E) → MatchResult r P Q → IfOk r P
+ok_of P Q (Ok x) holds = holds
+ok_of P Q (Err e) holds = tt
+
+pub err_of : {X E : Type 0} (P : X → Type 0) (Q : E → Type 0) (r : Result X E) → MatchResult r P Q → IfErr r Q
+err_of P Q (Ok x) holds = tt
+err_of P Q (Err e) holds = holds
+
+pub on_ok_of : {X E : Type 0} (S : Type 0) (Q : E → Type 0) (r : Result X E) → MatchResult r (λ x. S) Q → OnOk r S
+on_ok_of S Q (Ok x) holds = holds
+on_ok_of S Q (Err e) holds = tt
+
+-- nothing is changed where a result is had, and an error has this
+pub same_or_err : {X E S : Type 0} {P Q : E → Type 0} (r : Result X E) → S → ((e : E) → P e → Q e) → IfErr r P → MatchResult r (λ x. S) Q
+same_or_err (Ok x) same wider holds = same
+same_or_err (Err e) same wider holds = wider e holds
+
+pub none_or_some : {X N N' : Type 0} {P Q : X → Type 0} (r : Option X) → (N → N') → ((x : X) → P x → Q x) → MatchOption r N P → MatchOption r N' Q
+none_or_some None none some holds = none holds
+none_or_some (Some x) none some holds = some x holds
+
+pub some_of : {X : Type 0} (N : Type 0) {P Q : X → Type 0} (r : Option X) → ((x : X) → P x → Q x) → MatchOption r N P → IfSome r Q
+some_of N None wider holds = tt
+some_of N (Some x) wider holds = wider x holds
 
 pub if_some : {X : Type 0} {P Q : X → Type 0} (r : Option X) → ((x : X) → P x → Q x) → IfSome r P → IfSome r Q
 if_some None wider holds = holds

@@ -1,5 +1,5 @@
 -- What the calls of this crate return: candidates, the records that they ask, and lookups (`gitrevisions`).
-use Rattle.std.specs.Prelude.{◌≡◌, ◌≢◌, ◌⊎◌, ℕ, List, [], ◌∷◌, ◌++◌, Bool, true, Option, Some, None, IfOk, IfSome, MatchOption, Result, Ok, Err, if◌then◌else◌, nat_eq, option_to_list}
+use Rattle.std.specs.Prelude.{◌≡◌, ◌≢◌, ◌⊎◌, ℕ, List, [], ◌∷◌, ◌++◌, Bool, true, Option, Some, None, MatchOption, MatchResult, Result, Ok, Err, if◌then◌else◌, nat_eq, option_to_list}
 use Rattle.std.specs.List.{AllByRecursion}
 use Rattle.std.specs.Option.{option_map}
 use Rattle.std.specs.Cmp.Lexicographic.{pointwise}
@@ -159,6 +159,13 @@ module _ (settings : Settings) (files : Meaning) where
   abbrev pub IsSearchedWith : {R : Type 0} {G : Ghosts R} → Records R G → Kind → List ℕ → Type 0
   IsSearchedWith asked of_kind text =
       IsSearched settings.kind (packed_refs_in settings files) asked of_kind text
+
+  -- What opening leaves of the records that are asked: open ones, which search no other text of `packed-refs`.
+  pub record OpensAsked {R : Type 0} {G : Ghosts R} (old new : Records R G) : Type 0 where
+    pub readers : AreHonest old → AreHonest new
+    pub searched : (kind : Kind) (text : List ℕ) → IsSearched settings.kind None new kind text →
+        IsSearchedWith old kind text
+    pub none : SearchesNone None new → SearchesNone (packed_refs_in settings files) old
 
   -- the text that is searched in records that are open is that of `packed-refs`
   abbrev pub SearchesOpened : {R : Type 0} {G : Ghosts R} → Records R G → Type 0
@@ -336,10 +343,6 @@ ReturnsHit (Some hit) (Some r) = (full_bytes r.name ≡ hit.name)
     × (hit.reading ≡ Is (target_value r.target)) × (r.peeled ≡ hit.peeled)
 ReturnsHit found answer = ⊥
 
--- a lookup that ends returns this
-abbrev pub Finds : Option Hit → Result (Option Reference) Error → Type 0
-Finds hit result = IfOk result (ReturnsHit hit)
-
 -- on any text of `packed-refs`: a candidate has a loose file with this target; or it has none, and a record of its key
 -- that begins a line
 abbrev pub IsHit : {R : Type 0} {G : Ghosts R} → Settings → View → Records R G → List ℕ →
@@ -349,6 +352,12 @@ IsHit settings view records name r =
     ((full_bytes r.name ≡ name) × IsLooseTarget s (view (s.place name)) (Some r.target)
     × (r.peeled ≡ None))
     ⊎ ((view (s.place name) ≡ None) × IsRecordHit settings view records name r)
+
+-- on any text of `packed-refs`: a candidate as a result
+abbrev pub IsSeen : {R : Type 0} {G : Ghosts R} → Settings → View → Records R G → List ℕ →
+    Option Reference → Type 0
+IsSeen settings view records name found = MatchOption found
+    (IsMissing settings view records name) (IsHit settings view records name)
 
 -- Why a candidate fails: its loose file gives no target; or it has none, and no record is found for a reason.
 abbrev pub CandidateFails : {R : Type 0} {G : Ghosts R} → (honest : Type 0) → Settings → Tree →
@@ -366,6 +375,10 @@ IsSound (ReadFileContents source path) = Unit {0}
 IsSound (ReferenceCreation source path) = Unit {0}
 IsSound Memory = Unit {0}
 IsSound other = ⊥
+
+-- a lookup returns this hit, or an error that says nothing of the records
+abbrev pub Finds : Option Hit → Result (Option Reference) Error → Type 0
+Finds hit result = MatchResult result (ReturnsHit hit) IsSound
 
 -- the names before one are passed, and that one fails
 abbrev pub FailsAt : (Passed Fails : List ℕ → Type 0) → List (List ℕ) → Type 0
@@ -392,11 +405,17 @@ FailsAmong honest settings T asked before now names error =
     FailsAt (IsPassed honest settings T asked)
     (λ name. CandidateFails honest settings T asked before now name error) names
 
--- what is found, if anything is, is a hit of one of these names
+-- a reference is a hit of one of these names
 abbrev pub IsHitAmong : {R : Type 0} {G : Ghosts R} → Settings → View → Records R G →
+    List (List ℕ) → Reference → Type 0
+IsHitAmong settings view records names r = Among (λ n. IsHit settings view records n r) names
+
+-- on any text of `packed-refs`: what is found is a hit of one of these names, or each of them is nothing
+abbrev pub AreSeen : {R : Type 0} {G : Ghosts R} → Settings → View → Records R G →
     List (List ℕ) → Option Reference → Type 0
-IsHitAmong settings view records names found =
-    IfSome found (λ r. Among (λ n. IsHit settings view records n r) names)
+AreSeen settings view records names found = MatchOption found
+    (AllByRecursion (IsMissing settings view records) names)
+    (IsHitAmong settings view records names)
 
 -- there was no memory, or this
 abbrev pub MemoryOr : (Error → Type 0) → Error → Type 0
@@ -463,5 +482,12 @@ abbrev pub IsHitOf : {R : Type 0} {G : Ghosts R} → (composes : Bool) → Setti
     Records R G → List ℕ → Reference → Type 0
 IsHitOf composes settings view records p given =
     let asked = name_asked composes p in
-    (found : Reference) × Among (λ n. IsHit settings view records n found) (asked_names asked)
+    (found : Reference) × IsHitAmong settings view records (asked_names asked) found
     × IsNamed (name_given asked p) found given
+
+-- so is what a lookup found, and where it found nothing each name that was asked is nothing
+abbrev pub IsAnswerOf : {R : Type 0} {G : Ghosts R} → (composes : Bool) → Settings → View →
+    Records R G → List ℕ → Option Reference → Type 0
+IsAnswerOf composes settings view records p found = MatchOption found
+    (AreMissing settings view records (name_asked composes p))
+    (IsHitOf composes settings view records p)

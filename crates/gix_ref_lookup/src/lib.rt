@@ -16,14 +16,15 @@
 //!   and its peeled id, or else the `HEAD` of a remote as a loose file, or `None` where none exists; where names are composed and
 //!   records are asked, the candidates are those of the composed name, and where that is another name, the name that is given is
 //!   the decomposed one: `find::composed::find_reference`, clause `found`
-//! - there an error is a fault of files, an undecodable loose file, the name of a device, or no memory: the same, clause `sound`
+//! - there an error is a fault of files, an undecodable loose file, the name of a device, or no memory: the same, clause `found`
 //! - on any text: what is found is the loose file of a name that is asked for, or it has none and this is a record of its key
-//!   that begins a line: the same, clause `hit`
+//!   that begins a line; where nothing is found, no name that is asked for has a loose file, and no record was found: the same,
+//!   clause `seen`
 //! - a lookup fails at the first candidate that fails, where those before read nothing; its loose file could not be read, with
 //!   its fault counted, or has the name of a device, or holds no target, with the reason; or it has no loose file, and
 //!   `packed-refs` was refused for a reason of the file, or could not be searched; or for want of memory: the same, clause
 //!   `failed`
-//! - nothing changes, the disk too, and a lookup that succeeds counts no fault: the same, clauses `reads`, `no_fault`
+//! - nothing changes, the disk too, and a lookup that succeeds counts no fault: the same, clauses `reads`, `failed`
 //! - a name has a log exactly where a file is at the path of its log, in honest files; its bytes, its reader; a path with the
 //!   name of a device is refused where these are prohibited, and a fault of files is counted: `reflog::log_exists`, `read_log`,
 //!   `open_log`

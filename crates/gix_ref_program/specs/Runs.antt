@@ -18,7 +18,7 @@ use Rattle.gix_ref_lookup.specs.Lookups.{IsSound}
 use Rattle.gix_ref_lookup.specs.declared.settings.Settings.{Settings}
 use Rattle.gix_ref_theory.specs.Views.{View}
 use Rattle.gix_ref_lookup.specs.declared.find.records.Records.TheVariants.{Unopened}
-use Rattle.gix_ref_store.specs.Lookup.{AreRecordsIn, FindsAmong, HitsIn, FailsIn, settings_of, view_in}
+use Rattle.gix_ref_store.specs.Lookup.{AreRecordsIn, FindsAmong, SeesIn, FailsIn, settings_of, view_in}
 use Rattle.gix_ref_store.specs.Prepared.{tree_of, HasGoodRecords, IsAtRest}
 use Rattle.gix_ref_store.specs.Store.{files_of, folders, kind_of}
 use Rattle.gix_ref_store.specs.Reflogs.{reflog_at, IsNoReflog}
@@ -195,7 +195,7 @@ module _ {F : Type 0} where
     abbrev pub ShowOutcome : {R : Type 0} (G : Ghosts R) → (old new : Store F) → (name : List ℕ) →
         Outcome → Type 0
     ShowOutcome G old new name (outcomes.Shown reference) =
-        honest → HitsIn {G = G} means true old Unopened name (Some reference)
+        honest → SeesIn {G = G} means true old Unopened name (Some reference)
         × ((records : List Record) → AreRecordsIn means old records →
         FindsAmong means old records name (Some reference))
     ShowOutcome G old new name (outcomes.Refused refusals.NotFound locks) =

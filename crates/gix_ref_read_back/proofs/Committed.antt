@@ -1,5 +1,5 @@
 -- What a store reads after a commit, and what a lookup finds then.
-use Rattle.std.proofs.Common.{◌≡◌, ◌≢◌, inl, inr, ⊎_elim, ℕ, Bool, true, false, List, [], ◌∷◌, refl, sym, ◌∙◌, ap, subst, Option, Some, None, Result, IfOk, IfErr, ◌&&◌, bytes_eq, if◌then◌else◌}
+use Rattle.std.proofs.Common.{◌≡◌, ◌≢◌, inl, inr, ⊎_elim, ℕ, Bool, true, false, List, [], ◌∷◌, refl, sym, ◌∙◌, ap, subst, Option, Some, None, Result, MatchResult, ◌&&◌, bytes_eq, if◌then◌else◌}
 use Rattle.gix_ref_hash.specs.declared.hash.Kind.{Kind}
 use Rattle.gix_ref_hash.specs.declared.hash.ObjectId.{ObjectId}
 use Rattle.gix_ref_target.specs.PackedRecords.{Record}
@@ -276,12 +276,12 @@ module _ {F : Type 0} (honest : Type 0) (means : F → Meaning) (faults : F → 
             let same_records = computed (folders old) (kind_of old) old.prohibit_windows_device_names (view_in means new (meaning_of old).packed_path) there.0 there.1 in
             let reads_is = sym (ap (λ rs. reading_among (meaning_of old) (view_in means new) rs name) same_records) ∙ still_made.reads h good name asked.reference in
             found_as (meaning_of old) (view_in means new) there.0 same_records name (composes_in true old) asked (HasFault honest means faults G mid new) (reads_after honest means faults old made.split name) found reads_is
-            (λ r is. as_old h there.0 (Some r) (subst (λ x. IfOk x (λ r. FindsAmong means mid there.0 name (Some r))) is (lookup.finds h again.0 again.1)))
-            (λ n is. as_old h there.0 None (subst (λ x. IfErr x (MissesAmong means mid there.0 name)) is (lookup.misses h again.0 again.1)))
+            (λ r is. as_old h there.0 (Some r) (subst (λ x. MatchResult x (λ r. FindsAmong means mid there.0 name (Some r)) (MissesAmong means mid there.0 name)) is (lookup.finds h again.0 again.1)))
+            (λ n is. as_old h there.0 None (subst (λ x. MatchResult x (λ r. FindsAmong means mid there.0 name (Some r)) (MissesAmong means mid there.0 name)) is (lookup.finds h again.0 again.1)))
             (λ e is.
-            let sound : IsSound e = subst (λ x. IfErr x (MissesAmong means mid there.0 name)) is (lookup.misses h again.0 again.1) in (
+            let sound : IsSound e = subst (λ x. MatchResult x (λ r. FindsAmong means mid there.0 name (Some r)) (MissesAmong means mid there.0 name)) is (lookup.finds h again.0 again.1) in (
               sound,
               failed_as h again.0 again.1 asked (reads_after honest means faults old made.split name) reads_is e sound
-                  (subst (λ x. IfErr x (MissesIn {G = G} honest means faults true mid new Unopened name)) is lookup.fails),
+                  (subst (λ x. MatchResult x (λ r. faults (files_of new) ≡ faults (files_of mid)) (MissesIn {G = G} honest means faults true mid new Unopened name)) is lookup.fails),
             ));
       }

@@ -1,12 +1,12 @@
 -- What a lookup in a store finds: what `Store::find` says of it.
-use Rattle.std.specs.Prelude.{◌≡◌, ℕ, List, true, Some, Result, IfOk, IfErr, OnOk}
+use Rattle.std.specs.Prelude.{◌≡◌, ℕ, List, true, Some, Result, MatchResult}
 use Rattle.gix_ref_target.specs.PackedRecords.{Record}
 use Rattle.gix_ref_files.specs.Files.{Meaning, FaultCounts}
 use Rattle.gix_ref_files.specs.declared.files.ReadAt.{Ghosts}
 use Rattle.gix_ref_packed_text.specs.declared.raw.Reference.{Reference}
 use Rattle.gix_ref_lookup.specs.declared.find.existing.Error.{Error as Missing}
 use Rattle.gix_ref_lookup.specs.declared.find.records.Records.TheVariants.{Unopened}
-use Rattle.gix_ref_store.specs.Lookup.{AreRecordsIn, FindsAmong, HitsIn, LooksUp, MissesAmong, MissesIn}
+use Rattle.gix_ref_store.specs.Lookup.{AreRecordsIn, FindsAmong, SeesExisting, LooksUp, MissesAmong, MissesIn}
 use Rattle.gix_ref_store.specs.Store.{files_of}
 use Rattle.gix_ref_store.specs.declared.file.store.Store.{Store}
 
@@ -19,10 +19,9 @@ module _ {F : Type 0} (honest : Type 0) (means : F → Meaning) (faults : F → 
   pub record FindsIn {R : Type 0} (G : Ghosts R) (start new : Store F) (name : List ℕ)
       (found : Result Reference Missing) : Type 0 where
     pub finds : honest → (records : List Record) → AreRecordsIn means start records →
-        IfOk found (λ r. FindsAmong means start records name (Some r))
-    pub misses : honest → (records : List Record) → AreRecordsIn means start records →
-        IfErr found (MissesAmong means start records name)
-    pub hits : honest → IfOk found (λ r. HitsIn {G = G} means true start Unopened name (Some r))
-    pub fails : IfErr found (MissesIn {G = G} honest means faults true start new Unopened name)
-    pub counts : OnOk found (faults (files_of new) ≡ faults (files_of start))
+        MatchResult found (λ r. FindsAmong means start records name (Some r))
+        (MissesAmong means start records name)
+    pub sees : honest → SeesExisting {G = G} means true start Unopened name found
+    pub fails : MatchResult found (λ r. faults (files_of new) ≡ faults (files_of start))
+        (MissesIn {G = G} honest means faults true start new Unopened name)
     pub changes : LooksUp honest means start new

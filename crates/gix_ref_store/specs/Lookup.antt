@@ -1,5 +1,5 @@
 -- What a lookup in a store returns (`gitrevisions`).
-use Rattle.std.specs.Prelude.{◌≡◌, ◌⊎◌, ◌&&◌, Bool, true, false, is_some, ℕ, List, [], Option, Some, None, IfSome}
+use Rattle.std.specs.Prelude.{◌≡◌, ◌⊎◌, ◌&&◌, Bool, true, false, is_some, ℕ, List, [], Option, Some, None, MatchOption, MatchResult, Result}
 use denote.Ref.{Bor}
 use Rattle.gix_ref_name.specs.Names.{partial_bytes, full_bytes}
 use Rattle.gix_ref_target.specs.Targets.{target_value}
@@ -18,7 +18,7 @@ use Rattle.gix_ref_packed.specs.declared.packed.buffer.open.Error.{Error as Open
 use Rattle.gix_ref_packed_text.specs.declared.raw.Reference.{Reference}
 use Rattle.gix_ref_theory.specs.Views.{View}
 use Rattle.gix_ref_theory.specs.OnRealTrees.{view_of}
-use Rattle.gix_ref_lookup.specs.Lookups.{ReturnsHit, ArePackedRecords, AreAsked, IsSound, IsHit, IsHitOf, IsCandidate, IsMissing, CandidateFails, FailsAmong, lookup_of, asked_names, name_asked, AreMissing, AreStillAsked}
+use Rattle.gix_ref_lookup.specs.Lookups.{ReturnsHit, ArePackedRecords, AreAsked, IsSound, IsSeen, IsHitOf, IsCandidate, CandidateFails, FailsAmong, lookup_of, asked_names, name_asked, AreMissing, AreStillAsked}
 use Rattle.gix_ref_lookup.specs.declared.loose.Reference.{Reference as Loose}
 use Rattle.gix_ref_lookup.specs.declared.settings.Settings.{Settings}
 use Rattle.gix_ref_lookup.specs.declared.find.records.Records.{Records}
@@ -162,26 +162,30 @@ module _ {F R : Type 0} {G : Ghosts R} (means : F → Meaning) where
   AreStillAskedIn store old new = AreStillAsked (stores.kind_of store)
       (view_in means store (packed_refs (stores.folders store))) old new
 
-  -- on any text of `packed-refs`: what is found is a loose file of a name that is asked for, or a record of it that begins a
-  -- line
-  abbrev pub HitsIn : (asks_records : Bool) → StoreValue F → Records R G → List ℕ →
-      Option Reference → Type 0
-  HitsIn asks_records store asked p found = IfSome found
-      (IsHitOf (composes_in asks_records store) (settings_of store) (view_in means store) asked p)
-
   -- on any text of `packed-refs`: nothing is found, since each name that is asked for has no loose file, and no record was found
-  abbrev pub FindsNothing : (asks_records : Bool) → StoreValue F → Records R G → List ℕ → Type 0
-  FindsNothing asks_records store asked p =
+  abbrev pub SeesNothing : (asks_records : Bool) → StoreValue F → Records R G → List ℕ → Type 0
+  SeesNothing asks_records store asked p =
       AreMissing (settings_of store) (view_in means store) asked
       (name_asked (composes_in asks_records store) p)
 
-  -- the same of a full name, which alone is asked for
-  abbrev pub HitsFull : StoreValue F → Records R G → (name : List ℕ) → Option Reference → Type 0
-  HitsFull store asked name found = IfSome found
-      (IsHit (settings_of store) (view_in means store) asked name)
+  -- or what is found is a loose file of a name that is asked for, or a record of it that begins a line
+  abbrev pub SeesIn : (asks_records : Bool) → StoreValue F → Records R G → List ℕ →
+      Option Reference → Type 0
+  SeesIn asks_records store asked p found = MatchOption found
+      (SeesNothing asks_records store asked p)
+      (IsHitOf (composes_in asks_records store) (settings_of store) (view_in means store) asked p)
 
-  abbrev pub FindsNoFull : StoreValue F → Records R G → (name : List ℕ) → Type 0
-  FindsNoFull store asked name = IsMissing (settings_of store) (view_in means store) asked name
+  -- the same of a lookup that has to find something, and fails by `NotFound` where it finds nothing
+  abbrev pub SeesExisting : (asks_records : Bool) → StoreValue F → Records R G → List ℕ →
+      Result Reference Missing → Type 0
+  SeesExisting asks_records store asked p result = MatchResult result
+      (λ r. SeesIn asks_records store asked p (Some r))
+      (λ error. IfNotFound error (SeesNothing asks_records store asked p))
+
+  -- the same of a full name, which alone is asked for
+  abbrev pub SeesFull : StoreValue F → Records R G → (name : List ℕ) → Option Reference → Type 0
+  SeesFull store asked name found =
+      IsSeen (settings_of store) (view_in means store) asked name found
 
 module _ {F : Type 0} (honest : Type 0) (means : F → Meaning) where
   -- What a lookup changes: nothing but the count of faults and the clock; the disk, with what is not synced of it, stays as it is.

@@ -21,8 +21,8 @@
 //! - the same among loose files alone: `try_find_loose`, `find_loose`
 //! - the same among the records of a buffer of the caller: `try_find_packed`, `find_packed`
 //! - on any `packed-refs`, where nothing is found: no candidate has a loose file, and where one has a key, `packed-refs` is no
-//!   file, or could be opened and does not consist of malformed lines alone: all of these, clause `missing` (`FindsNothing` in
-//!   `Lookup.antt`; `AreMissing` in `gix_ref_lookup/specs/Lookups.antt`)
+//!   file, or could be opened and does not consist of malformed lines alone: all of these, clause `seen`, among loose files alone
+//!   `missing` (`SeesNothing` in `Lookup.antt`; `AreMissing` in `gix_ref_lookup/specs/Lookups.antt`)
 //! - the `packed-refs` of the store in memory, or that there is no such file; why it is refused; a fault is counted where it
 //!   could not be read and nowhere else: `open_packed_buffer`, `cached_packed_buffer`
 //! - why `packed-refs` cannot be opened; a success says that it can, or that there is none, and counts no fault:

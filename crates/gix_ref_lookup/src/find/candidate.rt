@@ -1,5 +1,5 @@
 //! One candidate of a lookup: its loose file, or else its record in `packed-refs`.
-ghost use Rattle.std.specs.Prelude.{◌≡◌, false, List, Option, None, IfOk, IfErr, IfNone, IfSome, OnOk};
+ghost use Rattle.std.specs.Prelude.{◌≡◌, false, List, Option, None, IfOk, IfErr, IfNone, IfSome, OnOk, MatchOption, MatchResult};
 ghost use Rattle.gix_ref_hash.specs.declared.hash.Kind.{Kind};
 ghost use Rattle.gix_ref_name.specs.Names.{full_bytes, full_ref_bytes};
 ghost use Rattle.gix_ref_name.specs.Namespaces.{stripped};
@@ -10,7 +10,7 @@ ghost use Rattle.gix_ref_theory.specs.OnRealTrees.{contents};
 ghost use Rattle.gix_ref_lookup.specs.StoreLayout.{namespace_text};
 ghost use Rattle.gix_ref_packed_text.specs.Positions.{CannotRead};
 ghost use Rattle.gix_ref_packed.specs.OpenFiles.{HasReadFault};
-ghost use Rattle.gix_ref_lookup.specs.Lookups.{AreAsked, AreHonest, AreStillAsked, AreStillAskedWith, CandidateFails, FindsNone, HasNoRecord, IsByRecord, IsCandidate, IsFaultOrMemory, IsHit, IsHitOfKey, IsLooseTarget, IsMissing, IsNotPacked, IsNotRead, IsNotReadAt, IsOfKey, IsReady, IsRecordHit, IsSound, OfAsked, OfNames, OfSearched, RecordFails, meaning_in, packed_refs_in};
+ghost use Rattle.gix_ref_lookup.specs.Lookups.{AreAsked, AreHonest, AreStillAsked, AreStillAskedWith, CandidateFails, FindsNone, HasNoRecord, IsByRecord, IsCandidate, IsFaultOrMemory, IsHitOfKey, IsLooseTarget, IsNotPacked, IsNotRead, IsNotReadAt, IsOfKey, IsReady, IsRecordHit, IsSeen, IsSound, OfAsked, OfNames, OfSearched, RecordFails, meaning_in, packed_refs_in};
 ghost use Rattle.gix_ref_files.specs.ReadOnly.{OnlyReads};
 
 use crate::find::loose::{Loose, loose_at};
@@ -122,17 +122,15 @@ fn find_key<R: ReadAt + Drop>(
 ) -> Result<Option<Reference>, Error>
     requires { IsReady records.now }
     ensures found { (kind : Kind) (rs : List Record) → AreAsked kind None records.old rs →
-        IfOk result (IsOfKey (namespace_text namespace.now) rs (full_ref_bytes key.entry)) }
-    ensures sound { (kind : Kind) (rs : List Record) → AreAsked kind None records.old rs →
-        IfErr result IsFaultOrMemory }
-    ensures hit { AreHonest records.old → (kind : Kind) →
-        IfOk result (λ r. IfSome r (IsHitOfKey kind None records.old (namespace_text namespace.now)
+        MatchResult result (IsOfKey (namespace_text namespace.now) rs (full_ref_bytes key.entry))
+        IsFaultOrMemory }
+    ensures seen { AreHonest records.old → (kind : Kind) →
+        IfOk result (λ r. MatchOption r (FindsNone kind None records.old)
+        (IsHitOfKey kind None records.old (namespace_text namespace.now)
         (full_ref_bytes key.entry))) }
     ensures failed { (kind : Kind) → IfErr result
         (IsNotPacked (AreHonest records.old) (HasReadFault R.faults) (OfSearched kind
         None records.old (λ k text. CannotRead k text (full_ref_bytes key.entry))) (λ error. ⊥)) }
-    ensures none { AreHonest records.old → (kind : Kind) →
-        IfOk result (λ r. IfNone r (FindsNone kind None records.old)) }
     ensures still { (kind : Kind) → AreStillAsked kind None records.old records.new }
     ensures ready { IsReady records.new }
 {
@@ -153,22 +151,18 @@ fn find_at_key<F: Files>(
     records: &mut Records<'_, F::Reader>,
 ) -> Result<Option<Reference>, Error>
     ensures found { OfAsked settings.entry (F.means files.old) F.honest records.old (λ rs. OfNames
-        settings.entry (full_ref_bytes key.entry) (λ name. IfOk result
-        (IsByRecord (meaning_in settings.entry) rs name))) }
-    ensures sound { OfAsked settings.entry (F.means files.old) F.honest records.old (λ rs. IfErr
-        result IsFaultOrMemory) }
-    ensures hit { F.honest → AreHonest records.old → OfNames settings.entry
-        (full_ref_bytes key.entry) (λ name. IfOk result (λ r. IfSome r (IsRecordHit settings.entry
-        (contents F.means files.old) records.old name))) }
-    ensures none { F.honest → AreHonest records.old →
-        IfOk result (λ r. IfNone r (FindsNone settings.entry.kind
-        (packed_refs_in settings.entry (F.means files.old)) records.old)) }
-    ensures failed { OfNames settings.entry (full_ref_bytes key.entry) (λ name. IfErr result
+        settings.entry (full_ref_bytes key.entry) (λ name. MatchResult result
+        (IsByRecord (meaning_in settings.entry) rs name) IsFaultOrMemory)) }
+    ensures seen { F.honest → AreHonest records.old → OfNames settings.entry
+        (full_ref_bytes key.entry) (λ name. IfOk result (λ r. MatchOption r
+        (FindsNone settings.entry.kind (packed_refs_in settings.entry (F.means files.old))
+        records.old) (IsRecordHit settings.entry (contents F.means files.old) records.old name))) }
+    ensures failed { OfNames settings.entry (full_ref_bytes key.entry) (λ name. MatchResult result
+        (λ _. F.faults files.new ≡ F.faults files.old)
         (RecordFails F.honest settings.entry (F.means files.old).tree records.old
         (F.faults files.old) (F.faults files.new) name)) }
     ensures still { F.honest → AreStillAskedWith settings.entry (F.means files.old)
         records.old records.new }
-    ensures no_fault { OnOk result (F.faults files.new ≡ F.faults files.old) }
     ensures reads { OnlyReads F.honest F.means F.faults files.old files.new }
 {
     match records.open(alloc, files, settings) {
@@ -185,21 +179,18 @@ fn find_packed<F: Files>(
     name: FullNameRef<'_>,
     records: &mut Records<'_, F::Reader>,
 ) -> Result<Option<Reference>, Error>
-    ensures found { OfAsked settings.entry (F.means files.old) F.honest records.old (λ rs. IfOk
-        result (IsByRecord (meaning_in settings.entry) rs (full_ref_bytes name.entry))) }
-    ensures sound { OfAsked settings.entry (F.means files.old) F.honest records.old (λ rs. IfErr
-        result IsFaultOrMemory) }
-    ensures hit { F.honest → AreHonest records.old → IfOk result (λ r. IfSome r
-        (IsRecordHit settings.entry (contents F.means files.old) records.old
-        (full_ref_bytes name.entry))) }
-    ensures none { F.honest → AreHonest records.old → IfOk result (λ r. IfNone r
+    ensures found { OfAsked settings.entry (F.means files.old) F.honest records.old (λ rs.
+        MatchResult result (IsByRecord (meaning_in settings.entry) rs (full_ref_bytes name.entry))
+        IsFaultOrMemory) }
+    ensures seen { F.honest → AreHonest records.old → IfOk result (λ r. MatchOption r
         (HasNoRecord settings.entry (contents F.means files.old) records.old
-        (full_ref_bytes name.entry))) }
-    ensures failed { IfErr result (RecordFails F.honest settings.entry (F.means files.old).tree
-        records.old (F.faults files.old) (F.faults files.new) (full_ref_bytes name.entry)) }
+        (full_ref_bytes name.entry)) (IsRecordHit settings.entry (contents F.means files.old)
+        records.old (full_ref_bytes name.entry))) }
+    ensures failed { MatchResult result (λ _. F.faults files.new ≡ F.faults files.old)
+        (RecordFails F.honest settings.entry (F.means files.old).tree records.old
+        (F.faults files.old) (F.faults files.new) (full_ref_bytes name.entry)) }
     ensures still { F.honest → AreStillAskedWith settings.entry (F.means files.old)
         records.old records.new }
-    ensures no_fault { OnOk result (F.faults files.new ≡ F.faults files.old) }
     ensures reads { OnlyReads F.honest F.means F.faults files.old files.new }
 {
     if settings.key_is_name(name) {
@@ -221,22 +212,16 @@ pub fn find_candidate<F: Files>(
     name: FullNameRef<'_>,
     records: &mut Records<'_, F::Reader>,
 ) -> Result<Option<Reference>, Error>
-    ensures found { OfAsked settings.entry (F.means files.old) F.honest records.old (λ rs. IfOk
-        result (IsCandidate (meaning_in settings.entry) (contents F.means files.old) rs
-        (full_ref_bytes name.entry))) }
-    ensures sound { OfAsked settings.entry (F.means files.old) F.honest records.old (λ rs. IfErr
-        result IsSound) }
-    ensures hit { F.honest → AreHonest records.old →
-        IfOk result (λ r. IfSome r (IsHit settings.entry (contents F.means files.old) records.old
-        (full_ref_bytes name.entry))) }
-    ensures missing { F.honest → AreHonest records.old →
-        IfOk result (λ r. IfNone r (IsMissing settings.entry (contents F.means files.old)
-        records.old (full_ref_bytes name.entry))) }
-    ensures failed { IfErr result (CandidateFails F.honest settings.entry (F.means files.old).tree
-        records.old (F.faults files.old) (F.faults files.new) (full_ref_bytes name.entry)) }
+    ensures found { OfAsked settings.entry (F.means files.old) F.honest records.old (λ rs.
+        MatchResult result (IsCandidate (meaning_in settings.entry)
+        (contents F.means files.old) rs (full_ref_bytes name.entry)) IsSound) }
+    ensures seen { F.honest → AreHonest records.old → IfOk result (IsSeen settings.entry
+        (contents F.means files.old) records.old (full_ref_bytes name.entry)) }
+    ensures failed { MatchResult result (λ _. F.faults files.new ≡ F.faults files.old)
+        (CandidateFails F.honest settings.entry (F.means files.old).tree records.old
+        (F.faults files.old) (F.faults files.new) (full_ref_bytes name.entry)) }
     ensures still { F.honest → AreStillAskedWith settings.entry (F.means files.old)
         records.old records.new }
-    ensures no_fault { OnOk result (F.faults files.new ≡ F.faults files.old) }
     ensures reads { OnlyReads F.honest F.means F.faults files.old files.new }
 {
     match read_loose(alloc, files, settings, name) {

@@ -1,10 +1,10 @@
 //! Lookups of names in composed Unicode (`core.precomposeUnicode` of `git config`).
-ghost use Rattle.std.specs.Prelude.{◌≡◌, IfOk, IfErr, IfNone, IfSome, OnOk};
+ghost use Rattle.std.specs.Prelude.{◌≡◌, IfOk, OnOk, MatchResult};
 ghost use Rattle.gix_ref_name.specs.ComposedNames.{decomposed};
 ghost use Rattle.gix_ref_name.specs.Names.{full_bytes, partial_ref_bytes};
 ghost use Rattle.gix_ref_files.specs.ReadOnly.{OnlyReads};
 ghost use Rattle.gix_ref_theory.specs.OnRealTrees.{contents};
-ghost use Rattle.gix_ref_lookup.specs.Lookups.{AreHonest, AreMissing, AreStillAskedWith, Finds, IsComposedName, IsFaultAmong, IsGivenOf, IsHitOf, IsSound, OfAsked, asked_names, lookup_of, meaning_in, name_asked};
+ghost use Rattle.gix_ref_lookup.specs.Lookups.{AreHonest, AreStillAskedWith, Finds, IsAnswerOf, IsComposedName, IsFaultAmong, IsGivenOf, OfAsked, asked_names, lookup_of, meaning_in, name_asked};
 
 use crate::find::Error;
 use crate::find::lookup::find_asked;
@@ -70,19 +70,14 @@ pub fn find_reference<F: Files>(
     ensures found { OfAsked settings.entry (F.means files.old) F.honest records.old (λ rs. Finds
         (lookup_of composes (meaning_in settings.entry) (contents F.means files.old) rs
         (partial_ref_bytes name.entry)) result) }
-    ensures sound { OfAsked settings.entry (F.means files.old) F.honest records.old (λ rs. IfErr
-        result IsSound) }
-    ensures hit { F.honest → AreHonest records.old → IfOk result (λ r. IfSome r (IsHitOf composes
-        settings.entry (contents F.means files.old) records.old (partial_ref_bytes name.entry))) }
-    ensures missing { F.honest → AreHonest records.old → IfOk result (λ r. IfNone r
-        (AreMissing settings.entry (contents F.means files.old) records.old
-        (name_asked composes (partial_ref_bytes name.entry)))) }
-    ensures failed { IfErr result (IsFaultAmong F.honest settings.entry (F.means files.old).tree
-        records.old (F.faults files.old) (F.faults files.new)
+    ensures seen { F.honest → AreHonest records.old → IfOk result (IsAnswerOf composes
+        settings.entry (contents F.means files.old) records.old (partial_ref_bytes name.entry)) }
+    ensures failed { MatchResult result (λ _. F.faults files.new ≡ F.faults files.old)
+        (IsFaultAmong F.honest settings.entry (F.means files.old).tree records.old
+        (F.faults files.old) (F.faults files.new)
         (asked_names (name_asked composes (partial_ref_bytes name.entry)))) }
     ensures asked { F.honest → OnOk result (AreStillAskedWith settings.entry (F.means files.old)
         records.old records.new) }
-    ensures no_fault { OnOk result (F.faults files.new ≡ F.faults files.old) }
     ensures reads { OnlyReads F.honest F.means F.faults files.old files.new }
 {
     match composed_name(alloc, composes, name) {

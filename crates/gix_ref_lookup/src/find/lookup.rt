@@ -1,12 +1,11 @@
 //! The lookup of a partial name (`gitrevisions`): its candidates, one after the other.
-ghost use Rattle.std.specs.Prelude.{◌≡◌, None, IfOk, IfErr, IfNone, OnOk};
-ghost use Rattle.std.specs.List.{AllByRecursion};
+ghost use Rattle.std.specs.Prelude.{◌≡◌, None, IfOk, OnOk, MatchOption, MatchResult};
 ghost use Rattle.gix_ref_name.specs.Candidates.{candidates, remote_head};
 ghost use Rattle.gix_ref_name.specs.Names.{partial_ref_bytes};
 ghost use Rattle.gix_ref_files.specs.ReadOnly.{OnlyReads};
 ghost use Rattle.gix_ref_theory.specs.Lookups.{first_hit, hit_or_head};
 ghost use Rattle.gix_ref_theory.specs.OnRealTrees.{contents};
-ghost use Rattle.gix_ref_lookup.specs.Lookups.{AreHonest, AreMissing, AreStillAskedWith, FailsAmong, Finds, IsFaultAmong, IsHitAmong, IsMissing, IsSound, OfAsked, asked_names, head_names, lookup_as, meaning_in};
+ghost use Rattle.gix_ref_lookup.specs.Lookups.{AreHonest, AreMissing, AreSeen, AreStillAskedWith, FailsAmong, Finds, IsFaultAmong, IsHitAmong, OfAsked, asked_names, head_names, lookup_as, meaning_in};
 
 use crate::find::Error;
 use crate::find::candidate::find_candidate;
@@ -29,19 +28,13 @@ fn find_first<F: Files>(
     ensures found { OfAsked settings.entry (F.means files.old) F.honest records.old (λ rs. Finds
         (first_hit (meaning_in settings.entry) (contents F.means files.old) rs
         (candidates (partial_ref_bytes name.entry))) result) }
-    ensures sound { OfAsked settings.entry (F.means files.old) F.honest records.old (λ rs. IfErr
-        result IsSound) }
-    ensures hit { F.honest → AreHonest records.old → IfOk result (IsHitAmong settings.entry
+    ensures seen { F.honest → AreHonest records.old → IfOk result (AreSeen settings.entry
         (contents F.means files.old) records.old (candidates (partial_ref_bytes name.entry))) }
-    ensures missing { F.honest → AreHonest records.old → IfOk result (λ r. IfNone r
-        (AllByRecursion (IsMissing settings.entry (contents F.means files.old) records.old)
-        (candidates (partial_ref_bytes name.entry)))) }
-    ensures failed { IfErr result
+    ensures failed { MatchResult result (λ _. F.faults files.new ≡ F.faults files.old)
         (FailsAmong F.honest settings.entry (F.means files.old).tree records.old
         (F.faults files.old) (F.faults files.new) (candidates (partial_ref_bytes name.entry))) }
     ensures asked { F.honest → OnOk result (AreStillAskedWith settings.entry (F.means files.old)
         records.old records.new) }
-    ensures no_fault { OnOk result (F.faults files.new ≡ F.faults files.old) }
     ensures reads { OnlyReads F.honest F.means F.faults files.old files.new }
 {
     let fronts = lookup_prefixes(name);
@@ -67,16 +60,12 @@ fn find_head<F: Files>(
 ) -> Result<Option<Reference>, Error>
     ensures found { F.honest → Finds (hit_or_head (meaning_in settings.entry)
         (contents F.means files.old) None (remote_head (partial_ref_bytes name.entry))) result }
-    ensures sound { F.honest → IfErr result IsSound }
-    ensures missing { F.honest → IfOk result (λ r. IfNone r (AllByRecursion
-        (λ n. contents F.means files.old ((meaning_in settings.entry).place n) ≡ None)
-        (head_names (partial_ref_bytes name.entry)))) }
-    ensures failed { IfErr result (IsFaultAmong {G = F.Reader.ReadAt} F.honest settings.entry
+    ensures seen { F.honest → IfOk result (AreSeen {G = F.Reader.ReadAt} settings.entry
+        (contents F.means files.old) Records.None (head_names (partial_ref_bytes name.entry))) }
+    ensures failed { MatchResult result (λ _. F.faults files.new ≡ F.faults files.old)
+        (IsFaultAmong {G = F.Reader.ReadAt} F.honest settings.entry
         (F.means files.old).tree Records.None (F.faults files.old) (F.faults files.new)
         (head_names (partial_ref_bytes name.entry))) }
-    ensures hit { F.honest → IfOk result (IsHitAmong {G = F.Reader.ReadAt} settings.entry
-        (contents F.means files.old) Records.None (head_names (partial_ref_bytes name.entry))) }
-    ensures no_fault { OnOk result (F.faults files.new ≡ F.faults files.old) }
     ensures reads { OnlyReads F.honest F.means F.faults files.old files.new }
 {
     match remote_head(alloc, name) {
@@ -100,19 +89,15 @@ pub fn find_asked<F: Files>(
     ensures found { OfAsked settings.entry (F.means files.old) F.honest records.old (λ rs. Finds
         (lookup_as (meaning_in settings.entry) (contents F.means files.old) rs
         (partial_ref_bytes name.entry)) result) }
-    ensures sound { OfAsked settings.entry (F.means files.old) F.honest records.old (λ rs. IfErr
-        result IsSound) }
-    ensures hit { F.honest → AreHonest records.old → IfOk result (IsHitAmong settings.entry
-        (contents F.means files.old) records.old (asked_names (partial_ref_bytes name.entry))) }
-    ensures missing { F.honest → AreHonest records.old → IfOk result (λ r. IfNone r
+    ensures seen { F.honest → AreHonest records.old → IfOk result (λ r. MatchOption r
         (AreMissing settings.entry (contents F.means files.old) records.old
-        (partial_ref_bytes name.entry))) }
-    ensures failed { IfErr result (IsFaultAmong F.honest settings.entry (F.means files.old).tree
-        records.old (F.faults files.old) (F.faults files.new)
-        (asked_names (partial_ref_bytes name.entry))) }
+        (partial_ref_bytes name.entry)) (IsHitAmong settings.entry (contents F.means files.old)
+        records.old (asked_names (partial_ref_bytes name.entry)))) }
+    ensures failed { MatchResult result (λ _. F.faults files.new ≡ F.faults files.old)
+        (IsFaultAmong F.honest settings.entry (F.means files.old).tree records.old
+        (F.faults files.old) (F.faults files.new) (asked_names (partial_ref_bytes name.entry))) }
     ensures asked { F.honest → OnOk result (AreStillAskedWith settings.entry (F.means files.old)
         records.old records.new) }
-    ensures no_fault { OnOk result (F.faults files.new ≡ F.faults files.old) }
     ensures reads { OnlyReads F.honest F.means F.faults files.old files.new }
 {
     match find_first(alloc, files, settings, name, records) {

@@ -1,5 +1,5 @@
 //! The records that a lookup asks for a name: those of `packed-refs`, which is opened when the first name is asked for.
-ghost use Rattle.std.specs.Prelude.{◌≡◌, ℕ, List, Option, None, IfOk, IfErr, OnOk};
+ghost use Rattle.std.specs.Prelude.{◌≡◌, List, Option, None, IfOk, IfErr, MatchResult};
 ghost use Rattle.gix_ref_hash.specs.declared.hash.Kind.{Kind};
 ghost use Rattle.gix_ref_name.specs.Names.{full_ref_bytes};
 ghost use Rattle.gix_ref_target.specs.PackedRecords.{Record};
@@ -7,7 +7,7 @@ ghost use Rattle.gix_ref_files.specs.ReadOnly.{OnlyReads};
 ghost use Rattle.gix_ref_packed.specs.Buffers.{buffer_text, buffer_kind};
 ghost use Rattle.gix_ref_packed.specs.FileSearches.{FindsInFile};
 ghost use Rattle.gix_ref_packed.specs.OpenFiles.{HasReadFault};
-ghost use Rattle.gix_ref_lookup.specs.Lookups.{AreAsked, AreAskedWith, AreHonest, ArePackedRecordsWith, IsFaultOf, IsFaultOrMemory, IsNotOpened, IsNotPacked, IsReady, IsSearched, IsSearchedWith, SearchesNone, SearchesOpened, as_found, of_opening, of_search, packed_refs_in};
+ghost use Rattle.gix_ref_lookup.specs.Lookups.{AreAsked, ArePackedRecordsWith, IsFaultOf, IsFaultOrMemory, IsNotOpened, IsReady, OpensAsked, as_found, of_opening, of_search};
 
 use crate::find::Error;
 use crate::settings::Settings;
@@ -93,18 +93,13 @@ fn open_records<'b, F: Files>(
 ) -> Result<Records<'b, F::Reader>, Error>
     ensures ready { IfOk result IsReady }
     ensures asked { F.honest → (records : List Record) → ArePackedRecordsWith settings.entry
-        (F.means files.old) records → IfOk result
-        (λ r. AreAsked settings.entry.kind None r records) }
-    ensures sound { F.honest → (records : List Record) → ArePackedRecordsWith settings.entry
-        (F.means files.old) records → IfErr result IsFaultOrMemory }
-    ensures searched { F.honest →
-        IfOk result (SearchesOpened settings.entry (F.means files.old)) }
-    ensures honest { F.honest → IfOk result AreHonest }
-    ensures none { F.honest → IfOk result (λ r. SearchesNone None r →
-        packed_refs_in settings.entry (F.means files.old) ≡ None) }
-    ensures refused { IfErr result (IsNotOpened F.honest (IsFaultOf F.Reader.faults
-        (F.faults files.old) (F.faults files.new)) settings.entry (F.means files.old).tree) }
-    ensures no_fault { OnOk result (F.faults files.new ≡ F.faults files.old) }
+        (F.means files.old) records → MatchResult result
+        (λ r. AreAsked settings.entry.kind None r records) IsFaultOrMemory }
+    ensures opened { F.honest → IfOk result
+        (OpensAsked settings.entry (F.means files.old) Records.Unopened) }
+    ensures refused { MatchResult result (λ _. F.faults files.new ≡ F.faults files.old)
+        (IsNotOpened F.honest (IsFaultOf F.Reader.faults (F.faults files.old) (F.faults files.new))
+        settings.entry (F.means files.old).tree) }
     ensures reads { OnlyReads F.honest F.means F.faults files.old files.new }
 {
     let path = settings.packed_refs_path(alloc)?;
@@ -116,14 +111,14 @@ fn open_records<'b, F: Files>(
 }
 
 impl<R: ReadAt + Drop> Records<'_, R> {
-    ghost use Rattle.std.specs.Prelude.{◌≡◌, ℕ, List, Option, OnOk, OnErr, IfErr, IfOk, IfSome, IfNone, MatchResult, None};
+    ghost use Rattle.std.specs.Prelude.{◌≡◌, List, OnOk, IfErr, IfOk, MatchOption, MatchResult, None};
     ghost use Rattle.gix_ref_name.specs.Names.{full_ref_bytes};
     ghost use Rattle.gix_ref_target.specs.PackedRecords.{Record, record_named};
     ghost use Rattle.gix_ref_hash.specs.declared.hash.Kind.{Kind};
     ghost use Rattle.gix_ref_packed_text.specs.Positions.{CannotRead};
     ghost use Rattle.gix_ref_packed_text.specs.Windows.{AreFound, HitsRecord};
     ghost use Rattle.gix_ref_packed.specs.OpenFiles.{HasReadFault};
-    ghost use Rattle.gix_ref_lookup.specs.Lookups.{AreAsked, AreAskedWith, AreHonest, AreStillAsked, FindsNone, IsFaultOf, IsFaultOrMemory, IsNotPacked, IsReady, IsSearched, IsSearchedWith, OfSearched, SearchesNone, packed_refs_in};
+    ghost use Rattle.gix_ref_lookup.specs.Lookups.{AreAsked, AreAskedWith, AreHonest, AreStillAsked, FindsNone, IsFaultOf, IsFaultOrMemory, IsNotOpened, IsNotPacked, IsReady, OfSearched, OpensAsked};
 
     /// Opens `packed-refs`, if it is asked for the first time. `PackedOpen` where it cannot be opened, and `Memory`.
     pub fn open<F: Files<Reader = R>>(
@@ -132,22 +127,15 @@ impl<R: ReadAt + Drop> Records<'_, R> {
         files: &mut F,
         settings: Settings<'_>,
     ) -> Result<(), Error>
-        ensures ready { OnOk result (IsReady self.new) }
-        ensures kept { OnErr result (self.new ≡ self.old) }
+        ensures ready { MatchResult result (λ _. IsReady self.new) (λ _. self.new ≡ self.old) }
         ensures asked { F.honest → (records : List Record) → AreAskedWith settings.entry
-            (F.means files.old) self.old records → OnOk result
-            (AreAsked settings.entry.kind None self.new records) }
-        ensures sound { F.honest → (records : List Record) → AreAskedWith settings.entry
-            (F.means files.old) self.old records → IfErr result IsFaultOrMemory }
-        ensures searched { F.honest → (kind : Kind) (text : List ℕ) → IsSearched settings.entry.kind
-            None self.new kind text → OnOk result (IsSearchedWith settings.entry (F.means files.old)
-            self.old kind text) }
-        ensures honest { F.honest → AreHonest self.old → OnOk result (AreHonest self.new) }
-        ensures none { F.honest → OnOk result (SearchesNone None self.new →
-            SearchesNone (packed_refs_in settings.entry (F.means files.old)) self.old) }
-        ensures refused { IfErr result (IsNotOpened F.honest (IsFaultOf R.faults
-            (F.faults files.old) (F.faults files.new)) settings.entry (F.means files.old).tree) }
-        ensures no_fault { OnOk result (F.faults files.new ≡ F.faults files.old) }
+            (F.means files.old) self.old records → MatchResult result
+            (λ _. AreAsked settings.entry.kind None self.new records) IsFaultOrMemory }
+        ensures opened { F.honest → OnOk result
+            (OpensAsked settings.entry (F.means files.old) self.old self.new) }
+        ensures refused { MatchResult result (λ _. F.faults files.new ≡ F.faults files.old)
+            (IsNotOpened F.honest (IsFaultOf R.faults (F.faults files.old) (F.faults files.new))
+            settings.entry (F.means files.old).tree) }
         ensures reads { OnlyReads F.honest F.means F.faults files.old files.new }
     {
         let Records::Unopened = self else {
@@ -170,14 +158,13 @@ impl<R: ReadAt + Drop> Records<'_, R> {
         ensures found { (kind : Kind) (records : List Record) →
             AreAsked kind None self.old records → MatchResult result
             (AreFound (record_named (full_ref_bytes key.entry) records)) IsFaultOrMemory }
-        ensures hit { AreHonest self.old → (kind : Kind) →
-            IfOk result (λ found. IfSome found (λ f. OfSearched kind None self.old
+        ensures seen { AreHonest self.old → (kind : Kind) →
+            IfOk result (λ found. MatchOption found (FindsNone kind None self.old)
+            (λ f. OfSearched kind None self.old
             (λ k text. HitsRecord k text (full_ref_bytes key.entry) f))) }
         ensures failed { (kind : Kind) → IfErr result
             (IsNotPacked (AreHonest self.old) (HasReadFault R.faults) (OfSearched kind None self.old
             (λ k text. CannotRead k text (full_ref_bytes key.entry))) (λ error. ⊥)) }
-        ensures none { AreHonest self.old → (kind : Kind) →
-            IfOk result (λ found. IfNone found (FindsNone kind None self.old)) }
         ensures still { (kind : Kind) → AreStillAsked kind None self.old self.new }
         ensures ready { IsReady self.new }
     {

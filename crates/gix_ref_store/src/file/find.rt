@@ -27,13 +27,13 @@ fn not_found(alloc: Global, partial: PartialNameRef<'_>) -> existing::Error
 }
 
 impl<F: Files> Store<F> {
-    ghost use Rattle.std.specs.Prelude.{◌≡◌, List, Some, IfOk, IfErr, IfNone, OnOk, true, false, is_some};
+    ghost use Rattle.std.specs.Prelude.{◌≡◌, List, Some, IfOk, IfErr, IfNone, OnOk, MatchResult, true, false, is_some};
     ghost use Rattle.gix_ref_name.specs.Names.{full_ref_bytes, partial_ref_bytes};
     ghost use Rattle.gix_ref_target.specs.PackedRecords.{Record};
     ghost use Rattle.gix_ref_lookup.specs.Lookups.{IsSound, AreHonest};
     ghost use Rattle.gix_ref_lookup.specs.declared.find.records.Records.TheVariants.{Unopened};
     ghost use Rattle.gix_ref_store.specs.Store.{files_of};
-    ghost use Rattle.gix_ref_store.specs.Lookup.{AreRecordsIn, AreAskedIn, AreHeld, held, composes_in, FindsBy, FindsAmong, FindsFull, FindsHeld, FindsLoose, HitsFull, HitsIn, FailsFull, FailsIn, MissesIn, MissesBy, MissesAmong, MissesHeld, MissesLoose, LooksUp, AreStillAskedIn, FindsNoFull, FindsNothing, IfNotFound};
+    ghost use Rattle.gix_ref_store.specs.Lookup.{AreRecordsIn, AreAskedIn, AreHeld, held, composes_in, FindsBy, FindsAmong, FindsFull, FindsHeld, FindsLoose, SeesFull, SeesIn, SeesExisting, SeesNothing, FailsFull, FailsIn, MissesIn, MissesBy, MissesAmong, MissesHeld, MissesLoose, LooksUp, AreStillAskedIn, IfNotFound};
 
     /// Whether names are composed in a lookup.
     fn composes(&self, asks_records: bool) -> bool
@@ -51,20 +51,17 @@ impl<F: Files> Store<F> {
         asked: &mut Records<'_, F::Reader>,
     ) -> Result<Option<Reference>, Error>
         ensures found { F.honest → (records : List Record) →
-            AreAskedIn F.means self.old asked.old records → IfOk result
-            (FindsBy F.means asks_records self.old records (partial_ref_bytes partial.entry)) }
-        ensures sound { F.honest → (records : List Record) →
-            AreAskedIn F.means self.old asked.old records → IfErr result IsSound }
-        ensures hit { F.honest → AreHonest asked.old → IfOk result
-            (HitsIn F.means asks_records self.old asked.old (partial_ref_bytes partial.entry)) }
-        ensures missing { F.honest → AreHonest asked.old → IfOk result (λ r. IfNone r (FindsNothing
-            F.means asks_records self.old asked.old (partial_ref_bytes partial.entry))) }
-        ensures failed { IfErr result (FailsIn F.honest F.means F.faults asks_records self.old
-            self.new asked.old (partial_ref_bytes partial.entry)) }
+            AreAskedIn F.means self.old asked.old records → MatchResult result
+            (FindsBy F.means asks_records self.old records (partial_ref_bytes partial.entry))
+            IsSound }
+        ensures seen { F.honest → AreHonest asked.old → IfOk result
+            (SeesIn F.means asks_records self.old asked.old (partial_ref_bytes partial.entry)) }
+        ensures failed { MatchResult result
+            (λ _. F.faults (files_of self.new) ≡ F.faults (files_of self.old))
+            (FailsIn F.honest F.means F.faults asks_records self.old self.new asked.old
+            (partial_ref_bytes partial.entry)) }
         ensures asked { F.honest → OnOk result
             (AreStillAskedIn F.means self.old asked.old asked.new) }
-        ensures no_fault { OnOk result (F.faults (files_of self.new)
-            ≡ F.faults (files_of self.old)) }
         ensures unchanged { LooksUp F.honest F.means self.old self.new }
     {
         let composes = self.composes(asks_records);
@@ -82,22 +79,17 @@ impl<F: Files> Store<F> {
         asked: &mut Records<'_, F::Reader>,
     ) -> Result<Reference, existing::Error>
         ensures found { F.honest → (records : List Record) →
-            AreAskedIn F.means self.old asked.old records → IfOk result (λ r. FindsBy F.means
-            asks_records self.old records (partial_ref_bytes partial.entry) (Some r)) }
-        ensures sound { F.honest → (records : List Record) →
-            AreAskedIn F.means self.old asked.old records → IfErr result
+            AreAskedIn F.means self.old asked.old records → MatchResult result (λ r. FindsBy
+            F.means asks_records self.old records (partial_ref_bytes partial.entry) (Some r))
             (MissesBy F.means asks_records self.old records (partial_ref_bytes partial.entry)) }
-        ensures hit { F.honest → AreHonest asked.old → IfOk result (λ r. HitsIn F.means asks_records
-            self.old asked.old (partial_ref_bytes partial.entry) (Some r)) }
-        ensures missing { F.honest → AreHonest asked.old →
-            IfErr result (λ error. IfNotFound error (FindsNothing F.means asks_records self.old
-            asked.old (partial_ref_bytes partial.entry))) }
-        ensures failed { IfErr result (MissesIn F.honest F.means F.faults asks_records self.old
-            self.new asked.old (partial_ref_bytes partial.entry)) }
+        ensures seen { F.honest → AreHonest asked.old → SeesExisting F.means asks_records
+            self.old asked.old (partial_ref_bytes partial.entry) result }
+        ensures failed { MatchResult result
+            (λ _. F.faults (files_of self.new) ≡ F.faults (files_of self.old))
+            (MissesIn F.honest F.means F.faults asks_records self.old self.new asked.old
+            (partial_ref_bytes partial.entry)) }
         ensures asked { F.honest → OnOk result
             (AreStillAskedIn F.means self.old asked.old asked.new) }
-        ensures no_fault { OnOk result (F.faults (files_of self.new)
-            ≡ F.faults (files_of self.old)) }
         ensures unchanged { LooksUp F.honest F.means self.old self.new }
     {
         match self.find_among(alloc, partial, asks_records, asked) {
@@ -139,17 +131,14 @@ impl<F: Files> Store<F> {
         partial: PartialNameRef<'_>,
     ) -> Result<Option<Reference>, Error>
         ensures found { F.honest → (records : List Record) → AreRecordsIn F.means self.old records →
-            IfOk result (FindsAmong F.means self.old records (partial_ref_bytes partial.entry)) }
-        ensures sound { F.honest → (records : List Record) → AreRecordsIn F.means self.old records →
-            IfErr result IsSound }
-        ensures hit { F.honest → IfOk result (HitsIn {G = F.Reader.ReadAt} F.means true self.old
+            MatchResult result
+            (FindsAmong F.means self.old records (partial_ref_bytes partial.entry)) IsSound }
+        ensures seen { F.honest → IfOk result (SeesIn {G = F.Reader.ReadAt} F.means true self.old
             Unopened (partial_ref_bytes partial.entry)) }
-        ensures missing { F.honest → IfOk result (λ r. IfNone r (FindsNothing {G = F.Reader.ReadAt}
-            F.means true self.old Unopened (partial_ref_bytes partial.entry))) }
-        ensures failed { IfErr result (FailsIn {G = F.Reader.ReadAt} F.honest F.means F.faults true
+        ensures failed { MatchResult result
+            (λ _. F.faults (files_of self.new) ≡ F.faults (files_of self.old))
+            (FailsIn {G = F.Reader.ReadAt} F.honest F.means F.faults true
             self.old self.new Unopened (partial_ref_bytes partial.entry)) }
-        ensures no_fault { OnOk result (F.faults (files_of self.new)
-            ≡ F.faults (files_of self.old)) }
         ensures unchanged { LooksUp F.honest F.means self.old self.new }
     {
         self.find_among(alloc, partial, true, &mut Records::Unopened)
@@ -171,19 +160,15 @@ impl<F: Files> Store<F> {
         partial: PartialNameRef<'_>,
     ) -> Result<Reference, existing::Error>
         ensures found { F.honest → (records : List Record) →
-            AreRecordsIn F.means self.old records → IfOk result
-            (λ r. FindsAmong F.means self.old records (partial_ref_bytes partial.entry) (Some r)) }
-        ensures sound { F.honest → (records : List Record) → AreRecordsIn F.means self.old records →
-            IfErr result (MissesAmong F.means self.old records (partial_ref_bytes partial.entry)) }
-        ensures hit { F.honest → IfOk result (λ r. HitsIn {G = F.Reader.ReadAt} F.means true
-            self.old Unopened (partial_ref_bytes partial.entry) (Some r)) }
-        ensures missing { F.honest → IfErr result (λ error. IfNotFound error
-            (FindsNothing {G = F.Reader.ReadAt} F.means true self.old Unopened
-            (partial_ref_bytes partial.entry))) }
-        ensures failed { IfErr result (MissesIn {G = F.Reader.ReadAt} F.honest F.means F.faults true
+            AreRecordsIn F.means self.old records → MatchResult result
+            (λ r. FindsAmong F.means self.old records (partial_ref_bytes partial.entry) (Some r))
+            (MissesAmong F.means self.old records (partial_ref_bytes partial.entry)) }
+        ensures seen { F.honest → SeesExisting {G = F.Reader.ReadAt} F.means true
+            self.old Unopened (partial_ref_bytes partial.entry) result }
+        ensures failed { MatchResult result
+            (λ _. F.faults (files_of self.new) ≡ F.faults (files_of self.old))
+            (MissesIn {G = F.Reader.ReadAt} F.honest F.means F.faults true
             self.old self.new Unopened (partial_ref_bytes partial.entry)) }
-        ensures no_fault { OnOk result (F.faults (files_of self.new)
-            ≡ F.faults (files_of self.old)) }
         ensures unchanged { LooksUp F.honest F.means self.old self.new }
     {
         match self.try_find(alloc, partial) {
@@ -212,17 +197,14 @@ impl<F: Files> Store<F> {
         name: FullNameRef<'_>,
     ) -> Result<Option<Reference>, Error>
         ensures found { F.honest → (records : List Record) → AreRecordsIn F.means self.old records →
-            IfOk result (FindsFull F.means self.old records (full_ref_bytes name.entry)) }
-        ensures sound { F.honest → (records : List Record) → AreRecordsIn F.means self.old records →
-            IfErr result IsSound }
-        ensures hit { F.honest → IfOk result (HitsFull {G = F.Reader.ReadAt} F.means self.old
+            MatchResult result (FindsFull F.means self.old records (full_ref_bytes name.entry))
+            IsSound }
+        ensures seen { F.honest → IfOk result (SeesFull {G = F.Reader.ReadAt} F.means self.old
             Unopened (full_ref_bytes name.entry)) }
-        ensures missing { F.honest → IfOk result (λ r. IfNone r (FindsNoFull {G = F.Reader.ReadAt}
-            F.means self.old Unopened (full_ref_bytes name.entry))) }
-        ensures failed { IfErr result (FailsFull {G = F.Reader.ReadAt} F.honest F.means F.faults
+        ensures failed { MatchResult result
+            (λ _. F.faults (files_of self.new) ≡ F.faults (files_of self.old))
+            (FailsFull {G = F.Reader.ReadAt} F.honest F.means F.faults
             self.old self.new Unopened (full_ref_bytes name.entry)) }
-        ensures no_fault { OnOk result (F.faults (files_of self.new)
-            ≡ F.faults (files_of self.old)) }
         ensures unchanged { LooksUp F.honest F.means self.old self.new }
     {
         let settings = settings!(self);
@@ -244,15 +226,14 @@ impl<F: Files> Store<F> {
         alloc: Global,
         partial: PartialNameRef<'_>,
     ) -> Result<Option<loose::Reference>, Error>
-        ensures found { F.honest → IfOk result
-            (FindsLoose F.means self.old (partial_ref_bytes partial.entry)) }
-        ensures sound { F.honest → IfErr result IsSound }
-        ensures missing { F.honest → IfOk result (λ r. IfNone r (FindsNothing {G = F.Reader.ReadAt}
+        ensures found { F.honest → MatchResult result
+            (FindsLoose F.means self.old (partial_ref_bytes partial.entry)) IsSound }
+        ensures missing { F.honest → IfOk result (λ r. IfNone r (SeesNothing {G = F.Reader.ReadAt}
             F.means false self.old Records.None (partial_ref_bytes partial.entry))) }
-        ensures failed { IfErr result (FailsIn {G = F.Reader.ReadAt} F.honest F.means F.faults false
+        ensures failed { MatchResult result
+            (λ _. F.faults (files_of self.new) ≡ F.faults (files_of self.old))
+            (FailsIn {G = F.Reader.ReadAt} F.honest F.means F.faults false
             self.old self.new Records.None (partial_ref_bytes partial.entry)) }
-        ensures no_fault { OnOk result (F.faults (files_of self.new)
-            ≡ F.faults (files_of self.old)) }
         ensures unchanged { LooksUp F.honest F.means self.old self.new }
     {
         match self.find_among(alloc, partial, false, &mut Records::None) {
@@ -274,17 +255,16 @@ impl<F: Files> Store<F> {
         alloc: Global,
         partial: PartialNameRef<'_>,
     ) -> Result<loose::Reference, existing::Error>
-        ensures found { F.honest → IfOk result
-            (λ r. FindsLoose F.means self.old (partial_ref_bytes partial.entry) (Some r)) }
-        ensures sound { F.honest → IfErr result
+        ensures found { F.honest → MatchResult result
+            (λ r. FindsLoose F.means self.old (partial_ref_bytes partial.entry) (Some r))
             (MissesLoose F.means self.old (partial_ref_bytes partial.entry)) }
         ensures missing { F.honest → IfErr result (λ error. IfNotFound error
-            (FindsNothing {G = F.Reader.ReadAt} F.means false self.old Records.None
+            (SeesNothing {G = F.Reader.ReadAt} F.means false self.old Records.None
             (partial_ref_bytes partial.entry))) }
-        ensures failed { IfErr result (MissesIn {G = F.Reader.ReadAt} F.honest F.means F.faults
+        ensures failed { MatchResult result
+            (λ _. F.faults (files_of self.new) ≡ F.faults (files_of self.old))
+            (MissesIn {G = F.Reader.ReadAt} F.honest F.means F.faults
             false self.old self.new Records.None (partial_ref_bytes partial.entry)) }
-        ensures no_fault { OnOk result (F.faults (files_of self.new)
-            ≡ F.faults (files_of self.old)) }
         ensures unchanged { LooksUp F.honest F.means self.old self.new }
     {
         match self.try_find_loose(alloc, partial) {
@@ -313,20 +293,16 @@ impl<F: Files> Store<F> {
         packed: Option<&Buffer>,
     ) -> Result<Option<Reference>, Error>
         ensures found { F.honest → (records : List Record) →
-            AreHeld packed.entry records → IfOk result
-            (FindsHeld F.means packed.entry self.old records (partial_ref_bytes partial.entry)) }
-        ensures sound { F.honest → (records : List Record) → AreHeld packed.entry records →
-            IfErr result IsSound }
-        ensures hit { F.honest → IfOk result (HitsIn {G = F.Reader.ReadAt} F.means
+            AreHeld packed.entry records → MatchResult result
+            (FindsHeld F.means packed.entry self.old records (partial_ref_bytes partial.entry))
+            IsSound }
+        ensures seen { F.honest → IfOk result (SeesIn {G = F.Reader.ReadAt} F.means
             (is_some packed.entry) self.old (held packed.entry) (partial_ref_bytes partial.entry)) }
-        ensures missing { F.honest → IfOk result (λ r. IfNone r (FindsNothing {G = F.Reader.ReadAt}
-            F.means (is_some packed.entry) self.old (held packed.entry)
-            (partial_ref_bytes partial.entry))) }
-        ensures failed { IfErr result (FailsIn {G = F.Reader.ReadAt} F.honest F.means F.faults
+        ensures failed { MatchResult result
+            (λ _. F.faults (files_of self.new) ≡ F.faults (files_of self.old))
+            (FailsIn {G = F.Reader.ReadAt} F.honest F.means F.faults
             (is_some packed.entry) self.old self.new (held packed.entry)
             (partial_ref_bytes partial.entry)) }
-        ensures no_fault { OnOk result (F.faults (files_of self.new)
-            ≡ F.faults (files_of self.old)) }
         ensures unchanged { LooksUp F.honest F.means self.old self.new }
     {
         match packed {
@@ -344,22 +320,16 @@ impl<F: Files> Store<F> {
         packed: Option<&Buffer>,
     ) -> Result<Reference, existing::Error>
         ensures found { F.honest → (records : List Record) → AreHeld packed.entry records →
-            IfOk result (λ r. FindsHeld F.means packed.entry self.old records
-            (partial_ref_bytes partial.entry) (Some r)) }
-        ensures sound { F.honest → (records : List Record) →
-            AreHeld packed.entry records → IfErr result
+            MatchResult result (λ r. FindsHeld F.means packed.entry self.old records
+            (partial_ref_bytes partial.entry) (Some r))
             (MissesHeld F.means packed.entry self.old records (partial_ref_bytes partial.entry)) }
-        ensures hit { F.honest →
-            IfOk result (λ r. HitsIn {G = F.Reader.ReadAt} F.means (is_some packed.entry) self.old
-            (held packed.entry) (partial_ref_bytes partial.entry) (Some r)) }
-        ensures missing { F.honest → IfErr result (λ error. IfNotFound error
-            (FindsNothing {G = F.Reader.ReadAt} F.means (is_some packed.entry) self.old
-            (held packed.entry) (partial_ref_bytes partial.entry))) }
-        ensures failed { IfErr result (MissesIn {G = F.Reader.ReadAt} F.honest F.means F.faults
+        ensures seen { F.honest → SeesExisting {G = F.Reader.ReadAt} F.means (is_some packed.entry)
+            self.old (held packed.entry) (partial_ref_bytes partial.entry) result }
+        ensures failed { MatchResult result
+            (λ _. F.faults (files_of self.new) ≡ F.faults (files_of self.old))
+            (MissesIn {G = F.Reader.ReadAt} F.honest F.means F.faults
             (is_some packed.entry) self.old self.new (held packed.entry)
             (partial_ref_bytes partial.entry)) }
-        ensures no_fault { OnOk result (F.faults (files_of self.new)
-            ≡ F.faults (files_of self.old)) }
         ensures unchanged { LooksUp F.honest F.means self.old self.new }
     {
         match self.try_find_packed(alloc, partial, packed) {

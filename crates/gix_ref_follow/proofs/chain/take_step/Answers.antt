@@ -4,7 +4,7 @@ use Rattle.gix_ref_target.specs.Targets.{target_value}
 use Rattle.gix_ref_packed_text.specs.declared.raw.Reference.{Reference}
 use Rattle.gix_ref_lookup.proofs.Opening.{if_err}
 use Rattle.gix_ref_lookup.specs.declared.find.existing.Error.{Error as Missing}
-use Rattle.gix_ref_store.specs.Lookup.{MissesBy, MissesIn, HitsIn}
+use Rattle.gix_ref_store.specs.Lookup.{MissesBy, MissesIn, SeesIn}
 use Rattle.gix_ref_store.specs.Store.{meaning_of}
 use Rattle.gix_ref_follow.specs.Following.{at_of, IsStep}
 use Rattle.gix_ref_follow.specs.Followed.{bytes_of_names, finds_in, HitsNext}
@@ -48,5 +48,5 @@ returns-in-Some-Ok-clause-hit g c h honest =
     let F = g.F.Files in
     let old = c.args.reference.now in
     let next = c.in-Some-Ok.next in
-    let hit = hit_of (target_value old.target) (λ name r. HitsIn {R = g.row.F-Reader.Denot} {G = g.F.Reader.ReadAt} F.means c.args.asks_records c.args.store.now c.args.asked.now name (Some r)) next (rw c.in-Some-Ok.field-0-is at (c.in-Some-Ok.ensures.hit h honest)) in
+    let hit = hit_of (target_value old.target) (λ name r. SeesIn {R = g.row.F-Reader.Denot} {G = g.F.Reader.ReadAt} F.means c.args.asks_records c.args.store.now c.args.asked.now name (Some r)) next (rw c.in-Some-Ok.field-0-is at (c.in-Some-Ok.ensures.hit h honest)) in
     on_ok c.arrive.result (λ same. subst (λ (r : Reference). HitsNext {R = g.row.F-Reader.Denot} {G = g.F.Reader.ReadAt} F.means c.args.asks_records c.args.store.now c.args.asked.now old r) (sym same) hit) c.arrive.ensures.moved

@@ -13,5 +13,5 @@ returns-in-Ok-clause-found g c =
       c.in-Ok.ensures.made,
       found_edited F.honest F.means F.faults (mode_in c.args.packed_refs) c.args.store.now start c.find-found.new.self c.args.edits.items (paths_of c.in-Ok.done.locks_left.items) c.in-Ok.ensures.made.kept.made c.in-Ok.ensures.same
           find.unchanged g.F.Reader.ReadAt (partial_ref_bytes c.args.name) c.find-found.result
-          record { finds = find.found; misses = find.sound; hits = find.hit; fails = find.failed; counts = find.no_fault; changes = find.unchanged },
+          record { finds = find.found; sees = find.seen; fails = find.failed; changes = find.unchanged },
     )

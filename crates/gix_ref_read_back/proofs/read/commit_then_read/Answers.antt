@@ -24,7 +24,7 @@ returns-in-Ok-clause-read g c =
       mid = mid;
       made = c.in-Ok.ensures.made;
       finds = found_edited F.honest F.means F.faults mode old start mid edits left made same find.unchanged G (partial_ref_bytes c.args.name) c.find-found.result
-          record { finds = find.found; misses = find.sound; hits = find.hit; fails = find.failed; counts = find.no_fault; changes = find.unchanged };
+          record { finds = find.found; sees = find.seen; fails = find.failed; changes = find.unchanged };
       lists = listed_edited F.honest F.means F.faults G mode old mid c.list-items.new.store edits left (still_made F.honest F.means F.faults mode old start mid edits left made same find.unchanged)
           (same_on old start mid same find.unchanged.same) c.list-items.ensures.unchanged c.args.prefix.now c.list-items.result c.list-items.ensures.lists;
     }

@@ -6,41 +6,37 @@ use Rattle.gix_ref_lookup.specs.Lookups.{meaning_in, packed_refs_in, AreHonest, 
 use Rattle.gix_ref_packed.specs.OpenFiles.{HasReadFault}
 use Rattle.gix_ref_packed.specs.Buffers.{IsRefusedFile}
 use Rattle.gix_ref_lookup.proofs.NamedRecords.{of_key}
-use Rattle.gix_ref_lookup.proofs.Opening.{if_ok, if_some, if_err, hit_wider, searched_wider, not_packed_wider}
-use Rattle.gix_ref_lookup.proofs.Missing.{any_asked, any_file, any_searched, if_none, none_wider}
+use Rattle.gix_ref_lookup.proofs.Opening.{if_ok, both_ways, same_or_err, none_or_some, hit_wider, searched_wider, not_packed_wider}
+use Rattle.gix_ref_lookup.proofs.Missing.{any_asked, any_file, any_searched, none_wider}
 use Rattle.gix_ref_lookup.proofs.find.candidate.find_at_key.Goals as goal
 
 pub returns-in-Ok-clause-found : goal.returns-in-Ok-clause-found
 returns-in-Ok-clause-found g c h rs are name keyed =
-    if_ok c.find_key.result (λ found is. of_key c.args.settings rs name (full_ref_bytes c.args.key) found keyed is) (c.find_key.ensures.found c.args.settings.kind rs (c.in-Ok.ensures.asked h rs are))
+    both_ways c.find_key.result (λ found is. of_key c.args.settings rs name (full_ref_bytes c.args.key) found keyed is) (λ error is. is)
+    (c.find_key.ensures.found c.args.settings.kind rs (c.in-Ok.ensures.asked h rs are))
 
-pub returns-in-Ok-clause-hit : goal.returns-in-Ok-clause-hit
-returns-in-Ok-clause-hit g c h honest name keyed =
+pub returns-in-Ok-clause-seen : goal.returns-in-Ok-clause-seen
+returns-in-Ok-clause-seen g c h honest name keyed =
     let settings = c.args.settings in
     let key = full_ref_bytes c.args.key in
+    let file = packed_refs_in settings (g.F.Files.means c.args.files.now) in
+    let opened = c.in-Ok.ensures.opened h in
     if_ok c.find_key.result
-    (λ found. if_some found (λ r hit.
-    (key, keyed, hit_wider settings.kind None (packed_refs_in settings (g.F.Files.means c.args.files.now)) c.open.new.self c.args.records.now (namespace_text settings.namespace.now) key r (c.in-Ok.ensures.searched h) hit)))
-    (c.find_key.ensures.hit (c.in-Ok.ensures.honest h honest) settings.kind)
-
-pub returns-in-Ok-clause-none : goal.returns-in-Ok-clause-none
-returns-in-Ok-clause-none g c h honest =
-    let settings = c.args.settings in
-    if_ok c.find_key.result
-    (λ found. if_none found (none_wider settings.kind None (packed_refs_in settings (g.F.Files.means c.args.files.now)) c.open.new.self c.args.records.now (c.in-Ok.ensures.none h) (c.in-Ok.ensures.searched h)))
-    (c.find_key.ensures.none (c.in-Ok.ensures.honest h honest) settings.kind)
+    (λ found. none_or_some found (none_wider settings.kind None file c.open.new.self c.args.records.now opened.none opened.searched)
+    (λ r hit. (key, keyed, hit_wider settings.kind None file c.open.new.self c.args.records.now (namespace_text settings.namespace.now) key r opened.searched hit)))
+    (c.find_key.ensures.seen (opened.readers honest) settings.kind)
 
 pub returns-in-Ok-clause-still : goal.returns-in-Ok-clause-still
 returns-in-Ok-clause-still g c h =
     let kind = c.args.settings.kind in
     let file = packed_refs_in c.args.settings (g.F.Files.means c.args.files.now) in
-    let opened = c.in-Ok.ensures in
+    let opened = c.in-Ok.ensures.opened h in
     let found = c.find_key.ensures.still kind in
     record {
-      asked = λ rs are. any_asked kind None file c.find_key.new.records rs c.find_key.ensures.ready (found.asked rs (opened.asked h rs are));
-      readers = λ honest. found.readers (opened.honest h honest);
-      searched = λ k text is. opened.searched h k text (found.searched k text (any_searched kind file None c.find_key.new.records k text c.find_key.ensures.ready is));
-      none = λ none. opened.none h (found.none (any_file file None c.find_key.new.records c.find_key.ensures.ready none));
+      asked = λ rs are. any_asked kind None file c.find_key.new.records rs c.find_key.ensures.ready (found.asked rs (c.in-Ok.ensures.asked h rs are));
+      readers = λ honest. found.readers (opened.readers honest);
+      searched = λ k text is. opened.searched k text (found.searched k text (any_searched kind file None c.find_key.new.records k text c.find_key.ensures.ready is));
+      none = λ none. opened.none (found.none (any_file file None c.find_key.new.records c.find_key.ensures.ready none));
     }
 
 pub returns-in-Ok-clause-failed : goal.returns-in-Ok-clause-failed
@@ -54,13 +50,13 @@ returns-in-Ok-clause-failed g c name keyed =
     let key = full_ref_bytes c.args.key in
     let fault = HasReadFault g.F.Reader.ReadAt.faults in
     let either = IsFaultOf g.F.Reader.ReadAt.faults (g.F.Files.faults c.args.files.now) (g.F.Files.faults c.open.new.files) in
-    if_err c.find_key.result
+    same_or_err c.find_key.result c.in-Ok.ensures.refused
     (λ error why. not_packed_wider (AreHonest {R = g.row.F-Reader.Denot} {G = g.F.Reader.ReadAt} new) (g.F.Files.honest × AreHonest {R = g.row.F-Reader.Denot} {G = g.F.Reader.ReadAt} old)
     fault either
     (OfSearched {R = g.row.F-Reader.Denot} {G = g.F.Reader.ReadAt} settings.kind None new (λ k text. CannotRead k text key))
     (OfKey s name (λ k. OfSearched {R = g.row.F-Reader.Denot} {G = g.F.Reader.ReadAt} settings.kind file old (λ of_kind text. CannotRead of_kind text k)))
     (λ e. ⊥) (IsRefusedFile settings.kind (before.tree s.packed_path)) error
-    (λ k. c.in-Ok.ensures.honest k.0 k.1) (λ e f. inr f)
-    (λ k bad. (key, keyed, searched_wider settings.kind None file new old (λ of_kind text. CannotRead of_kind text key) (c.in-Ok.ensures.searched k.0) bad))
+    (λ k. (c.in-Ok.ensures.opened k.0).readers k.1) (λ e f. inr f)
+    (λ k bad. (key, keyed, searched_wider settings.kind None file new old (λ of_kind text. CannotRead of_kind text key) (c.in-Ok.ensures.opened k.0).searched bad))
     (λ k e none. absurd none) why)
     (c.find_key.ensures.failed settings.kind)

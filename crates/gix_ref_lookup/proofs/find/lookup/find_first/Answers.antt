@@ -72,8 +72,8 @@ returns-in-Ok-Some-clause-found g c h rs are =
     subst (λ f. ReturnsHit f (Some r)) (sym (x.passed h rs are))
     (subst (λ (l : List (List ℕ)). ReturnsHit (first_hit s (view_of first.tree) rs l) (Some r)) next (hit_here s (view_of first.tree) rs n (drop (i + 1) (candidates p)) r there))
 
-pub returns-in-Ok-Some-clause-hit : goal.returns-in-Ok-Some-clause-hit
-returns-in-Ok-Some-clause-hit g c h honest =
+pub returns-in-Ok-Some-clause-seen : goal.returns-in-Ok-Some-clause-seen
+returns-in-Ok-Some-clause-seen g c h honest =
     let x = c.loop-front.invariant in
     let settings = c.args.settings in
     let first = g.F.Files.means c.args.files.now in
@@ -87,7 +87,7 @@ returns-in-Ok-Some-clause-hit g c h honest =
     let named = c.as_ref.ensures ∙ c.in-Ok.ensures.bytes in
     let r = c.in-Ok-Some.reference in
     let Hits = λ (m : List ℕ). IsHit {R = g.row.F-Reader.Denot} {G = g.F.Reader.ReadAt} settings (view_of first.tree) c.args.records.now m r in
-    let hit = rw c.in-Ok-Some.field-0-is at (c.in-Ok-Some.ensures.hit h (x.readers h honest)) in
+    let hit = rw c.in-Ok-Some.field-0-is at (c.in-Ok-Some.ensures.seen h (x.readers h honest)) in
     among_here Hits (candidates p) i n next
     (subst Hits named (hit_from g.F.Files.honest settings first.tree mid.tree c.args.records.now c.loop-front.records (λ k. (x.reads.leaves k).tree) x.readers x.searched h (full_ref_bytes c.as_ref.result) r hit))
 
@@ -123,13 +123,13 @@ loop-front-preserved g c =
           ((e.still h).none (subst (λ (T : Tree). SearchesNone (packed_refs_at settings T) c.find_candidate.new.records) (sym (same h)) is)));
       missing = λ h honest later. x.missing h honest (subst (AllByRecursion Missing) next (
         subst Missing named
-            (missing_from settings first.tree mid.tree c.args.records.now c.loop-front.records (same h) (x.none h) (x.searched h) (full_ref_bytes c.as_ref.result) (rw c.in-Ok-None.field-0-is at (e.missing h (x.readers h honest)))),
+            (missing_from settings first.tree mid.tree c.args.records.now c.loop-front.records (same h) (x.none h) (x.searched h) (full_ref_bytes c.as_ref.result) (rw c.in-Ok-None.field-0-is at (e.seen h (x.readers h honest)))),
         later,
       ));
       passed = λ h rs are. x.passed h rs are ∙ (ap (first_hit s view rs) (sym next) ∙ hit_later s view rs n (drop (i + 1) names) (absent h rs are));
       fails = λ now error later. x.fails now error (fails_later (IsPassed {R = g.row.F-Reader.Denot} {G = g.F.Reader.ReadAt} g.F.Files.honest settings first.tree c.args.records.now)
           (λ m. CandidateFails {R = g.row.F-Reader.Denot} {G = g.F.Reader.ReadAt} g.F.Files.honest settings first.tree c.args.records.now before now m error) names i n next absent later);
-      no_fault = e.no_fault ∙ x.no_fault;
+      no_fault = e.failed ∙ x.no_fault;
       reads = reads_more _ _ _ _ _ _ x.reads e.reads;
     }
 

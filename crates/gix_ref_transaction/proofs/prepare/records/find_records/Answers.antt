@@ -33,12 +33,12 @@ returns-in-Ok-clause-failed g c =
     let mid = (g.F.Files.means c.open.new.files).tree in
     let asked = λ (edit : RefEdit). g.F.Files.honest → IsHidden s (view_of mid) edit → ⊥ in
     let still = λ (edit : RefEdit). IsHidden s (view_of old.tree) edit → ⊥ in
-    let readers : g.F.Files.honest → AreHonest records = λ h. c.in-Ok.ensures.honest h c.unopened-records.ensures.honest in
+    let readers : g.F.Files.honest → AreHonest records = λ h. (c.in-Ok.ensures.opened h).readers c.unopened-records.ensures.honest in
     both_err c.find_ids.result (λ (e : Error) (why : IsSearchFault records (λ kind. OfSomeKey asked (IsStuckKey kind records) s edits) e) told. record {
       sound = λ h rs are. why.sound settings.kind rs (c.in-Ok.ensures.asked h rs (c.unopened-records.ensures.asked settings.kind file rs (c.requires.absent h) are));
       refused = λ h. why.refused (readers h) settings.kind (old.tree s.packed_path);
       unread = λ h. find_wider (OfSomeKey asked stuck s edits) (OfSomeKey still bad s edits) e
-          (keys_wider asked still stuck bad s edits (λ edit is hidden. is h (subst (λ (T : Tree). IsHidden s (view_of T) edit) (sym (c.open.ensures.reads.leaves h).tree) hidden)) (λ key at. record { of_kind = at.of_kind; text = at.text; opened = c.unopened-records.ensures.searched settings.kind at.of_kind file at.text (c.in-Ok.ensures.searched h at.of_kind at.text at.searched); has = at.has }))
+          (keys_wider asked still stuck bad s edits (λ edit is hidden. is h (subst (λ (T : Tree). IsHidden s (view_of T) edit) (sym (c.open.ensures.reads.leaves h).tree) hidden)) (λ key at. record { of_kind = at.of_kind; text = at.text; opened = c.unopened-records.ensures.searched settings.kind at.of_kind file at.text ((c.in-Ok.ensures.opened h).searched at.of_kind at.text at.searched); has = at.has }))
           (why.unread (readers h) settings.kind);
       counted = counted_by _ _ _ (g.F.Files.faults c.args.files.now) (g.F.Files.faults c.find_ids.new.files) e readers (counted_on _ _ (g.F.Files.faults c.args.files.now) (g.F.Files.faults c.open.new.files) (g.F.Files.faults c.find_ids.new.files) e c.open.ensures.reads.no_fewer told);
     }) c.find_ids.ensures.failed c.find_ids.ensures.counted
@@ -48,8 +48,8 @@ returns-in-Ok-clause-opened g c h =
     let settings = c.args.settings.now in
     let file = packed_refs_in settings (g.F.Files.means c.args.files.now) in
     on_ok c.find_ids.result (openable settings.kind file c.open.new.self c.in-Ok.ensures.ready
-    (λ none. c.unopened-records.ensures.none file (c.requires.absent h) (c.in-Ok.ensures.none h none))
-    (λ k text is. c.unopened-records.ensures.searched settings.kind k file text (c.in-Ok.ensures.searched h k text is)))
+    (λ none. c.unopened-records.ensures.none file (c.requires.absent h) ((c.in-Ok.ensures.opened h).none none))
+    (λ k text is. c.unopened-records.ensures.searched settings.kind k file text ((c.in-Ok.ensures.opened h).searched k text is)))
 
 pub returns-in-Ok-clause-read : goal.returns-in-Ok-clause-read
 returns-in-Ok-clause-read g c h =
@@ -62,7 +62,7 @@ returns-in-Ok-clause-read g c h =
     if_on_ok c.find_ids.result
     (with_wider (IsAskedId s settings.kind (view_of mid) records) (IsRecordId s settings.kind (view_of old)) _ _ (λ edit id asked.
     record_id s settings.kind (view_of old) records
-    (λ none. c.unopened-records.ensures.none file (c.requires.absent h) (c.in-Ok.ensures.none h none))
-    (λ k text is. c.unopened-records.ensures.searched settings.kind k file text (c.in-Ok.ensures.searched h k text is))
+    (λ none. c.unopened-records.ensures.none file (c.requires.absent h) ((c.in-Ok.ensures.opened h).none none))
+    (λ k text is. c.unopened-records.ensures.searched settings.kind k file text ((c.in-Ok.ensures.opened h).searched k text is))
     edit id (subst (λ (T : Tree). IsAskedId s settings.kind (view_of T) records edit id) (c.open.ensures.reads.leaves h).tree asked)))
-    (c.find_ids.ensures.read h (c.in-Ok.ensures.honest h c.unopened-records.ensures.honest) settings.kind)
+    (c.find_ids.ensures.read h ((c.in-Ok.ensures.opened h).readers c.unopened-records.ensures.honest) settings.kind)

@@ -6,7 +6,7 @@ use Rattle.gix_ref_transaction.proofs.prepare.records.id_at.Goals as goal
 
 pub returns-in-Ok-Some-clause-read : goal.returns-in-Ok-Some-clause-read
 returns-in-Ok-Some-clause-read g c h kind =
-    let hit = rw c.in-Ok-Some.field-0-is at (c.in-Ok-Some.ensures.hit h kind) in
+    let hit = rw c.in-Ok-Some.field-0-is at (c.in-Ok-Some.ensures.seen h kind) in
     record { of_kind = hit.of_kind; text = hit.text; searched = hit.searched; has = (c.in-Ok-Some.found, hit.has, refl) }
 
 pub returns-in-Err-clause-failed : goal.returns-in-Err-clause-failed

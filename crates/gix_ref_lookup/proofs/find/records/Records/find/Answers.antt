@@ -1,8 +1,9 @@
 use Rattle.std.proofs.Common.{inr, refl}
 use Rattle.gix_ref_name.specs.Names.{full_ref_bytes}
+use Rattle.gix_ref_packed.specs.Buffers.{buffer_kind, buffer_text}
 use Rattle.gix_ref_packed.specs.OpenFiles.{packed_file_text, packed_file_kind}
 use Rattle.gix_ref_lookup.proofs.Opening.{not_searched}
-use Rattle.gix_ref_lookup.proofs.Missing.{found_none}
+use Rattle.gix_ref_lookup.proofs.Missing.{found_seen}
 use Rattle.gix_ref_lookup.proofs.find.records.Records.find.Goals as goal
 
 pub returns-in-Open-clause-failed : goal.returns-in-Open-clause-failed
@@ -13,9 +14,22 @@ returns-in-Open-clause-failed g c kind =
     (λ h. (c.find.ensures.finds h).refused) c.find.ensures.failed
     (λ bad. record { of_kind = packed_file_kind file; text = packed_file_text file; searched = (refl, refl); has = bad }))
 
-pub returns-in-Open-clause-none : goal.returns-in-Open-clause-none
-returns-in-Open-clause-none g c h kind =
+pub returns-in-Open-clause-seen : goal.returns-in-Open-clause-seen
+returns-in-Open-clause-seen g c h kind =
     let file = c.in-Open.file in
+    let finds = c.find.ensures.finds (rw c.in-Open.is at h) in
     rw (c.in-Open.is, c.said-in-Open.ensures)
-    (found_none c.find.result (λ some. inr (record { of_kind = packed_file_kind file; text = packed_file_text file; searched = (refl, refl); has = some }))
-    (c.find.ensures.finds (rw c.in-Open.is at h)).none)
+    (found_seen c.find.result
+    (λ some. inr (record { of_kind = packed_file_kind file; text = packed_file_text file; searched = (refl, refl); has = some }))
+    (λ ids hit. record { of_kind = packed_file_kind file; text = packed_file_text file; searched = (refl, refl); has = hit })
+    finds.none finds.hit)
+
+pub returns-in-Held-clause-seen : goal.returns-in-Held-clause-seen
+returns-in-Held-clause-seen g c h kind =
+    let buffer = c.in-Held.buffer.now in
+    let finds = c.find_held.ensures.finds in
+    rw (c.in-Held.is, c.said.ensures)
+    (found_seen c.find_held.result
+    (λ some. inr (record { of_kind = buffer_kind buffer; text = buffer_text buffer; searched = (refl, refl); has = some }))
+    (λ ids hit. record { of_kind = buffer_kind buffer; text = buffer_text buffer; searched = (refl, refl); has = hit })
+    finds.none finds.hit)

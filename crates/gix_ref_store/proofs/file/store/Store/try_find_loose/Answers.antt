@@ -14,5 +14,8 @@ returns-in-Ok-None-clause-found g c h =
     let found = rw c.in-Ok-None.field-0-is at (c.in-Ok-None.ensures.found h [] refl) in
     loose_none (hit_in g.F.Files.means false c.args.self.now [] (partial_ref_bytes c.args.partial)) found
 
-pub returns-clause-sound : goal.returns-clause-sound
-returns-clause-sound g c h = c.in-Err.ensures.sound h [] refl
+pub returns-clause-found : goal.returns-clause-found
+returns-clause-found g c h = c.in-Err.ensures.found h [] refl
+
+pub returns-in-Ok-None-clause-missing : goal.returns-in-Ok-None-clause-missing
+returns-in-Ok-None-clause-missing g c h = rw c.in-Ok-None.field-0-is at (c.in-Ok-None.ensures.seen h tt)
