@@ -1,5 +1,5 @@
 //! Following a reference, step by step (`git symbolic-ref`).
-ghost use Rattle.std.specs.Prelude.{◌≡◌, ◌++◌, ◌∷◌, [], List, Option, Some, None, IfOk, IfErr, OnOk, OnErr, MatchResult, false, bytes_eq};
+ghost use Rattle.std.specs.Prelude.{◌≡◌, ◌++◌, ◌∷◌, [], List, Option, Some, None, IfOk, IfErr, OnOk, OnErr, false, bytes_eq};
 ghost use Rattle.std.specs.List.{list_any};
 ghost use Rattle.gix_ref_name.specs.Names.{full_bytes, full_ref_bytes};
 ghost use Rattle.gix_ref_target.specs.PackedRecords.{Record};
@@ -7,7 +7,7 @@ ghost use Rattle.gix_ref_target.specs.Targets.{target_value, target_kind};
 ghost use Rattle.gix_ref_target.specs.Targets.TargetValue.{object_id};
 ghost use Rattle.gix_ref_target.specs.declared.target.Kind.TheVariants.{Symbolic};
 ghost use Rattle.gix_ref_lookup.specs.Lookups.{AreHonest};
-ghost use Rattle.gix_ref_store.specs.Lookup.{AreAskedIn, AreStillAskedIn, LooksUp};
+ghost use Rattle.gix_ref_store.specs.Lookup.{AreAskedIn, AreStillAskedIn, FailsBy, LooksUp};
 ghost use Rattle.gix_ref_store.specs.Store.{files_of, meaning_of};
 ghost use Rattle.gix_ref_follow.specs.Following.{at_of, is_one_of, IsStep, LeadsWithinLimit};
 ghost use Rattle.gix_ref_follow.specs.Followed.{bytes_of_names, OnStep, StepFinds, StepHits, StepFails, IsCycle, IsReturn, RefusesStep, Follows, finds_in, HitsNext, IsNotFollowed};
@@ -164,10 +164,9 @@ pub(crate) fn follow_among<F: Files>(
     ensures hits { F.honest → AreHonest asked.old → LeadsWithinLimit
         (HitsNext F.means asks_records store.old asked.old) reference.old reference.new }
     ensures object { IfOk result (λ id. target_value reference.new.target ≡ object_id id) }
-    ensures failed { MatchResult result
-        (λ _. F.faults (files_of store.new) ≡ F.faults (files_of store.old))
+    ensures failed { FailsBy F.faults store.old store.new
         (IsNotFollowed F.honest F.means F.faults asks_records store.old store.new asked.old
-        reference.new) }
+        reference.new) result }
     ensures unchanged { LooksUp F.honest F.means store.old store.new }
 {
     let mut reached = Vec::new(alloc);

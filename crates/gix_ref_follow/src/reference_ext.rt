@@ -142,7 +142,7 @@ pub trait ReferenceExt: Sealed {
 }
 
 impl ReferenceExt for Reference {
-    ghost use Rattle.std.specs.Prelude.{◌≡◌, [], List, Option, Some, None, Ok, IfOk, IfErr, IfSome, OnOk, MatchResult, true, false, is_some};
+    ghost use Rattle.std.specs.Prelude.{◌≡◌, [], List, Option, Some, None, Ok, IfOk, IfErr, IfSome, OnOk, true, false, is_some};
     ghost use Rattle.gix_ref_name.specs.Names.{full_bytes, full_ref_bytes};
     ghost use Rattle.gix_ref_target.specs.PackedRecords.{Record};
     ghost use Rattle.gix_ref_target.specs.Targets.{target_value};
@@ -150,7 +150,7 @@ impl ReferenceExt for Reference {
     ghost use Rattle.gix_ref_files.specs.Tree.{is_file};
     ghost use Rattle.gix_ref_lookup.specs.declared.find.records.Records.TheVariants.{Unopened};
     ghost use Rattle.gix_ref_lookup.specs.Reflogs.{count_log};
-    ghost use Rattle.gix_ref_store.specs.Lookup.{AreRecordsIn, AreHeld, held, LooksUp};
+    ghost use Rattle.gix_ref_store.specs.Lookup.{AreRecordsIn, AreHeld, FailsBy, held, LooksUp};
     ghost use Rattle.gix_ref_store.specs.Reflogs.{reflog_at, is_log_prohibited, IsNoReflog};
     ghost use Rattle.gix_ref_store.specs.Store.{files_of};
     ghost use Rattle.gix_ref_follow.specs.Following.{at_of, LeadsWithinLimit};
@@ -307,10 +307,9 @@ impl ReferenceExt for Reference {
         ensures hits { F.honest → LeadsWithinLimit (HitsNext {G = F.Reader.ReadAt} F.means
             (is_some packed.entry) store.old (held packed.entry)) self.old self.new }
         ensures object { IfOk result (λ id. target_value self.new.target ≡ object_id id) }
-        ensures failed { MatchResult result
-            (λ _. F.faults (files_of store.new) ≡ F.faults (files_of store.old))
+        ensures failed { FailsBy F.faults store.old store.new
             (IsNotFollowed {G = F.Reader.ReadAt} F.honest F.means F.faults
-            (is_some packed.entry) store.old store.new (held packed.entry) self.new) }
+            (is_some packed.entry) store.old store.new (held packed.entry) self.new) result }
         ensures unchanged { LooksUp F.honest F.means store.old store.new }
     {
         match packed {
@@ -331,10 +330,9 @@ impl ReferenceExt for Reference {
         ensures hits { F.honest → LeadsWithinLimit (HitsNext {G = F.Reader.ReadAt} F.means
             (is_some packed.entry) store.old (held packed.entry)) self.old self.new }
         ensures object { IfOk result (λ id. target_value self.new.target ≡ object_id id) }
-        ensures failed { MatchResult result
-            (λ _. F.faults (files_of store.new) ≡ F.faults (files_of store.old))
+        ensures failed { FailsBy F.faults store.old store.new
             (IsNotFollowed {G = F.Reader.ReadAt} F.honest F.means F.faults
-            (is_some packed.entry) store.old store.new (held packed.entry) self.new) }
+            (is_some packed.entry) store.old store.new (held packed.entry) self.new) result }
         ensures unchanged { LooksUp F.honest F.means store.old store.new }
     {
         self.follow_to_object_packed(alloc, store, packed)

@@ -15,7 +15,7 @@ use Rattle.gix_ref_packed.specs.Buffers.{buffer_kind, buffer_text, count_open}
 use Rattle.gix_ref_packed.specs.declared.packed.buffer.Buffer.{Buffer}
 use Rattle.gix_ref_listing.specs.declared.error.Error.{Error as ItemError}
 use Rattle.gix_ref_store.specs.Listings.{prefix_of_all}
-use Rattle.gix_ref_store.specs.Lookup.{AreRecordsIn, LooksUp, OpensBuffer, RefusesBuffer}
+use Rattle.gix_ref_store.specs.Lookup.{AreRecordsIn, LooksUp, OpensBuffer, RefusesBuffer, settings_of, view_in}
 use Rattle.gix_ref_store.specs.Prepared.{HasGoodRecords}
 use Rattle.gix_ref_store.specs.Store.{files_of, meaning_of}
 use Rattle.gix_ref_store.specs.declared.file.store.Store.{Store}
@@ -26,6 +26,7 @@ use Rattle.gix_ref_transaction.specs.OwnLocks.{paths_of}
 use Rattle.gix_ref_transaction.specs.declared.packing.PackedRefs.{PackedRefs}
 use Rattle.gix_ref_transaction.specs.declared.packing.PackedRefs.TheVariants as modes
 use Rattle.gix_ref_read_back.specs.ListedItems.{AreItemsIn}
+use Rattle.gix_ref_read_back.specs.ListedReadings.{AreComposed}
 use Rattle.gix_ref_read_back.specs.PlainPromises.{ReadsAsItDid}
 use Rattle.gix_ref_read_back.specs.WholeRuns.{IsNotMade, MakesEdited}
 use Rattle.gix_ref_read_back.specs.declared.error.Error.TheVariants as unmade
@@ -44,6 +45,11 @@ use Rattle.gix_ref_pack.specs.declared.pack.Plan.{Plan}
 abbrev pub uses_of : (prune : Bool) → Objects → PackedRefs Objects
 uses_of true objects = modes.DeletionsAndNonSymbolicUpdatesRemoveLooseSourceReference objects
 uses_of false objects = modes.DeletionsAndNonSymbolicUpdates objects
+
+-- this holds of a store whose `packed-refs` is well formed or missing, and whose names are composed where it composes names
+abbrev pub OfComposed : {F : Type 0} → (means : F → Meaning) → Store F → Type 0 → Type 0
+OfComposed means store P = HasGoodRecords means store →
+    AreComposed (settings_of store) (view_in means store) → P
 
 -- whether a reference is packed without `--all`, unless there was no memory
 abbrev pub TellsChosen : Result Bool PackError → Bool → Type 0

@@ -6,16 +6,15 @@ ghost use Rattle.gix_ref_files.specs.Files.{LossesLeave, StopsLeave};
 ghost use Rattle.gix_ref_hash.specs.declared.hash.ObjectId.{ObjectId as Id};
 ghost use Rattle.gix_ref_packed.specs.Buffers.{HoldsRecords, buffer_kind, buffer_text};
 ghost use Rattle.gix_ref_packed.specs.OpenFiles.{HasReadFault};
-ghost use Rattle.gix_ref_read_back.specs.ListedReadings.{AreComposed};
-ghost use Rattle.gix_ref_store.specs.Lookup.{AreHeld, LooksUp, settings_of, view_in};
-ghost use Rattle.gix_ref_store.specs.Prepared.{HasGoodRecords, IsAtRest, tree_of};
+ghost use Rattle.gix_ref_store.specs.Lookup.{AreHeld, LooksUp};
+ghost use Rattle.gix_ref_store.specs.Prepared.{IsAtRest, tree_of};
 ghost use Rattle.gix_ref_store.specs.Store.{files_of, IsSameStore};
 ghost use Rattle.gix_ref_target.specs.PackedRecords.{Record, record_named};
 ghost use Rattle.gix_ref_transaction.specs.OwnLocks.{paths_of};
 ghost use Rattle.gix_ref_pack.specs.KeptObjects.{AreKeptFor, KeepsObject};
 ghost use Rattle.gix_ref_pack.specs.KnownObjects.{end_in, is_known};
 ghost use Rattle.gix_ref_pack.specs.LooseObjects.{end_with_branches, faults_among, is_branch, is_shared, is_tag, IsKeyName, key_for, loose_among, loose_to, packable};
-ghost use Rattle.gix_ref_pack.specs.Packings.{ArePicked, Chooses, ChoosesAmong, EachReadsAsItDid, HasKey, HidesKey, IsAskError, IsNoTag, IsOfLent, IsTagOr, Packs, PlanComes, PutEnds, TellsChosen, uses_of};
+ghost use Rattle.gix_ref_pack.specs.Packings.{ArePicked, Chooses, ChoosesAmong, EachReadsAsItDid, HasKey, HidesKey, IsAskError, IsNoTag, IsOfLent, IsTagOr, OfComposed, Packs, PlanComes, PutEnds, TellsChosen, uses_of};
 
 use crate::objects::Objects;
 use gix_ref_edits::transaction::{Change, LogChange, PreviousValue, RefEdit};
@@ -399,18 +398,14 @@ pub fn pack_refs<F: Files>(
 ) -> Packed
     ensures packs { Packs F.honest F.means F.faults (HasReadFault F.Reader.faults) is_all prune
         objects store.old store.new result }
-    ensures stays { F.honest → HasGoodRecords F.means store.old →
-        AreComposed (settings_of store.old) (view_in F.means store.old) →
-        EachReadsAsItDid F.honest F.means F.faults store.old (tree_of F.means store.new) }
-    ensures stops { F.honest → HasGoodRecords F.means store.old →
-        AreComposed (settings_of store.old) (view_in F.means store.old) →
-        StopsLeave (F.means (files_of store.old)) (F.means (files_of store.new))
-        (EachReadsAsItDid F.honest F.means F.faults store.old) }
-    ensures losses { F.honest → HasGoodRecords F.means store.old →
-        AreComposed (settings_of store.old) (view_in F.means store.old) →
-        IsAtRest F.means store.old →
+    ensures stays { F.honest → OfComposed F.means store.old
+        (EachReadsAsItDid F.honest F.means F.faults store.old (tree_of F.means store.new)) }
+    ensures stops { F.honest → OfComposed F.means store.old
+        (StopsLeave (F.means (files_of store.old)) (F.means (files_of store.new))
+        (EachReadsAsItDid F.honest F.means F.faults store.old)) }
+    ensures losses { F.honest → OfComposed F.means store.old (IsAtRest F.means store.old →
         LossesLeave (F.means (files_of store.old)) (F.means (files_of store.new))
-        (EachReadsAsItDid F.honest F.means F.faults store.old) }
+        (EachReadsAsItDid F.honest F.means F.faults store.old)) }
     ensures same { IsSameStore store.old store.new }
 {
     let mut broken = Vec::new(alloc);

@@ -123,10 +123,11 @@ module _ {F : Type 0} (means : F → Meaning) where
   abbrev pub MissesAmong : StoreValue F → List Record → List ℕ → Missing → Type 0
   MissesAmong store records p error = MissesBy true store records p error
 
-  -- and so among the records of a buffer
-  abbrev pub MissesHeld : Option (Bor Buffer) → StoreValue F → List Record → List ℕ →
-      Missing → Type 0
-  MissesHeld packed store records p error = MissesBy (is_some packed) store records p error
+  -- it finds this, or so it misses
+  abbrev pub FindsExisting : (asks_records : Bool) → StoreValue F → List Record → List ℕ →
+      Result Reference Missing → Type 0
+  FindsExisting asks_records store records p result = MatchResult result
+      (λ r. FindsBy asks_records store records p (Some r)) (MissesBy asks_records store records p)
 
   -- and so among loose files alone
   abbrev pub MissesLoose : StoreValue F → List ℕ → Missing → Type 0
@@ -195,6 +196,12 @@ module _ {F : Type 0} (honest : Type 0) (means : F → Meaning) where
     pub passes : honest → Passes (means (stores.files_of old)) (means (stores.files_of new))
         (Untouched (disk_of (means (stores.files_of old))))
     pub same : stores.IsSameStore old new
+
+-- a lookup that returns something counts no fault, and the error of one has this
+abbrev pub FailsBy : {F A E : Type 0} → (faults : F → FaultCounts) → (old new : StoreValue F) →
+    (E → Type 0) → Result A E → Type 0
+FailsBy faults old new P result = MatchResult result
+    (λ _. faults (stores.files_of new) ≡ faults (stores.files_of old)) P
 
 module _ {F R : Type 0} {G : Ghosts R} (honest : Type 0) (means : F → Meaning)
     (faults : F → FaultCounts) where

@@ -32,8 +32,7 @@ impl<F: Files> Store<F> {
     ghost use Rattle.gix_ref_target.specs.PackedRecords.{Record};
     ghost use Rattle.gix_ref_lookup.specs.Lookups.{IsSound, AreHonest};
     ghost use Rattle.gix_ref_lookup.specs.declared.find.records.Records.TheVariants.{Unopened};
-    ghost use Rattle.gix_ref_store.specs.Store.{files_of};
-    ghost use Rattle.gix_ref_store.specs.Lookup.{AreRecordsIn, AreAskedIn, AreHeld, held, composes_in, FindsBy, FindsAmong, FindsFull, FindsHeld, FindsLoose, SeesFull, SeesIn, SeesExisting, SeesNothing, FailsFull, FailsIn, MissesIn, MissesBy, MissesAmong, MissesHeld, MissesLoose, LooksUp, AreStillAskedIn, IfNotFound};
+    ghost use Rattle.gix_ref_store.specs.Lookup.{AreRecordsIn, AreAskedIn, AreHeld, held, composes_in, FindsBy, FindsAmong, FindsExisting, FindsFull, FindsHeld, FindsLoose, SeesFull, SeesIn, SeesExisting, SeesNothing, FailsBy, FailsFull, FailsIn, MissesIn, MissesLoose, LooksUp, AreStillAskedIn, IfNotFound};
 
     /// Whether names are composed in a lookup.
     fn composes(&self, asks_records: bool) -> bool
@@ -56,10 +55,9 @@ impl<F: Files> Store<F> {
             IsSound }
         ensures seen { F.honest → AreHonest asked.old → IfOk result
             (SeesIn F.means asks_records self.old asked.old (partial_ref_bytes partial.entry)) }
-        ensures failed { MatchResult result
-            (λ _. F.faults (files_of self.new) ≡ F.faults (files_of self.old))
+        ensures failed { FailsBy F.faults self.old self.new
             (FailsIn F.honest F.means F.faults asks_records self.old self.new asked.old
-            (partial_ref_bytes partial.entry)) }
+            (partial_ref_bytes partial.entry)) result }
         ensures asked { F.honest → OnOk result
             (AreStillAskedIn F.means self.old asked.old asked.new) }
         ensures unchanged { LooksUp F.honest F.means self.old self.new }
@@ -79,15 +77,13 @@ impl<F: Files> Store<F> {
         asked: &mut Records<'_, F::Reader>,
     ) -> Result<Reference, existing::Error>
         ensures found { F.honest → (records : List Record) →
-            AreAskedIn F.means self.old asked.old records → MatchResult result (λ r. FindsBy
-            F.means asks_records self.old records (partial_ref_bytes partial.entry) (Some r))
-            (MissesBy F.means asks_records self.old records (partial_ref_bytes partial.entry)) }
+            AreAskedIn F.means self.old asked.old records → FindsExisting F.means asks_records
+            self.old records (partial_ref_bytes partial.entry) result }
         ensures seen { F.honest → AreHonest asked.old → SeesExisting F.means asks_records
             self.old asked.old (partial_ref_bytes partial.entry) result }
-        ensures failed { MatchResult result
-            (λ _. F.faults (files_of self.new) ≡ F.faults (files_of self.old))
+        ensures failed { FailsBy F.faults self.old self.new
             (MissesIn F.honest F.means F.faults asks_records self.old self.new asked.old
-            (partial_ref_bytes partial.entry)) }
+            (partial_ref_bytes partial.entry)) result }
         ensures asked { F.honest → OnOk result
             (AreStillAskedIn F.means self.old asked.old asked.new) }
         ensures unchanged { LooksUp F.honest F.means self.old self.new }
@@ -135,10 +131,9 @@ impl<F: Files> Store<F> {
             (FindsAmong F.means self.old records (partial_ref_bytes partial.entry)) IsSound }
         ensures seen { F.honest → IfOk result (SeesIn {G = F.Reader.ReadAt} F.means true self.old
             Unopened (partial_ref_bytes partial.entry)) }
-        ensures failed { MatchResult result
-            (λ _. F.faults (files_of self.new) ≡ F.faults (files_of self.old))
+        ensures failed { FailsBy F.faults self.old self.new
             (FailsIn {G = F.Reader.ReadAt} F.honest F.means F.faults true
-            self.old self.new Unopened (partial_ref_bytes partial.entry)) }
+            self.old self.new Unopened (partial_ref_bytes partial.entry)) result }
         ensures unchanged { LooksUp F.honest F.means self.old self.new }
     {
         self.find_among(alloc, partial, true, &mut Records::Unopened)
@@ -160,15 +155,13 @@ impl<F: Files> Store<F> {
         partial: PartialNameRef<'_>,
     ) -> Result<Reference, existing::Error>
         ensures found { F.honest → (records : List Record) →
-            AreRecordsIn F.means self.old records → MatchResult result
-            (λ r. FindsAmong F.means self.old records (partial_ref_bytes partial.entry) (Some r))
-            (MissesAmong F.means self.old records (partial_ref_bytes partial.entry)) }
+            AreRecordsIn F.means self.old records → FindsExisting F.means true
+            self.old records (partial_ref_bytes partial.entry) result }
         ensures seen { F.honest → SeesExisting {G = F.Reader.ReadAt} F.means true
             self.old Unopened (partial_ref_bytes partial.entry) result }
-        ensures failed { MatchResult result
-            (λ _. F.faults (files_of self.new) ≡ F.faults (files_of self.old))
+        ensures failed { FailsBy F.faults self.old self.new
             (MissesIn {G = F.Reader.ReadAt} F.honest F.means F.faults true
-            self.old self.new Unopened (partial_ref_bytes partial.entry)) }
+            self.old self.new Unopened (partial_ref_bytes partial.entry)) result }
         ensures unchanged { LooksUp F.honest F.means self.old self.new }
     {
         match self.try_find(alloc, partial) {
@@ -201,10 +194,9 @@ impl<F: Files> Store<F> {
             IsSound }
         ensures seen { F.honest → IfOk result (SeesFull {G = F.Reader.ReadAt} F.means self.old
             Unopened (full_ref_bytes name.entry)) }
-        ensures failed { MatchResult result
-            (λ _. F.faults (files_of self.new) ≡ F.faults (files_of self.old))
+        ensures failed { FailsBy F.faults self.old self.new
             (FailsFull {G = F.Reader.ReadAt} F.honest F.means F.faults
-            self.old self.new Unopened (full_ref_bytes name.entry)) }
+            self.old self.new Unopened (full_ref_bytes name.entry)) result }
         ensures unchanged { LooksUp F.honest F.means self.old self.new }
     {
         let settings = settings!(self);
@@ -230,10 +222,9 @@ impl<F: Files> Store<F> {
             (FindsLoose F.means self.old (partial_ref_bytes partial.entry)) IsSound }
         ensures missing { F.honest → IfOk result (λ r. IfNone r (SeesNothing {G = F.Reader.ReadAt}
             F.means false self.old Records.None (partial_ref_bytes partial.entry))) }
-        ensures failed { MatchResult result
-            (λ _. F.faults (files_of self.new) ≡ F.faults (files_of self.old))
+        ensures failed { FailsBy F.faults self.old self.new
             (FailsIn {G = F.Reader.ReadAt} F.honest F.means F.faults false
-            self.old self.new Records.None (partial_ref_bytes partial.entry)) }
+            self.old self.new Records.None (partial_ref_bytes partial.entry)) result }
         ensures unchanged { LooksUp F.honest F.means self.old self.new }
     {
         match self.find_among(alloc, partial, false, &mut Records::None) {
@@ -261,10 +252,9 @@ impl<F: Files> Store<F> {
         ensures missing { F.honest → IfErr result (λ error. IfNotFound error
             (SeesNothing {G = F.Reader.ReadAt} F.means false self.old Records.None
             (partial_ref_bytes partial.entry))) }
-        ensures failed { MatchResult result
-            (λ _. F.faults (files_of self.new) ≡ F.faults (files_of self.old))
+        ensures failed { FailsBy F.faults self.old self.new
             (MissesIn {G = F.Reader.ReadAt} F.honest F.means F.faults
-            false self.old self.new Records.None (partial_ref_bytes partial.entry)) }
+            false self.old self.new Records.None (partial_ref_bytes partial.entry)) result }
         ensures unchanged { LooksUp F.honest F.means self.old self.new }
     {
         match self.try_find_loose(alloc, partial) {
@@ -298,11 +288,10 @@ impl<F: Files> Store<F> {
             IsSound }
         ensures seen { F.honest → IfOk result (SeesIn {G = F.Reader.ReadAt} F.means
             (is_some packed.entry) self.old (held packed.entry) (partial_ref_bytes partial.entry)) }
-        ensures failed { MatchResult result
-            (λ _. F.faults (files_of self.new) ≡ F.faults (files_of self.old))
+        ensures failed { FailsBy F.faults self.old self.new
             (FailsIn {G = F.Reader.ReadAt} F.honest F.means F.faults
             (is_some packed.entry) self.old self.new (held packed.entry)
-            (partial_ref_bytes partial.entry)) }
+            (partial_ref_bytes partial.entry)) result }
         ensures unchanged { LooksUp F.honest F.means self.old self.new }
     {
         match packed {
@@ -320,16 +309,14 @@ impl<F: Files> Store<F> {
         packed: Option<&Buffer>,
     ) -> Result<Reference, existing::Error>
         ensures found { F.honest → (records : List Record) → AreHeld packed.entry records →
-            MatchResult result (λ r. FindsHeld F.means packed.entry self.old records
-            (partial_ref_bytes partial.entry) (Some r))
-            (MissesHeld F.means packed.entry self.old records (partial_ref_bytes partial.entry)) }
+            FindsExisting F.means (is_some packed.entry) self.old records
+            (partial_ref_bytes partial.entry) result }
         ensures seen { F.honest → SeesExisting {G = F.Reader.ReadAt} F.means (is_some packed.entry)
             self.old (held packed.entry) (partial_ref_bytes partial.entry) result }
-        ensures failed { MatchResult result
-            (λ _. F.faults (files_of self.new) ≡ F.faults (files_of self.old))
+        ensures failed { FailsBy F.faults self.old self.new
             (MissesIn {G = F.Reader.ReadAt} F.honest F.means F.faults
             (is_some packed.entry) self.old self.new (held packed.entry)
-            (partial_ref_bytes partial.entry)) }
+            (partial_ref_bytes partial.entry)) result }
         ensures unchanged { LooksUp F.honest F.means self.old self.new }
     {
         match self.try_find_packed(alloc, partial, packed) {
