@@ -1,6 +1,6 @@
 -- The folders that lead to a path, and its lock.
 use Rattle.std.proofs.Common.{◌≡◌, inl, inr, ⊎_elim, ℕ, zero, suc, ◌+◌, ◌<◌, ◌≤◌, List, [], ◌∷◌, ◌++◌, length, take, get_or, Bool, true, false, refl, sym, ◌∙◌, ap, subst, arith}
-use Rattle.std.specs.Prelude.{if◌then◌else◌, ◌==◌, ◌||◌, Result, Ok, Err, IfOk, Some, bytes_eq, codes}
+use Rattle.std.specs.Prelude.{if◌then◌else◌, ◌==◌, ◌||◌, Result, Ok, Err, IfOk, MatchResult, Some, bytes_eq, codes}
 use Rattle.std.specs.List.{list_any}
 use Rattle.std.proofs.lemmas.List.{length-take-le}
 use Rattle.gix_ref_files.specs.Tree.{Tree, Path, put, is_file, is_blocked, fronts, fronts_after, folders_to, with_folders}
@@ -78,9 +78,13 @@ pub if_ok : {X E : Type 0} {P Q : X → Type 0} (r : Result X E) → ((x : X) �
 if_ok (Ok x) wider holds = wider x holds
 if_ok (Err e) wider holds = holds
 
-pub if_ok_both : {X E : Type 0} {P Q R : X → Type 0} (r : Result X E) → ((x : X) → P x → Q x → R x) → IfOk r P → IfOk r Q → IfOk r R
-if_ok_both (Ok x) wider one other = wider x one other
-if_ok_both (Err e) wider one other = one
+pub if_either : {X E : Type 0} {P Q : X → Type 0} {A B : E → Type 0} (r : Result X E) → ((x : X) → P x → Q x) → ((e : E) → A e → B e) → MatchResult r P A → MatchResult r Q B
+if_either (Ok x) wider other holds = wider x holds
+if_either (Err e) wider other holds = other e holds
+
+pub if_ok_with : {X E : Type 0} {P Q R : X → Type 0} (A : E → Type 0) (r : Result X E) → ((x : X) → P x → Q x → R x) → MatchResult r P A → IfOk r Q → IfOk r R
+if_ok_with A (Ok x) wider one other = wider x one other
+if_ok_with A (Err e) wider one other = other
 
 -- folders are no new files
 pub no_new_file : (T : Tree) (fs : List Path) (f : Path) → is_file (with_folders T fs f) ≡ true → is_file (T f) ≡ true

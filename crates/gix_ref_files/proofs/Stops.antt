@@ -1,7 +1,6 @@
 -- What stops leave, from the disks that are found: where the tree of each disk that has P has Q, leaving Q follows from passing P.
 use Rattle.std.proofs.Common.{◌≡◌, inl, inr, ℕ, List, [], ◌∷◌, length, take, refl, sym, ◌∙◌, ap, subst}
 use Rattle.std.proofs.Math.Seq.{take-length}
-use Rattle.std.specs.Prelude.{Result, Ok, Err, OnErr}
 use Rattle.gix_ref_files.specs.Tree.{Tree, Path, fronts, appended, folders_to}
 use Rattle.gix_ref_files.specs.Disk.{Disk}
 use Rattle.gix_ref_files.specs.Files.{Meaning, disk_of, Leaves, Passes}
@@ -160,12 +159,3 @@ reached_alone_trees step ss D E (inr (mid, does, inr e)) =
 pub planned_trees : {A : Type 0} (plan : List (Planned A)) → OfTrees (IsReachedBy (synced_steps plan)) (IsLeftBy (steps_of plan))
 planned_trees plan D E reached =
     subst (λ (steps : List Step). IsLeftBy steps D.tree E.tree) (bare_steps plan) (reached_trees (synced_steps plan) D E reached)
-
--- what holds in any case holds of an error
-pub on_err : {X E : Type 0} {P : Type 0} (r : Result X E) → P → OnErr r P
-on_err (Ok x) holds = tt
-on_err (Err e) holds = holds
-
-pub on_err_more : {X E : Type 0} {P Q : Type 0} (r : Result X E) → (P → Q) → OnErr r P → OnErr r Q
-on_err_more (Ok x) wider holds = holds
-on_err_more (Err e) wider holds = wider holds

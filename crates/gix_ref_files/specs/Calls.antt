@@ -1,7 +1,7 @@
 -- What each call of files returns, what it makes of the tree, and what a stop in it could leave.
 use Rattle.std.specs.Prelude.{◌≡◌, ◌≢◌, ◌⊎◌, ℕ, ◌+◌, ◌≤◌, List, [], ◌∷◌, ◌++◌, take, drop, length, Bool, true, false, Option, Some, None, Result, Ok, Err, IsSome, ◌||◌, Contains, All, Any, AllPairs, Vec}
 use Rattle.std.specs.declared.alloc.Global.{Global}
-use Rattle.gix_ref_files.specs.Tree.{Tree, Path, put, appended, moved, removed, bytes_of, is_file, is_folder, is_blocked, has_folders, folders_to, with_folders, IsEmptyFolder}
+use Rattle.gix_ref_files.specs.Tree.{Tree, Path, put, appended, moved, removed, node_at, bytes_of, is_file, is_folder, is_blocked, has_folders, folders_to, with_folders, IsEmptyFolder}
 use Rattle.gix_ref_files.specs.Tree.Content.{File}
 use Rattle.gix_ref_files.specs.declared.files.Entry.{Entry}
 use Rattle.gix_ref_files.specs.declared.files.FileError.{FileError}
@@ -19,6 +19,10 @@ Unchanged before T = T ≡ before
 -- the tree is the one before, or, only where this is allowed, the one after
 abbrev pub BeforeOrAfter : Tree → Type 0 → Tree → Tree → Type 0
 BeforeOrAfter before Allowed after T = (T ≡ before) ⊎ (Allowed × (T ≡ after))
+
+-- what a read returns, and the bytes that it read where that is a file
+abbrev pub Reads : Tree → Path → List ℕ → Node → Type 0
+Reads T p bytes node = (node ≡ node_at T p) × (node ≡ a_file → bytes ≡ bytes_of (T p))
 
 -- the buffer of a read with each result but `File`, and after an error
 abbrev pub emptied : Result Node FileError → List ℕ → Type 0

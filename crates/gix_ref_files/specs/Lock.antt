@@ -8,6 +8,7 @@ use Rattle.gix_ref_files.specs.Calls.{Creates, Creating, Renames}
 use Rattle.gix_ref_files.specs.declared.files.Create.{Create}
 use Rattle.gix_ref_files.specs.declared.files.Create.TheVariants.{Made, Standing as FileStanding, Blocked as FileBlocked}
 use Rattle.gix_ref_files.specs.declared.files.Rename.TheVariants.{Moved as FileMoved, FolderStands as FileFolderStands}
+use Rattle.gix_ref_files.specs.declared.files.FileError.TheVariants.{Memory}
 use Rattle.gix_ref_files.specs.declared.lock.Acquire.{Acquire}
 use Rattle.gix_ref_files.specs.declared.lock.Acquire.TheVariants.{Held, Standing, Blocked}
 use Rattle.gix_ref_files.specs.declared.lock.Commit.{Commit}
@@ -92,10 +93,11 @@ abbrev pub after_commit : Disk → Path → Commit → Disk
 after_commit before place Moved = moved_on before (lock_of place) place
 after_commit before place (FolderStands lock) = before
 
--- the count of faults after a call that gives the lock back where it fails
-abbrev pub count_unspent : {T : Type 0} → Result T Unspent → FaultCounts → FaultCounts
-count_unspent (Ok value) n = n
-count_unspent (Err unspent) n = count_with unspent.error n
+-- A call that gives the lock of a place back where it fails. The fault is counted, and is no lack of memory.
+abbrev pub GivesBack : {T : Type 0} → Path → Result T Unspent → FaultCounts → FaultCounts → Type 0
+GivesBack place (Ok value) before now = now ≡ before
+GivesBack place (Err unspent) before now = (unspent.lock ≡ place) × (now ≡ count_with unspent.error before)
+    × (unspent.error ≡ Memory → ⊥)
 
 -- the folders up to a slash of the path; none where there is no such slash
 abbrev pub folders_up_to : Path → ℕ → List Path

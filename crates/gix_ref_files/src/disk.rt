@@ -27,7 +27,7 @@ use std::{fmt, fs, io};
 /// synced is one system call each.
 ///
 /// The folder that `make_folders` found or made last is not looked at again. Where another program has removed it since, `create_new`
-/// makes it anew.
+/// makes it anew. Nor does `append` look again at the file that `kind` found last.
 #[derive(Drop)]
 pub struct Disk {
     rt: HostRuntime,
@@ -35,6 +35,7 @@ pub struct Disk {
     syncs: bool,
     made: Option<MadeFile>,
     folder: Option<Vec<u8>>,
+    seen: Option<String>,
 }
 
 /// A file that was made and is open.
@@ -96,6 +97,7 @@ impl Disk {
             syncs: true,
             made: None,
             folder: None,
+            seen: None,
         }
     }
 
@@ -114,13 +116,13 @@ impl Disk {
             syncs: false,
             made: None,
             folder: None,
+            seen: None,
         }
     }
 }
 
 impl Disk {
-    ghost use Rattle.std.specs.Prelude.{IsErrOf};
-    ghost use Rattle.gix_ref_files.specs.Files.{count_after};
+    ghost use Rattle.gix_ref_files.specs.Files.{CountsCall};
 
     /// Closes the file that was made last. Returns its path, where that is this one.
     fn close_made(&mut self, path: &[u8]) -> Option<String>
@@ -157,8 +159,7 @@ impl Disk {
 
     /// Syncs a file or a folder, whichever is asked for, after a look; false where there is no such thing.
     fn sync(&mut self, path: &[u8], what: Node) -> Result<bool, FileError>
-        ensures count { counts_of self.new.faults ≡ count_after result (counts_of self.old.faults) }
-        ensures memory { IsErrOf result FileError.Memory → ⊥ }
+        ensures { CountsCall result (counts_of self.old.faults) (counts_of self.new.faults) }
     {
         let path = text_of(&mut self.faults, path)?;
         let synced = sync_at(&self.rt, path, what);
@@ -167,8 +168,7 @@ impl Disk {
 
     /// Whether a sync was done; false where there is no such thing. Another error is counted.
     fn synced(&mut self, synced: io::Result<bool>) -> Result<bool, FileError>
-        ensures count { counts_of self.new.faults ≡ count_after result (counts_of self.old.faults) }
-        ensures memory { IsErrOf result FileError.Memory → ⊥ }
+        ensures { CountsCall result (counts_of self.old.faults) (counts_of self.new.faults) }
     {
         match synced {
             Ok(synced) => Ok(synced),
@@ -226,9 +226,15 @@ impl Files for Disk {
 
     /// One system call.
     fn kind(&mut self, path: &[u8]) -> Result<Node, FileError> {
+        self.seen = None;
         let path = text_of(&mut self.faults, path)?;
         match fs::metadata(&self.rt, path) {
-            Ok(about) => Ok(node_of(&about)),
+            Ok(about) => {
+                if about.is_file() {
+                    self.seen = String::from_str(self.rt.alloc(), path).ok();
+                }
+                Ok(node_of(&about))
+            }
             Err(error) => match error.kind() {
                 ErrorKind::NotFound => Ok(Node::Nothing),
                 ErrorKind::NotADirectory => Ok(Node::Blocked),
@@ -324,16 +330,21 @@ impl Files for Disk {
         }
     }
 
-    /// Four system calls, and one for the file that was made last.
+    /// Four system calls; three for the file that `kind` found last, and one for the file that was made last.
     fn append(&mut self, path: &[u8], bytes: &[u8]) -> Result<bool, FileError> {
         let appended = match &mut self.made {
             Some(made) if made.path.as_bytes() == path => write_to(&mut made.file, bytes),
-            _ => append_to(&self.rt, text_of(&mut self.faults, path)?, bytes),
+            _ => match self.seen.take() {
+                Some(seen) if seen.as_bytes() == path => append_to_seen(&self.rt, &seen, bytes),
+                _ => append_to(&self.rt, text_of(&mut self.faults, path)?, bytes),
+            },
         };
         match appended {
             Ok(appended) => Ok(appended),
             Err(error) => match error.kind() {
-                ErrorKind::NotFound | ErrorKind::NotADirectory => Ok(false),
+                ErrorKind::NotFound | ErrorKind::NotADirectory | ErrorKind::IsADirectory => {
+                    Ok(false)
+                }
                 kind => Err(fault(&mut self.faults, kind)),
             },
         }
@@ -494,6 +505,11 @@ fn append_to(rt: &HostRuntime, path: &str, bytes: &[u8]) -> io::Result<bool> {
     if !fs::metadata(rt, path)?.is_file() {
         return Ok(false);
     }
+    append_to_seen(rt, path, bytes)
+}
+
+/// Appends to what was seen to be a file.
+fn append_to_seen(rt: &HostRuntime, path: &str, bytes: &[u8]) -> io::Result<bool> {
     let mut file = OpenOptions::new().append(true).open(rt, path)?;
     write_to(&mut file, bytes)
 }

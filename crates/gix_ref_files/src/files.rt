@@ -8,7 +8,7 @@
 //! else does. All that a contract says of the tree, of stops and of losses of power it says of honest files. What it says of the count of faults, of
 //! want of memory and of buffers holds of all files. Whether a type's files are honest is said by the type: files
 //! in memory are, and no program can know it of a disk.
-ghost use Rattle.std.specs.Prelude.{◌≡◌, ℕ, IfOk, OnOk, OnErr, IsErrOf, length};
+ghost use Rattle.std.specs.Prelude.{◌≡◌, ℕ, IfOk, OnOk, MatchResult, length};
 
 use std::alloc::Global;
 use std::io::ErrorKind;
@@ -73,7 +73,7 @@ pub struct Entry {
 /// A file that is open for reading at any place. As `FileExt` of `std::os::unix::fs`.
 pub trait ReadAt {
     ghost use Rattle.std.specs.Prelude.{List};
-    ghost use Rattle.gix_ref_files.specs.Files.{FaultCounts, count_after};
+    ghost use Rattle.gix_ref_files.specs.Files.{FaultCounts, CountsCall};
     ghost use Rattle.gix_ref_files.specs.Calls.{IsRead};
 
     /// Reads return the bytes.
@@ -99,8 +99,7 @@ pub trait ReadAt {
         ensures bytes { honest → OnOk result (IsRead (bytes self.old) place buf.new) }
         ensures same { bytes self.new ≡ bytes self.old }
         ensures size { size self.new ≡ size self.old }
-        ensures count { faults self.new ≡ count_after result (faults self.old) }
-        ensures memory { IsErrOf result FileError.Memory → ⊥ };
+        ensures count { CountsCall result (faults self.old) (faults self.new) };
 }
 
 /// A small file system. As the functions of `std::fs`.
@@ -117,11 +116,11 @@ pub trait ReadAt {
 /// ```
 pub trait Files {
     ghost use Rattle.std.specs.Prelude.{◌≤◌};
-    ghost use Rattle.gix_ref_files.specs.Tree.{Tree, IsShaped, node_at, bytes_of, is_file, is_folder};
+    ghost use Rattle.gix_ref_files.specs.Tree.{Tree, IsShaped, node_at, is_file, is_folder};
     ghost use Rattle.gix_ref_files.specs.Disk.{Disk, file_synced, folder_synced};
     ghost use Rattle.gix_ref_files.specs.DiskCalls.{Untouched, after_create, CreatingOn, after_folders, MakingFoldersOn, after_append, AppendingOn, after_rename, RenamingOn, after_removal, RemovingFileOn, RemovingFolderOn, Syncs, SyncingOn};
-    ghost use Rattle.gix_ref_files.specs.Files.{Meaning, disk_of, left_since, AtEveryStop, Adds, OnEveryDisk, AddsDisks, FaultCounts, count_after, DiskBecomes};
-    ghost use Rattle.gix_ref_files.specs.Calls.{Unchanged, emptied, Opens, Creates, Creating, MakesFolders, MakingFolders, Appends, Appending, Renames, Renaming, RemovesFile, RemovingFile, RemovesFolder, RemovingFolder, Lists};
+    ghost use Rattle.gix_ref_files.specs.Files.{Meaning, disk_of, left_since, AtEveryStop, Adds, OnEveryDisk, AddsDisks, FaultCounts, CountsCall, count_after, DiskBecomes};
+    ghost use Rattle.gix_ref_files.specs.Calls.{Unchanged, Reads, emptied, Opens, Creates, Creating, MakesFolders, MakingFolders, Appends, Appending, Renames, Renaming, RemovesFile, RemovingFile, RemovesFolder, RemovingFolder, Lists};
 
     /// A file of these, open for reading.
     type Reader: ReadAt + Drop;
@@ -145,16 +144,13 @@ pub trait Files {
             (λ node. node ≡ node_at (means self.old).tree path.now) }
         ensures leaves { honest → AtEveryStop means self.old self.new Unchanged }
         ensures passes { honest → OnEveryDisk means self.old self.new Untouched }
-        ensures count { faults self.new ≡ count_after result (faults self.old) }
-        ensures memory { IsErrOf result FileError.Memory → ⊥ };
+        ensures count { CountsCall result (faults self.old) (faults self.new) };
 
     /// Returns what is at a path, and where it is a file replaces the content of the buffer with its bytes
     /// (`fs::read`). With every other result, and after an error, the buffer is empty.
     fn read(&mut self, alloc: Global, path: &[u8], buf: &mut Vec<u8>) -> Result<Node, FileError>
-        ensures answer { honest → IfOk result
-            (λ node. node ≡ node_at (means self.old).tree path.now) }
-        ensures bytes { honest → IfOk result (λ node. node ≡ Node.File →
-            buf.new.items ≡ bytes_of ((means self.old).tree path.now)) }
+        ensures answer { honest →
+            IfOk result (Reads (means self.old).tree path.now buf.new.items) }
         ensures emptied { emptied result buf.new.items }
         ensures leaves { honest → AtEveryStop means self.old self.new Unchanged }
         ensures passes { honest → OnEveryDisk means self.old self.new Untouched }
@@ -179,15 +175,14 @@ pub trait Files {
     /// Makes an empty file where there is nothing and folders lead there (`File::create_new`). A fault leaves all as
     /// before.
     fn create_new(&mut self, path: &[u8]) -> Result<Create, FileError>
-        ensures answer { honest → IfOk result
-            (Creates (means self.old).tree path.now (means self.new).tree) }
-        ensures failed { honest → OnErr result ((means self.new).tree ≡ (means self.old).tree) }
+        ensures answer { honest → MatchResult result
+            (Creates (means self.old).tree path.now (means self.new).tree)
+            (λ _. (means self.new).tree ≡ (means self.old).tree) }
         ensures leaves { honest → AtEveryStop means self.old self.new (λ T. Creating T path.now) }
         ensures disk { honest → IfOk result
             (λ create. DiskBecomes means self.old self.new (λ D. after_create D path.now create)) }
         ensures passes { honest → OnEveryDisk means self.old self.new (λ D. CreatingOn D path.now) }
-        ensures count { faults self.new ≡ count_after result (faults self.old) }
-        ensures memory { IsErrOf result FileError.Memory → ⊥ };
+        ensures count { CountsCall result (faults self.old) (faults self.new) };
 
     /// Makes the folders that lead to a path, and one there, where they do not exist (`fs::create_dir_all`); false
     /// where a file is in the way. A fault leaves a beginning of them, the outermost first.
@@ -204,8 +199,7 @@ pub trait Files {
             (λ D. MakingFoldersOn D path.now) }
         ensures adds_disks { honest → OnOk result (AddsDisks (means self.old) (means self.new)
             (MakingFoldersOn (disk_of (means self.old)) path.now)) }
-        ensures count { faults self.new ≡ count_after result (faults self.old) }
-        ensures memory { IsErrOf result FileError.Memory → ⊥ };
+        ensures count { CountsCall result (faults self.old) (faults self.new) };
 
     /// Adds bytes to the end of a file; false where there is no file. A fault leaves any beginning of them there. As
     /// `Write::write_all` to a file that is open for appending.
@@ -222,8 +216,7 @@ pub trait Files {
             (λ D. AppendingOn D path.now bytes.now) }
         ensures adds_disks { honest → OnOk result (AddsDisks (means self.old) (means self.new)
             (AppendingOn (disk_of (means self.old)) path.now bytes.now)) }
-        ensures count { faults self.new ≡ count_after result (faults self.old) }
-        ensures memory { IsErrOf result FileError.Memory → ⊥ };
+        ensures count { CountsCall result (faults self.old) (faults self.new) };
 
     /// Moves a file, also onto a file (`fs::rename`). A fault leaves the tree before or the tree after.
     fn rename(&mut self, from: &[u8], to: &[u8]) -> Result<Rename, FileError>
@@ -235,8 +228,7 @@ pub trait Files {
             (λ D. after_rename D from.now to.now rename)) }
         ensures passes { honest → OnEveryDisk means self.old self.new
             (λ D. RenamingOn D from.now to.now) }
-        ensures count { faults self.new ≡ count_after result (faults self.old) }
-        ensures memory { IsErrOf result FileError.Memory → ⊥ };
+        ensures count { CountsCall result (faults self.old) (faults self.new) };
 
     /// Removes a file (`fs::remove_file`); false where there is no file. A fault leaves the tree before or the tree
     /// after.
@@ -249,8 +241,7 @@ pub trait Files {
             (λ D. after_removal D path.now removed)) }
         ensures passes { honest → OnEveryDisk means self.old self.new
             (λ D. RemovingFileOn D path.now) }
-        ensures count { faults self.new ≡ count_after result (faults self.old) }
-        ensures memory { IsErrOf result FileError.Memory → ⊥ };
+        ensures count { CountsCall result (faults self.old) (faults self.new) };
 
     /// Removes an empty folder (`fs::remove_dir`); false where there is no empty folder. A fault leaves the tree before
     /// or the tree after.
@@ -263,8 +254,7 @@ pub trait Files {
             (λ D. after_removal D path.now removed)) }
         ensures passes { honest → OnEveryDisk means self.old self.new
             (λ D. RemovingFolderOn D path.now) }
-        ensures count { faults self.new ≡ count_after result (faults self.old) }
-        ensures memory { IsErrOf result FileError.Memory → ⊥ };
+        ensures count { CountsCall result (faults self.old) (faults self.new) };
 
     /// Makes sure of the bytes of a file (`File::sync_all`): a loss of power leaves those that it has now. False where there is
     /// no file. A fault makes sure of nothing.
@@ -275,8 +265,7 @@ pub trait Files {
         ensures leaves { honest → AtEveryStop means self.old self.new Unchanged }
         ensures passes { honest → OnEveryDisk means self.old self.new
             (λ D. SyncingOn (is_file ((means self.old).tree path.now)) D (file_synced D path.now)) }
-        ensures count { faults self.new ≡ count_after result (faults self.old) }
-        ensures memory { IsErrOf result FileError.Memory → ⊥ };
+        ensures count { CountsCall result (faults self.old) (faults self.new) };
 
     /// Makes sure of the entries of a folder (`File::sync_all` on the folder): a loss of power that leaves the folder leaves
     /// them as they are now. False where there is no folder. A fault makes sure of nothing.
@@ -287,8 +276,7 @@ pub trait Files {
         ensures leaves { honest → AtEveryStop means self.old self.new Unchanged }
         ensures passes { honest → OnEveryDisk means self.old self.new (λ D. SyncingOn
             (is_folder ((means self.old).tree path.now)) D (folder_synced D path.now)) }
-        ensures count { faults self.new ≡ count_after result (faults self.old) }
-        ensures memory { IsErrOf result FileError.Memory → ⊥ };
+        ensures count { CountsCall result (faults self.old) (faults self.new) };
 
     /// The tree is in every set of a moment that has come.
     ghost tree_is_left: { (files : Self) (t : ℕ) → honest → t ≤ (means files).moment →

@@ -1,10 +1,10 @@
 //! Locks: a text is written to a file beside its place and then renamed to the place, so that the place holds the old
 //! text or the whole new one at every moment.
-ghost use Rattle.std.specs.Prelude.{◌≡◌, IfOk, IfErr, OnOk, OnErr, IsErrOf};
-ghost use Rattle.gix_ref_files.specs.Files.{AtEveryStop, Adds, OnEveryDisk, count_after, DiskBecomes};
+ghost use Rattle.std.specs.Prelude.{◌≡◌, IfOk, OnOk, IsErrOf, MatchResult};
+ghost use Rattle.gix_ref_files.specs.Files.{AtEveryStop, Adds, OnEveryDisk, CountsCall, count_after, DiskBecomes};
 ghost use Rattle.gix_ref_files.specs.DiskCalls.{after_create, CreatingOn, after_synced_append, WritingOn, RenamingOn, after_removal, RemovingFileOn};
 ghost use Rattle.gix_ref_files.specs.Calls.{Creates, Creating, Appends, Appending, Renaming, RemovesFile, RemovingFile};
-ghost use Rattle.gix_ref_files.specs.Lock.{lock_of, Readies, Readying, after_readying, ReadyingOn, MakesLock, after_locking, LockingOn, Acquires, Acquiring, after_acquire, Commits, after_commit, count_unspent};
+ghost use Rattle.gix_ref_files.specs.Lock.{lock_of, Readies, Readying, after_readying, ReadyingOn, MakesLock, after_locking, LockingOn, Acquires, Acquiring, after_acquire, Commits, after_commit, GivesBack};
 
 use crate::files::{Create, FileError, Files, Rename};
 use crate::paths::folder_end;
@@ -82,8 +82,7 @@ fn ready<F: Files>(files: &mut F, path: &[u8]) -> Result<bool, FileError>
         (λ made. DiskBecomes F.means files.old files.new (λ D. after_readying D path.now made)) }
     ensures passes { F.honest → OnEveryDisk F.means files.old files.new
         (λ D. ReadyingOn D path.now) }
-    ensures count { F.faults files.new ≡ count_after result (F.faults files.old) }
-    ensures memory { IsErrOf result FileError.Memory → ⊥ }
+    ensures count { CountsCall result (F.faults files.old) (F.faults files.new) }
 {
     let end = folder_end(path);
     if end == 0 {
@@ -97,10 +96,11 @@ impl LockFile {
     pub fn at(place: Vec<u8>) -> Result<LockFile, AllocError>
         ensures { IfOk result (λ file. file ≡ place.items) }
     {
-        let room = place.len().saturating_add(5);
+        let ending = b".lock";
+        let room = place.len().saturating_add(ending.len());
         let mut lock = Vec::with_capacity(*place.allocator(), room)?;
         lock.extend_from_slice(&place)?;
-        lock.extend_from_slice(b".lock")?;
+        lock.extend_from_slice(ending)?;
         Ok(LockFile { place, lock })
     }
 
@@ -129,36 +129,32 @@ impl LockFile {
     /// Takes the lock: makes the folders that lead to the place, and then the file. An error leaves no lock; folders may have
     /// been made. The caller sees to the removal of the lock.
     pub fn take<F: Files>(&self, files: &mut F) -> Result<Create, FileError>
-        ensures answer { F.honest → IfOk result
-            (MakesLock (F.means files.old).tree self.now (F.means files.new).tree) }
-        ensures failed { F.honest → OnErr result
-            (Readying (F.means files.old).tree self.now (F.means files.new).tree) }
+        ensures answer { F.honest → MatchResult result
+            (MakesLock (F.means files.old).tree self.now (F.means files.new).tree)
+            (λ _. Readying (F.means files.old).tree self.now (F.means files.new).tree) }
         ensures leaves { F.honest → AtEveryStop F.means files.old files.new
             (λ T. Acquiring T self.now) }
         ensures disk { F.honest → IfOk result (λ create. DiskBecomes F.means files.old files.new
             (λ D. after_locking D self.now create)) }
         ensures passes { F.honest → OnEveryDisk F.means files.old files.new
             (λ D. LockingOn D self.now) }
-        ensures count { F.faults files.new ≡ count_after result (F.faults files.old) }
-        ensures memory { IsErrOf result FileError.Memory → ⊥ }
+        ensures count { CountsCall result (F.faults files.old) (F.faults files.new) }
     {
         make_lock(files, &self.place, &self.lock)
     }
 
     /// Makes the file alone, for a caller who knows that folders lead to the place (`File::create_new`).
     pub fn create<F: Files>(&self, files: &mut F) -> Result<Create, FileError>
-        ensures answer { F.honest → IfOk result
-            (Creates (F.means files.old).tree (lock_of self.now) (F.means files.new).tree) }
-        ensures failed { F.honest → OnErr result
-            ((F.means files.new).tree ≡ (F.means files.old).tree) }
+        ensures answer { F.honest → MatchResult result
+            (Creates (F.means files.old).tree (lock_of self.now) (F.means files.new).tree)
+            (λ _. (F.means files.new).tree ≡ (F.means files.old).tree) }
         ensures leaves { F.honest → AtEveryStop F.means files.old files.new
             (λ T. Creating T (lock_of self.now)) }
         ensures disk { F.honest → IfOk result (λ create. DiskBecomes F.means files.old files.new
             (λ D. after_create D (lock_of self.now) create)) }
         ensures passes { F.honest → OnEveryDisk F.means files.old files.new
             (λ D. CreatingOn D (lock_of self.now)) }
-        ensures count { F.faults files.new ≡ count_after result (F.faults files.old) }
-        ensures memory { IsErrOf result FileError.Memory → ⊥ }
+        ensures count { CountsCall result (F.faults files.old) (F.faults files.new) }
     {
         files.create_new(&self.lock)
     }
@@ -176,8 +172,7 @@ impl LockFile {
             (λ D. after_synced_append D (lock_of self.now) bytes.now there)) }
         ensures passes { F.honest → OnEveryDisk F.means files.old files.new
             (λ D. WritingOn D (lock_of self.now) bytes.now) }
-        ensures count { F.faults files.new ≡ count_after result (F.faults files.old) }
-        ensures memory { IsErrOf result FileError.Memory → ⊥ }
+        ensures count { CountsCall result (F.faults files.old) (F.faults files.new) }
     {
         if !files.append(&self.lock, bytes)? {
             return Ok(false);
@@ -189,16 +184,14 @@ impl LockFile {
 /// Makes the folders that lead to a path, and the file of its lock. An error leaves no lock.
 fn make_lock<F: Files>(files: &mut F, path: &[u8], lock: &[u8]) -> Result<Create, FileError>
     requires { lock.now ≡ lock_of path.now }
-    ensures answer { F.honest →
-        IfOk result (MakesLock (F.means files.old).tree path.now (F.means files.new).tree) }
-    ensures failed { F.honest →
-        OnErr result (Readying (F.means files.old).tree path.now (F.means files.new).tree) }
+    ensures answer { F.honest → MatchResult result
+        (MakesLock (F.means files.old).tree path.now (F.means files.new).tree)
+        (λ _. Readying (F.means files.old).tree path.now (F.means files.new).tree) }
     ensures disk { F.honest → IfOk result
         (λ create. DiskBecomes F.means files.old files.new (λ D. after_locking D path.now create)) }
     ensures passes { F.honest → OnEveryDisk F.means files.old files.new
         (λ D. LockingOn D path.now) }
-    ensures count { F.faults files.new ≡ count_after result (F.faults files.old) }
-    ensures memory { IsErrOf result FileError.Memory → ⊥ }
+    ensures count { CountsCall result (F.faults files.old) (F.faults files.new) }
 {
     if !ready(files, path)? {
         return Ok(Create::Blocked);
@@ -233,12 +226,10 @@ impl Lock {
         files: &mut F,
         path: &[u8],
     ) -> Result<Acquire, FileError>
-        ensures answer { F.honest → IfOk result
-            (Acquires (F.means files.old).tree path.now (F.means files.new).tree) }
-
         // An error leaves no lock, and no more than a beginning of the folders that lead to it.
-        ensures failed { F.honest → OnErr result
-            (Readying (F.means files.old).tree path.now (F.means files.new).tree) }
+        ensures answer { F.honest → MatchResult result
+            (Acquires (F.means files.old).tree path.now (F.means files.new).tree)
+            (λ _. Readying (F.means files.old).tree path.now (F.means files.new).tree) }
 
         ensures leaves { F.honest → AtEveryStop F.means files.old files.new
             (λ T. Acquiring T path.now) }
@@ -272,8 +263,7 @@ impl Lock {
             (λ D. after_synced_append D (lock_of self.now) bytes.now there)) }
         ensures passes { F.honest → OnEveryDisk F.means files.old files.new
             (λ D. WritingOn D (lock_of self.now) bytes.now) }
-        ensures count { F.faults files.new ≡ count_after result (F.faults files.old) }
-        ensures memory { IsErrOf result FileError.Memory → ⊥ }
+        ensures count { CountsCall result (F.faults files.old) (F.faults files.new) }
     {
         self.file.write(files, bytes)
     }
@@ -289,9 +279,7 @@ impl Lock {
             (λ commit. DiskBecomes F.means files.old files.new (λ D. after_commit D self commit)) }
         ensures passes { F.honest → OnEveryDisk F.means files.old files.new
             (λ D. RenamingOn D (lock_of self) self) }
-        ensures back { IfErr result (λ unspent. unspent.lock ≡ self) }
-        ensures count { F.faults files.new ≡ count_unspent result (F.faults files.old) }
-        ensures memory { IfErr result (λ unspent. unspent.error ≡ FileError.Memory → ⊥) }
+        ensures back { GivesBack self result (F.faults files.old) (F.faults files.new) }
     {
         match files.rename(self.file.path(), self.file.place()) {
             Ok(Rename::Moved) => {
@@ -314,9 +302,7 @@ impl Lock {
             (λ D. after_removal D (lock_of self) removed)) }
         ensures passes { F.honest → OnEveryDisk F.means files.old files.new
             (λ D. RemovingFileOn D (lock_of self)) }
-        ensures back { IfErr result (λ unspent. unspent.lock ≡ self) }
-        ensures count { F.faults files.new ≡ count_unspent result (F.faults files.old) }
-        ensures memory { IfErr result (λ unspent. unspent.error ≡ FileError.Memory → ⊥) }
+        ensures back { GivesBack self result (F.faults files.old) (F.faults files.new) }
     {
         match files.remove_file(self.file.path()) {
             Ok(removed) => {

@@ -9,6 +9,11 @@ use Rattle.gix_ref_packed_text.specs.declared.packed.reference.Reference.{Refere
 use Rattle.gix_ref_hash.specs.declared.hash.Kind.{Kind}
 use Rattle.gix_ref_packed.specs.YetToGive.{Owes}
 use Rattle.gix_ref_packed.specs.Items.{ItemStep}
+use Rattle.gix_ref_theory.specs.Readings.{Store}
+use Rattle.gix_ref_lookup.specs.Lookups.{meaning_in}
+use Rattle.gix_ref_listing.specs.Items.{IsOfLine, IsRecordFault}
+use Rattle.gix_ref_listing.specs.declared.error.Error.TheVariants as failing
+use Rattle.gix_ref_listing.specs.declared.found.Found.{Found}
 use Rattle.gix_ref_packed.specs.declared.packed.iter.Iter.{Iter}
 use Rattle.gix_ref_packed.specs.declared.packed.iter.error.Error.{Error as LineError}
 use Rattle.gix_ref_packed.proofs.OwedRecords.{next_pays}
@@ -20,7 +25,7 @@ use Rattle.gix_ref_theory.specs.Views.{View}
 use Rattle.gix_ref_packed_text.specs.declared.raw.Reference.{Reference}
 use Rattle.gix_ref_listing.specs.GoneFiles.{IsFoundOrGone, IsTakenItem}
 use Rattle.gix_ref_listing.specs.Listings.{order_of, TakesFirst}
-use Rattle.gix_ref_listing.specs.OwedNames.{Text, AreAllGiven, OwesOthers, OwesAfter, OwesOwn, PaysOwn, IsUnderItsName, OwesNames, PaysTaken, PaysItem}
+use Rattle.gix_ref_listing.specs.OwedNames.{Text, AreAllGiven, FaultsAreIn, IsFaultIn, IsFaultOf, OwesOthers, OwesAfter, OwesOwn, PaysOwn, IsUnderItsName, OwesNames, PaysTaken, PaysItem}
 use Rattle.gix_ref_listing.specs.LooseListings.{IsFoundIn}
 use Rattle.gix_ref_listing.specs.Walks.{FoundEntry}
 use Rattle.gix_ref_listing.specs.declared.error.Error.{Error}
@@ -46,23 +51,32 @@ is_behind x r xs has = (suc has.0, omega (arith, has.1), has.2)
 module _ (settings : Settings) (text : Text) where
   -- the text ended: all was given
   pub ended : (names : List (List ℕ)) (it t : Iter) → ItemStep it None t → OwesOthers settings text names (Some it) → AreAllGiven settings text names
-  ended names it t step (given, named, owes) = λ name due.
+  ended names it t step (given, named, owes, faults) = λ name due.
       named due.of (next_pays text.kind text.bytes text.key given it t None owes step due.of due.asked) name due.own
+
+  -- the faults after a record
+  later_faults : (it t : Iter) (x : PackedReference) → ItemStep it (Some (Ok x)) t → FaultsAreIn text it → FaultsAreIn text t
+  later_faults it t x step faults items u v e gave last = faults (Ok x ∷ items) u v e (t, step, gave) last
+
+  -- the next is a fault
+  pub met : (names : List (List ℕ)) (it t : Iter) (e : LineError) → ItemStep it (Some (Err e)) t → OwesOthers settings text names (Some it) → IsFaultIn text e
+  met names it t e step (given, named, owes, faults) = faults [] it t e refl step
 
   -- a record without a name of its own was passed over
   pub passed : (names : List (List ℕ)) (it t : Iter) (x : PackedReference) → ItemStep it (Some (Ok x)) t → own_name settings (record_of x).name ≡ None → OwesOthers settings text names (Some it) → OwesOthers settings text names (Some t)
-  passed names it t x step none (given, named, owes) = (
+  passed names it t x step none (given, named, owes, faults) = (
     record_of x ∷ given,
     λ r has name own. ⊎_elim
         (λ (same : r ≡ record_of x). let bad : Some name ≡ None = sym own ∙ (ap (λ (y : Record). own_name settings y.name) same ∙ none) in absurd (cc))
         (λ (later : Contains given r). named r later name own)
         (first_or_behind (record_of x) r given has),
     next_pays text.kind text.bytes text.key given it t (Some (Ok x)) owes step,
+    later_faults it t x step faults,
   )
 
   -- a record was taken
   pub taken : (names : List (List ℕ)) (it t : Iter) (x : PackedReference) (n : List ℕ) → ItemStep it (Some (Ok x)) t → own_name settings (record_of x).name ≡ Some n → OwesOthers settings text names (Some it) → OwesOthers settings text (n ∷ names) (Some t)
-  taken names it t x n step is (given, named, owes) = (
+  taken names it t x n step is (given, named, owes, faults) = (
     record_of x ∷ given,
     λ r has name own. ⊎_elim
         (λ (same : r ≡ record_of x).
@@ -71,6 +85,7 @@ module _ (settings : Settings) (text : Text) where
         (λ (later : Contains given r). is_behind n name names (named r later name own))
         (first_or_behind (record_of x) r given has),
     next_pays text.kind text.bytes text.key given it t (Some (Ok x)) owes step,
+    later_faults it t x step faults,
   )
     where
       the_same : (a b : List ℕ) → Some a ≡ Some b → a ≡ b
@@ -82,7 +97,7 @@ module _ (settings : Settings) (text : Text) where
 
   pub others_wider : (names more : List (List ℕ)) → ((n : List ℕ) → Contains names n → Contains more n) → (records : Option Iter) → OwesOthers settings text names records → OwesOthers settings text more records
   others_wider names more wider None owes = given_wider names more wider owes
-  others_wider names more wider (Some it) (given, named, owes) = (given, λ r has name own. wider name (named r has name own), owes)
+  others_wider names more wider (Some it) (given, named, owes, faults) = (given, λ r has name own. wider name (named r has name own), owes, faults)
 
   one_wider : (x : List ℕ) (names more : List (List ℕ)) → ((n : List ℕ) → Contains names n → Contains more n) → (n : List ℕ) → Contains (x ∷ names) n → Contains (x ∷ more) n
   one_wider x names more wider n has = ⊎_elim
@@ -95,14 +110,14 @@ module _ (settings : Settings) (text : Text) where
   after_wider names more wider None records owes = given_wider names more wider owes
   after_wider names more wider (Some (Ok own)) records owes =
       others_wider (full_ref_bytes own.name ∷ names) (full_ref_bytes own.name ∷ more) (one_wider (full_ref_bytes own.name) names more wider) records owes
-  after_wider names more wider (Some (Err e)) records owes = tt
+  after_wider names more wider (Some (Err e)) records owes = owes
 
   -- the record that was read ahead was taken, and the next one is
   pub pays_first : (names : List (List ℕ)) (first : Result OwnRecord LineError) (records : Option Iter) (new : OwnRecords) →
       ((given : List (List ℕ)) → OwesOthers settings text given records → OwesOwn settings text given new) →
       OwesAfter settings text names (Some first) records → PaysOwn settings text names (Some first) new
   pays_first names (Ok own) records new loaded owes = loaded (full_ref_bytes own.name ∷ names) owes
-  pays_first names (Err e) records new loaded owes = tt
+  pays_first names (Err e) records new loaded owes = owes
 
   -- ---- with what a walk found
 
@@ -157,7 +172,7 @@ module _ (settings : Settings) (text : Text) where
   pub greater_pays : (names : List (List ℕ)) (old : Merge) (mid : OwnRecords) (item : Result OwnRecord LineError) → PaysOwn settings text names (Some item) mid → OwesNames settings text names old →
       PaysTaken settings text names (Some (taking.Packed item)) (record { found = old.found; packed = mid })
   greater_pays names old mid (Ok own) pays owes = record { found = owes.found; packed = pays }
-  greater_pays names old mid (Err error) pays owes = tt
+  greater_pays names old mid (Err error) pays owes = pays
 
   -- ---- as items
 
@@ -167,9 +182,40 @@ module _ (settings : Settings) (text : Text) where
   file_named honest view before now n path r (inr (gone, inl again)) = again.0
   file_named honest view before now n path r (inr (gone, inr packed)) = packed.2.0
 
+  -- the fault of a file or of a folder is about no line
+  no_line : (honest : Type 0) (view : View) (before now : FaultCounts) (found : Found) (error : Error) → IsFoundOrGone honest settings view before now found (Err error) → IsFaultOf text error
+  no_line honest view before now found (failing.Traversal source path) is = tt
+  no_line honest view before now found (failing.ReadFileContents source path) is = tt
+  no_line honest view before now found (failing.ReferenceCreation source path) is = tt
+  no_line honest view before now found failing.Memory is = tt
+  no_line honest view before now (File n path) (failing.PackedReference line number) (inl unread) = absurd unread
+  no_line honest view before now (File n path) (failing.PackedReference line number) (inr (gone, inl unread)) = absurd unread
+  no_line honest view before now (File n path) (failing.PackedReference line number) (inr (gone, inr (none, allowed, inl unread))) = absurd unread
+  no_line honest view before now (File n path) (failing.PackedReference line number) (inr (gone, inr (none, allowed, inr (has, gone_now)))) = absurd gone_now
+  no_line honest view before now (Unlisted path source) (failing.PackedReference line number) (inl is) = absurd (cc)
+  no_line honest view before now (Unlisted path source) (failing.PackedReference line number) (inr gone) = absurd gone
+
+  -- nor is that of a record
+  record_no_line : (s : Store) (name : List ℕ) (error : Error) → IsRecordFault s name error → IsFaultOf text error
+  record_no_line s name (failing.Traversal source path) is = tt
+  record_no_line s name (failing.ReadFileContents source path) is = tt
+  record_no_line s name (failing.ReferenceCreation source path) is = tt
+  record_no_line s name failing.Memory is = tt
+  record_no_line s name (failing.PackedReference line number) is = absurd is
+
+  -- that of a line is about it
+  of_line : (line : LineError) (error : Error) → IsFaultIn text line → IsOfLine line error → IsFaultOf text error
+  of_line line (failing.Traversal source path) at is = tt
+  of_line line (failing.ReadFileContents source path) at is = tt
+  of_line line (failing.ReferenceCreation source path) at is = tt
+  of_line line failing.Memory at is = tt
+  of_line line (failing.PackedReference bytes number) at is = (line, at, is)
+
   pub item_pays : (honest : Type 0) (view : View) (before now : FaultCounts) (names : List (List ℕ)) (taken_now : Taken) (item : Result Reference Error) (t : Merge) → IsTakenItem honest settings view before now taken_now item →
       PaysTaken settings text names (Some taken_now) t → PaysItem settings text names (Some item) t
-  item_pays honest view before now names taken_now (Err error) t is pays = tt
+  item_pays honest view before now names (taking.Walked found) (Err error) t is pays = no_line honest view before now found error is
+  item_pays honest view before now names (taking.Packed (Ok own)) (Err error) t is pays = record_no_line (meaning_in settings) (full_ref_bytes own.name) error is
+  item_pays honest view before now names (taking.Packed (Err line)) (Err error) t is pays = of_line line error pays is
   item_pays honest view before now names (taking.Walked (File n path)) (Ok r) t is pays =
       subst (λ (m : List ℕ). OwesNames settings text (m ∷ names) t) (ap full_bytes (sym (file_named honest view before now n path r is))) pays
   item_pays honest view before now names (taking.Walked (Unlisted path error)) (Ok r) t (inl found) pays = absurd found
@@ -178,8 +224,8 @@ module _ (settings : Settings) (text : Text) where
   item_pays honest view before now names (taking.Packed (Err error)) (Ok r) t is pays = absurd is
 
 -- an iterator of a key owes the records of the key, where none was given
-pub owes_all : (settings : Settings) (kind : Kind) (bytes asked key : List ℕ) → asked ≡ key → (it : Iter) → Owes kind bytes asked [] it → OwesOthers settings (record { kind = kind; bytes = bytes; key = key }) [] (Some it)
-owes_all settings kind bytes asked key same it owes = ([], λ r has name own. absurd (omega (arith, has.1)), subst (λ (k : List ℕ). Owes kind bytes k [] it) same owes)
+pub owes_all : (settings : Settings) (text : Text) (asked : List ℕ) → asked ≡ text.key → (it : Iter) → Owes text.kind text.bytes asked [] it → FaultsAreIn text it → OwesOthers settings text [] (Some it)
+owes_all settings text asked same it owes faults = ([], λ r has name own. absurd (omega (arith, has.1)), subst (λ (k : List ℕ). Owes text.kind text.bytes k [] it) same owes, faults)
 
 -- what a walk found is under its name
 pub under_names : (settings : Settings) (view : View) (prefix : List ℕ) (es : List FoundEntry) → All (IsFoundIn settings view prefix) es → All IsUnderItsName es

@@ -63,21 +63,21 @@ module _ (s : Settings) where
 
   others_to_plain : (text : Text) (names : List (List ℕ)) (records : Option Iter) → OwesOthers s text names records → OwesOthers (plain s) text names records
   others_to_plain text names None owes = given_to_plain text names owes
-  others_to_plain text names (Some it) (given, named, owes) = (given, λ r has name own. named r has name (same_name r.name ∙ own), owes)
+  others_to_plain text names (Some it) (given, named, owes, faults) = (given, λ r has name own. named r has name (same_name r.name ∙ own), owes, faults)
 
   others_of_plain : (text : Text) (names : List (List ℕ)) (records : Option Iter) → OwesOthers (plain s) text names records → OwesOthers s text names records
   others_of_plain text names None owes = given_of_plain text names owes
-  others_of_plain text names (Some it) (given, named, owes) = (given, λ r has name own. named r has name (sym (same_name r.name) ∙ own), owes)
+  others_of_plain text names (Some it) (given, named, owes, faults) = (given, λ r has name own. named r has name (sym (same_name r.name) ∙ own), owes, faults)
 
   own_to_plain : (text : Text) (names : List (List ℕ)) (first : Option (Result OwnRecord LineError)) (records : Option Iter) → OwesAfter s text names first records → OwesAfter (plain s) text names first records
   own_to_plain text names None records owes = given_to_plain text names owes
   own_to_plain text names (Some (Ok own)) records owes = others_to_plain text (full_ref_bytes own.name ∷ names) records owes
-  own_to_plain text names (Some (Err e)) records owes = tt
+  own_to_plain text names (Some (Err e)) records owes = owes
 
   own_of_plain : (text : Text) (names : List (List ℕ)) (first : Option (Result OwnRecord LineError)) (records : Option Iter) → OwesAfter (plain s) text names first records → OwesAfter s text names first records
   own_of_plain text names None records owes = given_of_plain text names owes
   own_of_plain text names (Some (Ok own)) records owes = others_of_plain text (full_ref_bytes own.name ∷ names) records owes
-  own_of_plain text names (Some (Err e)) records owes = tt
+  own_of_plain text names (Some (Err e)) records owes = owes
 
   pub owes_to_plain : (text : Text) (names : List (List ℕ)) (m : Merge) → OwesNames s text names m → OwesNames (plain s) text names m
   owes_to_plain text names m owes = record { found = owes.found; packed = own_to_plain text names m.packed.first m.packed.records owes.packed }
@@ -88,7 +88,7 @@ module _ (s : Settings) where
   pub pays_plain : (text : Text) (names : List (List ℕ)) (r : Option (Result Reference Error)) (t : Merge) → PaysItem s text names r t → PaysItem (plain s) text names r t
   pays_plain text names None t pays = given_to_plain text names pays
   pays_plain text names (Some (Ok r)) t pays = owes_to_plain text (full_bytes r.name ∷ names) t pays
-  pays_plain text names (Some (Err e)) t pays = tt
+  pays_plain text names (Some (Err e)) t pays = pays
 
   -- a record that is lent
   pub lends_plain : (old new : Merge) (result : Option OwnRecord) →

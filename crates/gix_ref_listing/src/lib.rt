@@ -27,13 +27,13 @@
 //!   records holds those of each prefix; of any `packed-refs` whose names ascend each record of the prefix is read:
 //!   `prefixed_records::open_prefixed`, clauses `holds`, `asked`, `laws::whole_buffers_hold_prefixes`
 //! - over any text whose names ascend, whatever its other lines are: each name that is due by a record of the text is given, or a
-//!   fault is: `list::merge_walked`, `list::list`, clause `owes` (`OwesNames` in `OwedNames.antt`), `item::next_item` (`pays` of
-//!   `GivesNext`)
+//!   fault is, and where the first is about a line, that line is no record, and has its number: `list::merge_walked`, `list::list`,
+//!   clause `owes` (`OwesNames`, `IsFaultIn` in `OwedNames.antt`), `item::next_item` (`pays` of `GivesNext`)
 //!
 //! Where names are composed, a file whose name on disk is not composed is listed under its composed name; that it is listed is
 //! only tested. Over a `packed-refs` that is not well formed the end of a listing is proved, that it changes nothing, that an
-//! item in which a fault of files is counted is a fault, and that it lacks no name in silence (the point before this). That its other
-//! items are right, which line a fault is about, and what comes after the first one, is tested.
+//! item in which a fault of files is counted is a fault, that it lacks no name in silence, and which line its first fault is about (the
+//! point before this). That its other items are right, and what comes after the first fault, is tested.
 #![tactic(auto)]
 
 pub mod error;

@@ -45,8 +45,8 @@ fn remove_files<F: Files>(files: &mut F, paths: &[Vec<u8>]) -> Result<(), Stoppe
         (EndsAt paths.now (F.means files.old).tree (F.means files.new).tree) }
     ensures leaves { F.honest → AtEveryStop F.means files.old files.new
         (IsPartlyWithout paths.now) }
-    ensures place { IfErr result (λ stopped. stopped.at < length paths.now) }
-    ensures failed { IfErr result (λ stopped. (stopped.source ≢ Memory)
+    ensures failed { IfErr result (λ stopped. (stopped.at < length paths.now)
+        × (stopped.source ≢ Memory)
         × IsMet stopped.source (F.faults files.old) (F.faults files.new)) }
     ensures no_fewer { NoFewer (F.faults files.old) (F.faults files.new) }
 {

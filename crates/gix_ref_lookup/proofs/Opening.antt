@@ -166,7 +166,3 @@ none_or_some (Some x) none some holds = some x holds
 pub some_of : {X : Type 0} (N : Type 0) {P Q : X → Type 0} (r : Option X) → ((x : X) → P x → Q x) → MatchOption r N P → IfSome r Q
 some_of N None wider holds = tt
 some_of N (Some x) wider holds = wider x holds
-
-pub if_some : {X : Type 0} {P Q : X → Type 0} (r : Option X) → ((x : X) → P x → Q x) → IfSome r P → IfSome r Q
-if_some None wider holds = holds
-if_some (Some x) wider holds = wider x holds

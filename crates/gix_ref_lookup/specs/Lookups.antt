@@ -167,12 +167,6 @@ module _ (settings : Settings) (files : Meaning) where
         IsSearchedWith old kind text
     pub none : SearchesNone None new → SearchesNone (packed_refs_in settings files) old
 
-  -- the text that is searched in records that are open is that of `packed-refs`
-  abbrev pub SearchesOpened : {R : Type 0} {G : Ghosts R} → Records R G → Type 0
-  SearchesOpened asked = (kind : Kind) (text : List ℕ) →
-      IsSearched settings.kind None asked kind text →
-      IsOpenedText settings.kind (packed_refs_in settings files) kind text
-
 -- the error of a lookup where opening has this one
 abbrev pub of_opening : OpenError → Error
 of_opening open_memory = Memory

@@ -1,2 +1,3 @@
+pub mod Edits
 pub mod Listing
 pub mod Power

@@ -50,14 +50,14 @@ impl fmt::Debug for Memory {
 }
 
 impl Memory {
-    ghost use Rattle.std.specs.Prelude.{◌+◌, ◌<◌, ◌-◌, ◌^◌, Some, OnOk, OnErr, IfOk, IfSome, IfNone, false, if◌then◌else◌, min};
+    ghost use Rattle.std.specs.Prelude.{◌+◌, ◌<◌, ◌-◌, ◌^◌, Some, OnOk, IfOk, IfSome, IfNone, false, if◌then◌else◌, min};
     ghost use Rattle.gix_ref_files.specs.Tree.{is_file};
     ghost use Rattle.gix_ref_files.specs.Tree.Content.{File};
     ghost use Rattle.gix_ref_files.specs.Disk.{Lost};
-    ghost use Rattle.gix_ref_files.specs.Losing.{lost_by, all_synced};
+    ghost use Rattle.gix_ref_files.specs.Losing.{lost_by};
     ghost use Rattle.gix_ref_files.specs.Files.{disk_of, no_faults};
     ghost use Rattle.gix_ref_memory.specs.Changes.{Puts, placed_on};
-    ghost use Rattle.gix_ref_memory.specs.Memory.{meaning, past_of, tree_in, calls_of, faults_of, plan_of, KeepsFiles};
+    ghost use Rattle.gix_ref_memory.specs.Memory.{meaning, tree_in, calls_of, faults_of, plan_of, KeepsFiles, KeepsCounts, FailsOnlyForMemory, IsStartedAgain};
     ghost use Rattle.gix_ref_memory.specs.declared.memory.turns.Plan.TheVariants.{Runs, FailsAt, StopsAt};
 
     /// An empty tree, of which no call fails. The allocator is kept for the tree and its record.
@@ -99,10 +99,8 @@ impl Memory {
             (Puts (tree_in self.old) path.now bytes.now (tree_in self.new)) }
         ensures disk { IfOk result (λ put. disk_of (meaning self.new) ≡ (if put then placed_on
             (disk_of (meaning self.old)) path.now bytes.now else disk_of (meaning self.old))) }
-        ensures memory { OnErr result (result ≡ Err FileError.Memory) }
-        ensures failed { OnErr result (past_of self.new ≡ past_of self.old) }
-        ensures calls { calls_of self.new ≡ calls_of self.old }
-        ensures faults { faults_of self.new ≡ faults_of self.old }
+        ensures failed { FailsOnlyForMemory self.old self.new result }
+        ensures counts { KeepsCounts self.old self.new }
         ensures plan { plan_of self.new ≡ plan_of self.old }
     {
         match put_now(self.alloc, &mut self.changes, path, bytes) {
@@ -177,12 +175,9 @@ impl Memory {
         ensures lost { OnOk result (Lost (disk_of (meaning self.old)) (tree_in self.new)) }
         ensures none { pick ≡ 0 → OnOk result
             (tree_in self.new ≡ lost_by (λ p. false) (λ p. false) (disk_of (meaning self.old))) }
-        ensures settled { OnOk result (disk_of (meaning self.new) ≡ all_synced (tree_in self.new)) }
-        ensures plan { OnOk result (plan_of self.new ≡ Runs) }
-        ensures memory { OnErr result (result ≡ Err FileError.Memory) }
-        ensures failed { OnErr result (past_of self.new ≡ past_of self.old) }
-        ensures calls { calls_of self.new ≡ calls_of self.old }
-        ensures faults { faults_of self.new ≡ faults_of self.old }
+        ensures started { OnOk result (IsStartedAgain self.new) }
+        ensures failed { FailsOnlyForMemory self.old self.new result }
+        ensures counts { KeepsCounts self.old self.new }
     {
         match left_by_loss(self.alloc, &self.changes, pick) {
             Ok(left) => {
@@ -208,17 +203,17 @@ impl Memory {
 }
 
 impl Files for Memory {
-    ghost use Rattle.std.specs.Prelude.{take, false, true, IfOk, OnOk, OnErr, IfSome, IsErrOf};
-    ghost use Rattle.gix_ref_files.specs.Tree.{node_at, bytes_of, is_file, appended, moved, removed, is_folder, folders_to, with_folders, IsEmptyFolder};
-    ghost use Rattle.gix_ref_files.specs.Files.{disk_of, Leaves, Adds, Passes, AddsDisks, count_after, no_faults};
+    ghost use Rattle.std.specs.Prelude.{take, false, true, IfOk, IfSome, MatchResult};
+    ghost use Rattle.gix_ref_files.specs.Tree.{node_at, is_file, appended, moved, removed, is_folder, folders_to, with_folders, IsEmptyFolder};
+    ghost use Rattle.gix_ref_files.specs.Files.{disk_of, Leaves, Passes};
     ghost use Rattle.gix_ref_files.specs.Disk.{file_synced, folder_synced};
     ghost use Rattle.gix_ref_files.specs.DiskCalls.{Untouched, after_create, CreatingOn, after_folders, MakingFoldersOn, after_append, AppendingOn, after_rename, RenamingOn, after_removal, RemovingFileOn, RemovingFolderOn, Syncs, SyncingOn};
-    ghost use Rattle.gix_ref_files.specs.Calls.{Unchanged, emptied, Opens, Creates, Creating, MakesFolders, MakingFolders, is_in_the_way, Appends, Appending, Renames, Renaming, IsMovable, RemovesFile, RemovingFile, RemovesFolder, RemovingFolder, Lists};
+    ghost use Rattle.gix_ref_files.specs.Calls.{Unchanged, Reads, emptied, Opens, Creates, Creating, MakesFolders, MakingFolders, is_in_the_way, Appends, Appending, Renames, Renaming, IsMovable, RemovesFile, RemovingFile, RemovesFolder, RemovingFolder, Lists};
     ghost use Rattle.gix_ref_memory.specs.Laws.{tree_is_left, only_tree, disk_is_found, only_disk};
-    ghost use Rattle.gix_ref_memory.specs.Turns.{KeepsTurn, NeverFails, LacksMemory, CannotGrow, CannotCreate, CannotRename, AsBefore, InOneStep, IsDone};
-    ghost use Rattle.gix_ref_memory.specs.Memory.{meaning, tree_in, faults_of, next_turn, Counts};
-    ghost use Rattle.gix_ref_memory.specs.Reader.{reader_bytes, reader_calls, reader_faults, reader_plan};
-    ghost use Rattle.gix_ref_memory.specs.Memory.{calls_of, plan_of};
+    ghost use Rattle.gix_ref_memory.specs.Turns.{NeverFails, CannotGrow, CannotCreate, CannotRename, AsBefore, InOneStep, IsDone};
+    ghost use Rattle.gix_ref_memory.specs.Memory.{meaning, tree_in, faults_of, TakesTurn, TakesTurnToCopy};
+    ghost use Rattle.gix_ref_memory.specs.Calls.{LeavesEach, PassesEach};
+    ghost use Rattle.gix_ref_memory.specs.Reader.{reader_bytes, IsJustOpened};
 
     type Reader = MemoryReader;
 
@@ -244,11 +239,8 @@ impl Files for Memory {
             (Unchanged (tree_in self.old)) }
         ensures passes { Passes (meaning self.old) (meaning self.new)
             (Untouched (disk_of (meaning self.old))) }
-        ensures count { faults_of self.new ≡ count_after result (faults_of self.old) }
-        ensures memory { IsErrOf result FileError.Memory → ⊥ }
-        ensures turn { KeepsTurn NeverFails NeverFails (next_turn self.old) result
-            (tree_in self.old) (tree_in self.new) (AsBefore (tree_in self.old)) }
-        ensures counts { Counts self.old self.new }
+        ensures turn { TakesTurn NeverFails NeverFails (AsBefore (tree_in self.old))
+            self.old self.new result }
     {
         if self.turns.next() != Turn::Go {
             return Err(self.turns.fault(ErrorKind::Other));
@@ -262,18 +254,13 @@ impl Files for Memory {
     }
 
     fn read(&mut self, _alloc: Global, path: &[u8], buf: &mut Vec<u8>) -> Result<Node, FileError>
-        ensures answer { IfOk result (λ node. node ≡ node_at (tree_in self.old) path.now) }
-        ensures bytes { IfOk result (λ node. node ≡ Node.File →
-            buf.new.items ≡ bytes_of (tree_in self.old path.now)) }
+        ensures answer { IfOk result (Reads (tree_in self.old) path.now buf.new.items) }
         ensures emptied { emptied result buf.new.items }
         ensures leaves { Leaves (meaning self.old) (meaning self.new)
             (Unchanged (tree_in self.old)) }
         ensures passes { Passes (meaning self.old) (meaning self.new)
             (Untouched (disk_of (meaning self.old))) }
-        ensures count { faults_of self.new ≡ count_after result (faults_of self.old) }
-        ensures turn { KeepsTurn LacksMemory NeverFails (next_turn self.old) result
-            (tree_in self.old) (tree_in self.new) (AsBefore (tree_in self.old)) }
-        ensures counts { Counts self.old self.new }
+        ensures turn { TakesTurnToCopy self.old self.new result }
     {
         buf.clear();
         if self.turns.next() != Turn::Go {
@@ -297,17 +284,8 @@ impl Files for Memory {
             (Unchanged (tree_in self.old)) }
         ensures passes { Passes (meaning self.old) (meaning self.new)
             (Untouched (disk_of (meaning self.old))) }
-        ensures count { faults_of self.new ≡ count_after result (faults_of self.old) }
-        ensures turn { KeepsTurn LacksMemory NeverFails (next_turn self.old) result
-            (tree_in self.old) (tree_in self.new) (AsBefore (tree_in self.old)) }
-        ensures counts { Counts self.old self.new }
-        // The reader counts its calls on from the call that opened it, by the same plan.
-        ensures reader_calls { IfOk result
-            (λ reader. IfSome reader (λ reader. reader_calls reader ≡ calls_of self.new)) }
-        ensures reader_plan { IfOk result
-            (λ reader. IfSome reader (λ reader. reader_plan reader ≡ plan_of self.new)) }
-        ensures reader_faults { IfOk result
-            (λ reader. IfSome reader (λ reader. reader_faults reader ≡ no_faults)) }
+        ensures turn { TakesTurnToCopy self.old self.new result }
+        ensures opened { IfOk result (λ reader. IfSome reader (IsJustOpened self.new)) }
     {
         if self.turns.next() != Turn::Go {
             return Err(self.turns.fault(ErrorKind::Other));
@@ -331,10 +309,7 @@ impl Files for Memory {
             (Unchanged (tree_in self.old)) }
         ensures passes { Passes (meaning self.old) (meaning self.new)
             (Untouched (disk_of (meaning self.old))) }
-        ensures count { faults_of self.new ≡ count_after result (faults_of self.old) }
-        ensures turn { KeepsTurn LacksMemory NeverFails (next_turn self.old) result
-            (tree_in self.old) (tree_in self.new) (AsBefore (tree_in self.old)) }
-        ensures counts { Counts self.old self.new }
+        ensures turn { TakesTurnToCopy self.old self.new result }
     {
         if self.turns.next() != Turn::Go {
             return Err(self.turns.fault(ErrorKind::Other));
@@ -349,20 +324,17 @@ impl Files for Memory {
     }
 
     fn create_new(&mut self, path: &[u8]) -> Result<Create, FileError>
-        ensures answer { IfOk result (Creates (tree_in self.old) path.now (tree_in self.new)) }
-        ensures failed { OnErr result (tree_in self.new ≡ tree_in self.old) }
+        ensures answer { MatchResult result
+            (Creates (tree_in self.old) path.now (tree_in self.new))
+            (λ error. tree_in self.new ≡ tree_in self.old) }
         ensures leaves { Leaves (meaning self.old) (meaning self.new)
             (Creating (tree_in self.old) path.now) }
         ensures disk { IfOk result (λ create. disk_of (meaning self.new)
             ≡ after_create (disk_of (meaning self.old)) path.now create) }
         ensures passes { Passes (meaning self.old) (meaning self.new)
             (CreatingOn (disk_of (meaning self.old)) path.now) }
-        ensures count { faults_of self.new ≡ count_after result (faults_of self.old) }
-        ensures memory { IsErrOf result FileError.Memory → ⊥ }
-        ensures turn { KeepsTurn (CannotCreate (tree_in self.old) path.now) NeverFails
-            (next_turn self.old) result (tree_in self.old) (tree_in self.new)
-            (AsBefore (tree_in self.old)) }
-        ensures counts { Counts self.old self.new }
+        ensures turn { TakesTurn (CannotCreate (tree_in self.old) path.now) NeverFails
+            (AsBefore (tree_in self.old)) self.old self.new result }
     {
         if self.turns.next() != Turn::Go {
             return Err(self.turns.fault(ErrorKind::Other));
@@ -376,23 +348,16 @@ impl Files for Memory {
 
     fn make_folders(&mut self, path: &[u8]) -> Result<bool, FileError>
         ensures answer { IfOk result (MakesFolders (tree_in self.old) path.now (tree_in self.new)) }
-        ensures leaves { Leaves (meaning self.old) (meaning self.new)
-            (MakingFolders (tree_in self.old) path.now) }
-        ensures adds { OnOk result (Adds (meaning self.old) (meaning self.new)
-            (MakingFolders (tree_in self.old) path.now)) }
+        ensures leaves { LeavesEach (meaning self.old) (meaning self.new)
+            (MakingFolders (tree_in self.old) path.now) result }
         ensures disk { IfOk result (λ made. disk_of (meaning self.new)
             ≡ after_folders (disk_of (meaning self.old)) path.now made) }
-        ensures passes { Passes (meaning self.old) (meaning self.new)
-            (MakingFoldersOn (disk_of (meaning self.old)) path.now) }
-        ensures adds_disks { OnOk result (AddsDisks (meaning self.old) (meaning self.new)
-            (MakingFoldersOn (disk_of (meaning self.old)) path.now)) }
-        ensures count { faults_of self.new ≡ count_after result (faults_of self.old) }
-        ensures memory { IsErrOf result FileError.Memory → ⊥ }
-        ensures turn { KeepsTurn CannotGrow CannotGrow (next_turn self.old) result
-            (tree_in self.old) (tree_in self.new)
-            (λ n T. IsDone (tree_in self.old) (is_in_the_way (tree_in self.old) path.now ≡ false)
-            (with_folders (tree_in self.old) (take n (folders_to path.now))) T) }
-        ensures counts { Counts self.old self.new }
+        ensures passes { PassesEach (meaning self.old) (meaning self.new)
+            (MakingFoldersOn (disk_of (meaning self.old)) path.now) result }
+        ensures turn { TakesTurn CannotGrow CannotGrow
+            (λ n. IsDone (tree_in self.old) (is_in_the_way (tree_in self.old) path.now ≡ false)
+            (with_folders (tree_in self.old) (take n (folders_to path.now))))
+            self.old self.new result }
     {
         match self.turns.next() {
             Turn::Go => match make_folders_now(self.alloc, &mut self.changes, path) {
@@ -410,22 +375,15 @@ impl Files for Memory {
     fn append(&mut self, path: &[u8], bytes: &[u8]) -> Result<bool, FileError>
         ensures answer { IfOk result
             (Appends (tree_in self.old) path.now bytes.now (tree_in self.new)) }
-        ensures leaves { Leaves (meaning self.old) (meaning self.new)
-            (Appending (tree_in self.old) path.now bytes.now) }
-        ensures adds { OnOk result (Adds (meaning self.old) (meaning self.new)
-            (Appending (tree_in self.old) path.now bytes.now)) }
+        ensures leaves { LeavesEach (meaning self.old) (meaning self.new)
+            (Appending (tree_in self.old) path.now bytes.now) result }
         ensures disk { IfOk result (λ there. disk_of (meaning self.new)
             ≡ after_append (disk_of (meaning self.old)) path.now bytes.now there) }
-        ensures passes { Passes (meaning self.old) (meaning self.new)
-            (AppendingOn (disk_of (meaning self.old)) path.now bytes.now) }
-        ensures adds_disks { OnOk result (AddsDisks (meaning self.old) (meaning self.new)
-            (AppendingOn (disk_of (meaning self.old)) path.now bytes.now)) }
-        ensures count { faults_of self.new ≡ count_after result (faults_of self.old) }
-        ensures memory { IsErrOf result FileError.Memory → ⊥ }
-        ensures turn { KeepsTurn CannotGrow CannotGrow (next_turn self.old) result
-            (tree_in self.old) (tree_in self.new)
-            (λ n T. T ≡ appended (tree_in self.old) path.now (take n bytes.now)) }
-        ensures counts { Counts self.old self.new }
+        ensures passes { PassesEach (meaning self.old) (meaning self.new)
+            (AppendingOn (disk_of (meaning self.old)) path.now bytes.now) result }
+        ensures turn { TakesTurn CannotGrow CannotGrow
+            (λ n T. T ≡ appended (tree_in self.old) path.now (take n bytes.now))
+            self.old self.new result }
     {
         match self.turns.next() {
             Turn::Go => match append_now(self.alloc, &mut self.changes, path, bytes) {
@@ -449,13 +407,9 @@ impl Files for Memory {
             ≡ after_rename (disk_of (meaning self.old)) from.now to.now rename) }
         ensures passes { Passes (meaning self.old) (meaning self.new)
             (RenamingOn (disk_of (meaning self.old)) from.now to.now) }
-        ensures count { faults_of self.new ≡ count_after result (faults_of self.old) }
-        ensures memory { IsErrOf result FileError.Memory → ⊥ }
-        ensures turn { KeepsTurn (CannotRename (tree_in self.old) from.now to.now) CannotGrow
-            (next_turn self.old) result (tree_in self.old) (tree_in self.new)
+        ensures turn { TakesTurn (CannotRename (tree_in self.old) from.now to.now) CannotGrow
             (InOneStep (tree_in self.old) (IsMovable (tree_in self.old) from.now to.now)
-            (moved (tree_in self.old) from.now to.now)) }
-        ensures counts { Counts self.old self.new }
+            (moved (tree_in self.old) from.now to.now)) self.old self.new result }
     {
         match self.turns.next() {
             Turn::Go => match rename_now(self.alloc, &mut self.changes, from, to) {
@@ -479,12 +433,9 @@ impl Files for Memory {
             ≡ after_removal (disk_of (meaning self.old)) path.now removed) }
         ensures passes { Passes (meaning self.old) (meaning self.new)
             (RemovingFileOn (disk_of (meaning self.old)) path.now) }
-        ensures count { faults_of self.new ≡ count_after result (faults_of self.old) }
-        ensures memory { IsErrOf result FileError.Memory → ⊥ }
-        ensures turn { KeepsTurn CannotGrow CannotGrow (next_turn self.old) result
-            (tree_in self.old) (tree_in self.new) (InOneStep (tree_in self.old)
-            (is_file (tree_in self.old path.now) ≡ true) (removed (tree_in self.old) path.now)) }
-        ensures counts { Counts self.old self.new }
+        ensures turn { TakesTurn CannotGrow CannotGrow (InOneStep (tree_in self.old)
+            (is_file (tree_in self.old path.now) ≡ true) (removed (tree_in self.old) path.now))
+            self.old self.new result }
     {
         match self.turns.next() {
             Turn::Go => match remove_file_now(self.alloc, &mut self.changes, path) {
@@ -508,12 +459,9 @@ impl Files for Memory {
             ≡ after_removal (disk_of (meaning self.old)) path.now removed) }
         ensures passes { Passes (meaning self.old) (meaning self.new)
             (RemovingFolderOn (disk_of (meaning self.old)) path.now) }
-        ensures count { faults_of self.new ≡ count_after result (faults_of self.old) }
-        ensures memory { IsErrOf result FileError.Memory → ⊥ }
-        ensures turn { KeepsTurn CannotGrow CannotGrow (next_turn self.old) result
-            (tree_in self.old) (tree_in self.new) (InOneStep (tree_in self.old)
-            (IsEmptyFolder (tree_in self.old) path.now) (removed (tree_in self.old) path.now)) }
-        ensures counts { Counts self.old self.new }
+        ensures turn { TakesTurn CannotGrow CannotGrow (InOneStep (tree_in self.old)
+            (IsEmptyFolder (tree_in self.old) path.now) (removed (tree_in self.old) path.now))
+            self.old self.new result }
     {
         match self.turns.next() {
             Turn::Go => match remove_folder_now(self.alloc, &mut self.changes, path) {
@@ -537,11 +485,8 @@ impl Files for Memory {
         ensures passes { Passes (meaning self.old) (meaning self.new)
             (SyncingOn (is_file (tree_in self.old path.now)) (disk_of (meaning self.old))
             (file_synced (disk_of (meaning self.old)) path.now)) }
-        ensures count { faults_of self.new ≡ count_after result (faults_of self.old) }
-        ensures memory { IsErrOf result FileError.Memory → ⊥ }
-        ensures turn { KeepsTurn CannotGrow NeverFails (next_turn self.old) result
-            (tree_in self.old) (tree_in self.new) (AsBefore (tree_in self.old)) }
-        ensures counts { Counts self.old self.new }
+        ensures turn { TakesTurn CannotGrow NeverFails (AsBefore (tree_in self.old))
+            self.old self.new result }
     {
         if self.turns.next() != Turn::Go {
             return Err(self.turns.fault(ErrorKind::Other));
@@ -561,11 +506,8 @@ impl Files for Memory {
         ensures passes { Passes (meaning self.old) (meaning self.new)
             (SyncingOn (is_folder (tree_in self.old path.now)) (disk_of (meaning self.old))
             (folder_synced (disk_of (meaning self.old)) path.now)) }
-        ensures count { faults_of self.new ≡ count_after result (faults_of self.old) }
-        ensures memory { IsErrOf result FileError.Memory → ⊥ }
-        ensures turn { KeepsTurn CannotGrow NeverFails (next_turn self.old) result
-            (tree_in self.old) (tree_in self.new) (AsBefore (tree_in self.old)) }
-        ensures counts { Counts self.old self.new }
+        ensures turn { TakesTurn CannotGrow NeverFails (AsBefore (tree_in self.old))
+            self.old self.new result }
     {
         if self.turns.next() != Turn::Go {
             return Err(self.turns.fault(ErrorKind::Other));

@@ -33,6 +33,12 @@ transaction_kind t = t.kind
 abbrev pub changes_of : Transaction → List ChangeValue
 changes_of t = change_values t.changes.items
 
+-- it has the same records, lock and kind of ids as before
+pub record IsForSameFile (before now : Transaction) : Type 0 where
+  pub records : records_of now ≡ records_of before
+  pub place : transaction_place now ≡ transaction_place before
+  pub kind : transaction_kind now ≡ transaction_kind before
+
 -- what becomes of the file by the changes: of no records, where there is none; else of these, where it holds them in the order of
 -- their names
 abbrev pub IsMadeOf : Kind → Option Buffer → List ChangeValue → Rewrite → Type 0

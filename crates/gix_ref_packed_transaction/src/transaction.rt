@@ -83,7 +83,7 @@ impl Transaction {
     ghost use Rattle.gix_ref_transaction.specs.declared.prepare.packed.Error.TheVariants.{Memory as no_memory};
     ghost use Rattle.gix_ref_packed_transaction.specs.RecordChanges.{AreSortedChangesOf, IsFirstNotTaken};
     ghost use Rattle.gix_ref_packed_transaction.specs.PackedLosses.{IsLostBy, IsReadyOn, OnlyLockIsLost, SettlesPackedRefs};
-    ghost use Rattle.gix_ref_packed_transaction.specs.PackedTransactions.{records_of, transaction_place, transaction_kind, changes_of, CommitsBy, IsBeforeOrCommitted, LockIsGoneOrNamed, IsLockEmpty, IsReadBuffer, IsUnbegun, SaysWhyPacked};
+    ghost use Rattle.gix_ref_packed_transaction.specs.PackedTransactions.{IsForSameFile, records_of, transaction_place, transaction_kind, changes_of, CommitsBy, IsBeforeOrCommitted, LockIsGoneOrNamed, IsLockEmpty, IsReadBuffer, IsUnbegun, SaysWhyPacked};
 
     /// A transaction of the file whose lock is held, and whose records these are: `None` where there is no such file. The ids of the file
     /// are of the kind. Not public in gix-ref.
@@ -136,9 +136,7 @@ impl Transaction {
             (T.meaning objects.now) (transaction_kind self.old) edits.now (changes_of self.new)) }
         ensures readable { All (λ edit. IsFullName (name_of edit)) edits.now → OnOk result
             (AreReadable (transaction_kind self.old) (changes_of self.new)) }
-        ensures records { records_of self.new ≡ records_of self.old }
-        ensures place { transaction_place self.new ≡ transaction_place self.old }
-        ensures kind { transaction_kind self.new ≡ transaction_kind self.old }
+        ensures same_file { IsForSameFile self.old self.new }
         ensures kept { OnErr result (self.new ≡ self.old) }
         ensures refused { T.claims objects.now → IfErr result
             (λ error. (error ≡ no_memory) ⊎ IsFirstNotTaken (transaction_kind self.old)

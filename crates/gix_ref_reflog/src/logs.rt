@@ -5,7 +5,7 @@ ghost use Rattle.gix_ref_files.specs.Tree.{fronts, Path};
 ghost use Rattle.gix_ref_reflog.specs.internal.SeenLogs.{due_paths, last_path, IsBounded};
 ghost use Rattle.gix_ref_transaction.specs.OwnLocks.{is_in};
 
-use std::alloc::{AllocFailed, Global};
+use std::alloc::{AllocError, Global};
 use std::collections::HashSet;
 
 /// The logs that have a line due, by their paths.
@@ -50,7 +50,7 @@ impl DueLogs {
     }
 
     /// Adds the log at this path.
-    pub fn insert(&mut self, path: Vec<u8>) -> Result<(), AllocFailed<Vec<u8>>>
+    pub fn insert(&mut self, path: Vec<u8>) -> Result<(), AllocError>
         ensures added { OnOk result ((q : Path) → is_in (due_paths self.new) q
             ≡ (bytes_eq path.items q || is_in (due_paths self.old) q)) }
         ensures bounded { IsBounded self.old → OnOk result (IsBounded self.new) }

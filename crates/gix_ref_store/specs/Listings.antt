@@ -1,5 +1,5 @@
 -- What a listing of a store gives (`git for-each-ref`).
-use Rattle.std.specs.Prelude.{◌≡◌, ◌⊎◌, ℕ, List, [], ◌∷◌, Option, Some, None, Result, Ok, Err, IfOk, codes}
+use Rattle.std.specs.Prelude.{◌≡◌, ◌⊎◌, ℕ, List, [], ◌∷◌, Option, Some, None, Result, Ok, Err, IfOk, MatchResult, codes}
 use denote.Ref.{Bor}
 use Rattle.std.specs.Iterator.{Yields}
 use Rattle.std.specs.List.{AllByRecursion}
@@ -12,10 +12,10 @@ use Rattle.gix_ref_packed.specs.Buffers.{count_open}
 use Rattle.gix_ref_packed.specs.OpenFiles.{CountsRefusal}
 use Rattle.gix_ref_packed.specs.declared.packed.buffer.Buffer.{Buffer}
 use Rattle.gix_ref_packed_text.specs.declared.raw.Reference.{Reference}
-use Rattle.gix_ref_listing.specs.CleanPrefixes.{IsRefusedPrefix}
+use Rattle.gix_ref_listing.specs.CleanPrefixes.{IsAcceptedPrefix, IsRefusedPrefix}
 use Rattle.gix_ref_listing.specs.Items.{IsItem, IsOfRecord}
 use Rattle.gix_ref_listing.specs.Listings.{Listed, IsNotLent, merge_left}
-use Rattle.gix_ref_listing.specs.OwedNames.{Text, IsDue, IsTextFor}
+use Rattle.gix_ref_listing.specs.OwedNames.{Text, IsDue, IsFaultOf, IsTextFor}
 use Rattle.gix_ref_listing.specs.OwnRecords.{own_of}
 use Rattle.gix_ref_listing.specs.PrefixedRecords.{IsHeldFor}
 use Rattle.gix_ref_listing.specs.PseudoListings.{IsPseudoListing}
@@ -64,6 +64,11 @@ IsReference (Err error) = ⊥
 abbrev pub IsNamed : List ℕ → Result Reference Error → Type 0
 IsNamed name (Ok r) = full_bytes r.name ≡ name
 IsNamed name (Err error) = ⊥
+
+-- a prefix that has a listing is taken; the error says why one has none, or that there was no memory
+abbrev pub JudgesPrefix : {T : Type 0} → Option Namespace → List ℕ → Result T ListError → Type 0
+JudgesPrefix namespace prefix result = MatchResult result (λ _. IsAcceptedPrefix namespace prefix)
+    (λ error. (error ≡ Memory) ⊎ IsRefusedPrefix namespace prefix error)
 
 module _ {F : Type 0} where
   -- how many items are yet to come at most
@@ -163,15 +168,33 @@ module _ {F : Type 0} where
         AllByRecursion IsReference items → (name : List ℕ) → IsDue settings text name →
         Among (IsNamed name) items
 
-    -- And so of the `packed-refs` of a store, of which a text is kept, where its names ascend; or there is no such file.
+    -- Where they then give the fault of a line, it is about a line of the text that is no record.
+    abbrev pub TellsLine : Text → LooseThenPacked F Remaining → Type 0
+    TellsLine text it = (items : List (Result Reference Error)) (t u : LooseThenPacked F Remaining)
+        (error : Error) → Yields (NextItem) it items t → NextItem t (Some (Err error)) u →
+        AllByRecursion IsReference items → IsFaultOf text error
+
+    -- It lacks no name that is due by the text, or its first fault is about a line of it.
+    pub record FollowsText (settings : Settings) (text : Text)
+        (it : LooseThenPacked F Remaining) : Type 0 where
+      pub lacks_none : LacksNone settings text it
+      pub first_fault : TellsLine text it
+
+    -- And no name is lacking of the `packed-refs` of a store, of which a text is kept, where its names ascend; or there is no such
+    -- file.
     abbrev pub LacksNoneIn : (store : Store F) → (prefix : List ℕ) →
         LooseThenPacked F Remaining → Type 0
     LacksNoneIn store prefix it =
         let kind = stores.kind_of store in
         let file = packed_refs_in (settings_of store) (means (stores.files_of store)) in
-        (file ≡ None) ⊎ ((bytes : List ℕ) × IsOpenedText kind file kind bytes
+        (file ≡ None) ⊎ ((bytes : List ℕ) × (opened : IsOpenedText kind file kind bytes)
         × (NamesAscend kind bytes → LacksNone (settings_of store)
-        (record { kind = kind; bytes = bytes; key = key_in (settings_of store) prefix }) it))
+        (record {
+          kind = kind;
+          bytes = bytes;
+          line = opened.2;
+          key = key_in (settings_of store) prefix;
+        }) it))
 
     -- An iterator over the listing of a prefix of a store: whatever its calls give are the first items of the listing. A folder
     -- that could not be listed is among them only with a fault that was counted.
@@ -197,12 +220,12 @@ module _ {F : Type 0} where
     ListsHeld store prefix packed result = (records : List Record) →
         AreHeldFor store prefix packed records → IfOk result (IteratesListing store records prefix)
 
-    -- which lacks none that is due by its text
-    abbrev pub LacksNoneHeld : (store : Store F) → (prefix : List ℕ) → Option (Bor Buffer) →
+    -- which follows its text
+    abbrev pub FollowsHeld : (store : Store F) → (prefix : List ℕ) → Option (Bor Buffer) →
         Result (LooseThenPacked F Remaining) ListError → Type 0
-    LacksNoneHeld store prefix packed result = (text : Text) →
+    FollowsHeld store prefix packed result = (text : Text) →
         IsTextFor (key_in (settings_of store) prefix) packed text →
-        IfOk result (LacksNone (settings_of store) text)
+        IfOk result (FollowsText (settings_of store) text)
 
     -- and so over the listing of its pseudo references
     pub record IteratesPseudo (store : Store F) (it : LooseThenPacked F Remaining) : Type 0 where
@@ -240,10 +263,10 @@ module _ {F : Type 0} (honest : Type 0) (means : F → Meaning) (faults : F → 
       IsWalkedIn start now names → AreHeldFor now (walked_prefix names) packed records →
       IfOk result (IteratesListing honest means faults start records (walked_prefix names))
 
-  -- which lacks none that is due by its text
-  abbrev pub LacksNoneWalked : (now : Store F) → LooseNames → Option (Bor Buffer) →
+  -- which follows its text
+  abbrev pub FollowsWalked : (now : Store F) → LooseNames → Option (Bor Buffer) →
       Result (LooseThenPacked F Remaining) ListError → Type 0
-  LacksNoneWalked now names packed result = (start : Store F) (text : Text) →
+  FollowsWalked now names packed result = (start : Store F) (text : Text) →
       IsWalkedIn start now names →
       IsTextFor (key_in (settings_of now) (walked_prefix names)) packed text →
-      IfOk result (LacksNone honest means faults (settings_of now) text)
+      IfOk result (FollowsText honest means faults (settings_of now) text)

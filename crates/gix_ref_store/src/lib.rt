@@ -34,16 +34,17 @@
 //! - the same of what a walk found earlier, in the store as it was then, of which only the count of faults has changed; no file
 //!   is called for it: `walk_prefixed`, clause `walks` (`IsWalkedIn` in `Listings.antt`), `iter_walked`, clauses `lists`, `same`
 //! - over any `packed-refs` whose names ascend, whatever its other lines are: where a listing gives no fault, each name that is
-//!   due by a record is among its references: `iter_packed`, `iter_prefixed_packed`, `iter_walked`, `file::iter::Platform::all`,
-//!   `prefixed`, clause `complete` (`LacksNone`, `LacksNoneIn` in `Listings.antt`; `IsDue` in
-//!   `gix_ref_listing/specs/OwedNames.antt`)
+//!   due by a record is among its references; and where its first fault is about a line of a buffer that is given, that line is no
+//!   record, and has its number: `iter_packed`, `iter_prefixed_packed`, `iter_walked` and, without the fault,
+//!   `file::iter::Platform::all`, `prefixed`, clause `complete` (`FollowsText`, `LacksNoneIn` in `Listings.antt`; `IsDue`,
+//!   `IsFaultIn` in `gix_ref_listing/specs/OwedNames.antt`)
 //! - a record that is lent is the next item, as `next` gives it; none is lent only where no record comes next or the store
 //!   prohibits device names, and then nothing is taken: `file::iter::LooseThenPacked::next_record`, clauses `lends` (`LendsNext`
 //!   in `Listings.antt`), `none`, `stays`
 //! - the same of the pseudo references: `iter_pseudo`, clause `lists` (`ListsPseudo`)
 //! - the listings of a platform are those over the records of a well-formed `packed-refs`; why `packed-refs` is not opened, and,
 //!   of `iter`, that it could be, and that nothing has changed but the count of faults where it could not:
-//!   `file::iter::Platform::all`, `prefixed`, `pseudo`, clauses `lists`, `refused`; `iter`, clauses `opened`, `refused`, `rests`,
+//!   `file::iter::Platform::all`, `prefixed`, `pseudo`, clauses `lists`, `refused`; `iter`, clauses `opened`, `rests`,
 //!   `no_fault`
 //! - whether the store is as `git init` makes it; nothing changes: `is_pristine`, clauses `says`, `unchanged`
 //! - whether a reference has a reflog; its lines, oldest first, or newest first through the buffer, as the items of `forward` and

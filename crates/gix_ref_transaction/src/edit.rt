@@ -1,10 +1,10 @@
 //! An edit of a transaction, with its lock, what was found of its reference, and what becomes of the loose file.
-ghost use Rattle.std.specs.Prelude.{◌≡◌, [], OnOk, OnErr, IfOk, IfErr, IsErrOf, IsSome, is_some, Some, true, false, if◌then◌else◌};
+ghost use Rattle.std.specs.Prelude.{◌≡◌, [], OnOk, IfOk, IfErr, MatchResult, IsSome, is_some, Some, true, false, if◌then◌else◌};
 ghost use Rattle.std.specs.Option.{option_map};
 ghost use Rattle.gix_ref_target.specs.Targets.{target_value};
 ghost use Rattle.gix_ref_target.specs.Targets.TargetValue.{object_id};
 ghost use Rattle.gix_ref_files.specs.ReadOnly.{OnlyReads};
-ghost use Rattle.gix_ref_files.specs.Files.{disk_of, AtEveryStop, OnEveryDisk, count_after, DiskBecomes};
+ghost use Rattle.gix_ref_files.specs.Files.{disk_of, AtEveryStop, OnEveryDisk, CountsCall, DiskBecomes};
 ghost use Rattle.gix_ref_files.specs.Lock.{lock_of, MakesLock, Readying, Acquiring, after_locking, LockingOn};
 ghost use Rattle.gix_ref_files.specs.Settled.{IsWholeAt};
 ghost use Rattle.gix_ref_files.specs.Tree.{Tree, Path, has_folders, is_blocked, put};
@@ -178,9 +178,9 @@ fn read_old_value<F: Files>(
         IfOk result (λ was. was.has_file ≡ is_some (contents F.means files.old place.now)) }
     ensures damaged { F.honest → IfOk result (λ was. was.damaged
         ≡ is_damaged (setting_of settings.now) (contents F.means files.old place.now)) }
-    ensures outside { IfErr result IsIoOrMemory }
+    ensures refused { IfErr result (λ error. IsIoOrMemory error
+        × IsCounted (F.faults files.old) (F.faults files.new) error) }
     ensures reads { OnlyReads F.honest F.means F.faults files.old files.new }
-    ensures counted { IfErr result (IsCounted (F.faults files.old) (F.faults files.new)) }
 {
     let loose = loose_at(alloc, files, place, settings.kind)?;
     Ok(old_value_of(loose, packed, settings.namespace))
@@ -280,18 +280,16 @@ pub(crate) fn take_lock<F: Files>(
 ) -> Result<Create, FileError>
     requires ready { F.honest → is_ready ≡ true →
         has_folders (F.means files.old).tree lock.now ≡ true }
-    ensures answer { F.honest →
-        IfOk result (MakesLock (F.means files.old).tree lock.now (F.means files.new).tree) }
-    ensures failed { F.honest →
-        OnErr result (Readying (F.means files.old).tree lock.now (F.means files.new).tree) }
+    ensures answer { F.honest → MatchResult result
+        (MakesLock (F.means files.old).tree lock.now (F.means files.new).tree)
+        (λ _. Readying (F.means files.old).tree lock.now (F.means files.new).tree) }
     ensures leaves { F.honest → AtEveryStop F.means files.old files.new
         (λ T. Acquiring T lock.now) }
     ensures disk { F.honest → IfOk result
         (λ create. DiskBecomes F.means files.old files.new (λ D. after_locking D lock.now create)) }
     ensures passes { F.honest → OnEveryDisk F.means files.old files.new
         (λ D. LockingOn D lock.now) }
-    ensures count { F.faults files.new ≡ count_after result (F.faults files.old) }
-    ensures memory { IsErrOf result FileError.Memory → ⊥ }
+    ensures count { CountsCall result (F.faults files.old) (F.faults files.new) }
 {
     if is_ready {
         lock.create(files)

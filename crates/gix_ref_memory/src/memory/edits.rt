@@ -1,13 +1,15 @@
 //! What the calls of files in memory change: each adds its changes at the end of those that there were.
-ghost use Rattle.std.specs.Prelude.{◌≡◌, if◌then◌else◌, Some, false, IfOk, IfSome, IfNone, OnOk, OnErr, take, length};
+ghost use Rattle.std.specs.Prelude.{◌≡◌, if◌then◌else◌, Some, false, IfOk, IfSome, OnOk, OnErr, MatchOption, take, length};
 ghost use Rattle.gix_ref_files.specs.Tree.{IsShaped, no_tree, put, appended, is_file, is_folder, fronts, with_folders};
 ghost use Rattle.gix_ref_files.specs.Disk.{file_synced, folder_synced};
 ghost use Rattle.gix_ref_files.specs.DiskCalls.{after_append, AppendingOn, after_rename, RenamingOn, after_create, CreatingOn, after_removal, RemovingFileOn, RemovingFolderOn, Syncs, SyncingOn};
-ghost use Rattle.gix_ref_files.specs.Files.{Passes, AddsDisks};
+ghost use Rattle.gix_ref_files.specs.Files.{Passes};
 ghost use Rattle.gix_ref_files.specs.Calls.{Appends, Renames, IsMovable, RemovesFile, RemovesFolder, Creates};
 ghost use Rattle.gix_ref_files.specs.Tree.Content.{File};
 ghost use Rattle.gix_ref_memory.specs.Changes.{after_changes, meaning_after, Puts, tree_after, disk_after, placed_on};
+ghost use Rattle.gix_ref_memory.specs.Calls.{PassesEach};
 ghost use Rattle.gix_ref_memory.specs.Turns.{HasNoWay};
+ghost use Rattle.gix_ref_memory.specs.internal.Edits.{IfNoAnswer};
 
 use super::changes::{
     Change, Present, Stored, find, is_below_file, is_file_at, is_folder_at, is_in_folders, item_at,
@@ -30,10 +32,8 @@ pub fn append_now(
     ensures shape { IsShaped (tree_after changes.old) → IsShaped (tree_after changes.new) }
     ensures disk { IfOk result (λ there. disk_after changes.new
         ≡ after_append (disk_after changes.old) path.now bytes.now there) }
-    ensures passes { Passes (meaning_after changes.old.items) (meaning_after changes.new.items)
-        (AppendingOn (disk_after changes.old) path.now bytes.now) }
-    ensures adds { OnOk result (AddsDisks (meaning_after changes.old.items) (meaning_after
-        changes.new.items) (AppendingOn (disk_after changes.old) path.now bytes.now)) }
+    ensures passes { PassesEach (meaning_after changes.old.items) (meaning_after changes.new.items)
+        (AppendingOn (disk_after changes.old) path.now bytes.now) result }
 {
     match find(changes, path) {
         Some(Present::FileOf(old)) => {
@@ -74,13 +74,10 @@ pub fn rename_now(
     from: &[u8],
     to: &[u8],
 ) -> Result<Option<Rename>, AllocError>
-    ensures answer { IfOk result (λ answer. IfSome answer
+    ensures answer { IfOk result (λ answer. MatchOption answer
+        (IsMovable (tree_after changes.old) from.now to.now → ⊥)
         (Renames (tree_after changes.old) from.now to.now (tree_after changes.new))) }
-    ensures none { IfOk result
-        (λ answer. IfNone answer (IsMovable (tree_after changes.old) from.now to.now → ⊥)) }
-    ensures none_same { IfOk result
-        (λ answer. IfNone answer (changes.new.items ≡ changes.old.items)) }
-    ensures failed { OnErr result (changes.new.items ≡ changes.old.items) }
+    ensures same { IfNoAnswer result (changes.new.items ≡ changes.old.items) }
     ensures shape { IsShaped (tree_after changes.old) → IsShaped (tree_after changes.new) }
     ensures disk { IfOk result (λ answer. IfSome answer (λ rename. disk_after changes.new
         ≡ after_rename (disk_after changes.old) from.now to.now rename)) }
@@ -144,12 +141,10 @@ pub fn create_now(
     changes: &mut Vec<Change>,
     path: &[u8],
 ) -> Result<Option<Create>, AllocError>
-    ensures answer { IfOk result (λ answer. IfSome answer
+    ensures answer { IfOk result (λ answer. MatchOption answer
+        (HasNoWay (tree_after changes.old) path.now)
         (Creates (tree_after changes.old) path.now (tree_after changes.new))) }
-    ensures none { IfOk result (λ answer. IfNone answer (changes.new.items ≡ changes.old.items)) }
-    ensures no_way { IfOk result
-        (λ answer. IfNone answer (HasNoWay (tree_after changes.old) path.now)) }
-    ensures failed { OnErr result (changes.new.items ≡ changes.old.items) }
+    ensures same { IfNoAnswer result (changes.new.items ≡ changes.old.items) }
     ensures shape { IsShaped (tree_after changes.old) → IsShaped (tree_after changes.new) }
     ensures disk { IfOk result (λ answer. IfSome answer (λ create. disk_after changes.new
         ≡ after_create (disk_after changes.old) path.now create)) }

@@ -2,11 +2,13 @@
 ghost use Rattle.std.specs.Prelude.{◌≡◌, ◌≤◌, Some, OnOk, OnErr, IfOk, take, length, true, false, [], ◌∷◌, ◌++◌};
 ghost use Rattle.gix_ref_files.specs.Tree.{IsShaped, no_tree, put, has_folders, fronts, folders_to, with_folders};
 ghost use Rattle.gix_ref_files.specs.Tree.Content.{Folder};
-ghost use Rattle.gix_ref_files.specs.Files.{Passes, AddsDisks};
+ghost use Rattle.gix_ref_files.specs.Files.{Passes};
 ghost use Rattle.gix_ref_files.specs.Calls.{MakesFolders, is_in_the_way};
 ghost use Rattle.gix_ref_files.specs.DiskCalls.{BeforeOrAfterOn, after_folders, MakingFoldersOn};
+ghost use Rattle.gix_ref_memory.specs.Calls.{PassesEach};
 ghost use Rattle.gix_ref_memory.specs.Turns.{IsDone};
 ghost use Rattle.gix_ref_memory.specs.Changes.{after_changes, meaning_after, MakingFrontsOn, tree_after, disk_after, with_folder_as, with_folders_as};
+ghost use Rattle.gix_ref_memory.specs.internal.Edits.{Make, MakesAllFronts};
 
 use super::changes::{Change, Stored, is_below_file, is_file_at, is_folder_at};
 use std::alloc::{AllocError, Global};
@@ -18,14 +20,13 @@ fn make_folder(
     path: &[u8],
     synced: bool,
 ) -> Result<(), AllocError>
-    ensures made { OnOk result (after_changes changes.new.items no_tree
-        ≡ put (tree_after changes.old) path.now (Some Folder)) }
+    ensures made { OnOk result (Make changes.new.items
+        (put (tree_after changes.old) path.now (Some Folder))
+        (with_folder_as synced (disk_after changes.old) path.now)) }
     ensures failed { OnErr result (changes.new.items ≡ changes.old.items) }
     ensures kept { take (length changes.old.items) changes.new.items ≡ changes.old.items }
     ensures shape { has_folders (tree_after changes.old) path.now ≡ true →
         IsShaped (tree_after changes.old) → IsShaped (tree_after changes.new) }
-    ensures disk { OnOk result (disk_after changes.new
-        ≡ with_folder_as synced (disk_after changes.old) path.now) }
     ensures passes { Passes (meaning_after changes.old.items) (meaning_after changes.new.items)
         (BeforeOrAfterOn (disk_after changes.old) (Unit {0})
         (with_folder_as synced (disk_after changes.old) path.now)) }
@@ -51,19 +52,15 @@ pub fn make_fronts(
     most: usize,
     synced: bool,
 ) -> Result<(), AllocError>
-    ensures made { OnOk result (after_changes changes.new.items no_tree
-        ≡ with_folders (tree_after changes.old) (take most (fronts path.now))) }
+    ensures made { OnOk result (Make changes.new.items
+        (with_folders (tree_after changes.old) (take most (fronts path.now)))
+        (with_folders_as synced (disk_after changes.old) (take most (fronts path.now)))) }
     ensures kept { take (length changes.old.items) changes.new.items ≡ changes.old.items }
     ensures shape { IsShaped (tree_after changes.old) → IsShaped (tree_after changes.new) }
-    ensures leads { length (fronts path.now) ≤ most →
-        OnOk result (has_folders (tree_after changes.new) path.now ≡ true) }
-    ensures disk { OnOk result (disk_after changes.new
-        ≡ with_folders_as synced (disk_after changes.old) (take most (fronts path.now))) }
     ensures passes { Passes (meaning_after changes.old.items) (meaning_after changes.new.items)
         (MakingFrontsOn synced (disk_after changes.old) (fronts path.now)) }
-    ensures adds { length (fronts path.now) ≤ most →
-        OnOk result (AddsDisks (meaning_after changes.old.items) (meaning_after changes.new.items)
-        (MakingFrontsOn synced (disk_after changes.old) (fronts path.now))) }
+    ensures all { length (fronts path.now) ≤ most → OnOk result (MakesAllFronts synced
+        changes.old.items changes.new.items path.now) }
 {
     let mut left = most;
     for i in 1..path.len() {
@@ -105,10 +102,8 @@ pub fn make_folders_now(
     ensures shape { IsShaped (tree_after changes.old) → IsShaped (tree_after changes.new) }
     ensures disk { IfOk result (λ made. disk_after changes.new
         ≡ after_folders (disk_after changes.old) path.now made) }
-    ensures passes { Passes (meaning_after changes.old.items) (meaning_after changes.new.items)
-        (MakingFoldersOn (disk_after changes.old) path.now) }
-    ensures adds { OnOk result (AddsDisks (meaning_after changes.old.items)
-        (meaning_after changes.new.items) (MakingFoldersOn (disk_after changes.old) path.now)) }
+    ensures passes { PassesEach (meaning_after changes.old.items) (meaning_after changes.new.items)
+        (MakingFoldersOn (disk_after changes.old) path.now) result }
 {
     if is_file_in_the_way(changes, path) {
         return Ok(false);

@@ -1,6 +1,5 @@
 //! A reader of a file in memory, which owns a copy of the bytes.
-ghost use Rattle.std.specs.Prelude.{◌≡◌, ◌⊎◌, ◌+◌, ◌<◌, length, OnOk, IfErr, IsErrOf, true, is_ok};
-ghost use Rattle.gix_ref_files.specs.Files.{one_more, count_after};
+ghost use Rattle.std.specs.Prelude.{◌≡◌, length, OnOk};
 ghost use Rattle.gix_ref_files.specs.Calls.{IsRead};
 
 use super::turns::{Turn, Turns};
@@ -16,10 +15,7 @@ pub struct MemoryReader {
 }
 
 impl ReadAt for MemoryReader {
-    ghost use Rattle.gix_ref_memory.specs.Reader.{reader_bytes, reader_faults, reader_calls, reader_plan, reader_turn};
-    ghost use Rattle.gix_ref_memory.specs.declared.memory.turns.Turn.TheVariants.{Go};
-    ghost use Rattle.gix_ref_files.specs.declared.files.FileError.TheVariants.{Device};
-    ghost use Rattle.std.specs.declared.io.ErrorKind.TheVariants.{Other};
+    ghost use Rattle.gix_ref_memory.specs.Reader.{reader_bytes, reader_faults, ReadTakesTurn};
 
     ghost honest = { Unit {0} };
 
@@ -36,17 +32,8 @@ impl ReadAt for MemoryReader {
     /// It reads only where its turn is to go, and then fails only past the end.
     fn read_exact_at(&mut self, place: u64, buf: &mut [u8]) -> Result<(), FileError>
         ensures bytes { OnOk result (IsRead (reader_bytes self.old) place buf.new) }
-        ensures turn { OnOk result (reader_turn self.old ≡ Go) }
-        ensures goes { reader_turn self.old ≡ Go →
-            place + length buf.old < length (reader_bytes self.old) + 1 → is_ok result ≡ true }
-        ensures planned { IfErr result
-            (λ error. (reader_turn self.old ≡ Go) ⊎ (error ≡ Device Other)) }
         ensures same { reader_bytes self.new ≡ reader_bytes self.old }
-        ensures size { length (reader_bytes self.new) ≡ length (reader_bytes self.old) }
-        ensures counts { reader_calls self.new ≡ one_more (reader_calls self.old) }
-        ensures plan { reader_plan self.new ≡ reader_plan self.old }
-        ensures count { reader_faults self.new ≡ count_after result (reader_faults self.old) }
-        ensures memory { IsErrOf result FileError.Memory → ⊥ }
+        ensures turn { ReadTakesTurn place (length buf.old) self.old self.new result }
     {
         if self.turns.next() != Turn::Go {
             return Err(self.turns.fault(ErrorKind::Other));

@@ -121,7 +121,7 @@ pub struct Platform<'s, F, P = Option<Buffer>> {
 }
 
 impl<'s, F: Files> Platform<'s, F> {
-    ghost use Rattle.std.specs.Prelude.{◌≡◌, IfOk, IfErr, OnOk};
+    ghost use Rattle.std.specs.Prelude.{◌≡◌, IfOk, IfErr, OnOk, MatchResult};
     ghost use Rattle.gix_ref_listing.specs.declared.prefix.Error.TheVariants.{Memory};
     ghost use Rattle.gix_ref_listing.specs.CleanPrefixes.{IsAcceptedPrefix, IsRefusedPrefix};
     ghost use Rattle.gix_ref_store.specs.Lookup.{LooksUp};
@@ -197,11 +197,11 @@ impl<'s, F: Files> Platform<'s, F> {
     /// The pseudo references, as `Store::iter_pseudo` gives them. `Memory` where there was no memory for their names.
     /// As gix-ref's `Platform::pseudo`.
     pub fn pseudo(&mut self, alloc: Global) -> Result<LooseThenPacked<'_, F>, Error>
-        ensures looks_up { IfOk result
-            (λ it. LooksUp F.honest F.means (platform_store self.entry.now) it.store.now) }
+        ensures made { MatchResult result
+            (λ it. LooksUp F.honest F.means (platform_store self.entry.now) it.store.now)
+            (λ error. error ≡ Memory) }
         ensures lists { F.honest → IfOk result
             (IteratesPseudo F.honest F.means F.faults (platform_store self.entry.now)) }
-        ensures memory { IfErr result (λ error. error ≡ Memory) }
     {
         let Platform { store, packed: _ } = self;
         store.iter_pseudo(alloc)
@@ -219,15 +219,14 @@ fn of_open(error: open::Error) -> Error
 }
 
 impl<F: Files> Store<F> {
-    ghost use Rattle.std.specs.Prelude.{◌≡◌, ◌⊎◌, ◌≤◌, ◌+◌, [], List, IfOk, IfErr, IfSome, IfNone, OnOk, OnErr};
+    ghost use Rattle.std.specs.Prelude.{◌≡◌, ◌≤◌, ◌+◌, [], List, IfOk, IfErr, IfSome, IfNone, OnErr, MatchResult};
     ghost use Rattle.gix_ref_listing.specs.declared.prefix.Error.TheVariants.{Memory};
     ghost use Rattle.gix_ref_store.specs.Lookup.{CanBeOpened, LooksUp, settings_of};
     ghost use Rattle.std.specs.Option.{option_len};
     ghost use Rattle.gix_ref_listing.specs.Listings.{Listed, IsNotLent, merge_left};
-    ghost use Rattle.gix_ref_listing.specs.CleanPrefixes.{IsAcceptedPrefix, IsRefusedPrefix};
     ghost use Rattle.gix_ref_listing.specs.Steps.{AreYet, GivesNext, GivesRecord};
     ghost use Rattle.gix_ref_store.specs.Store.{files_of, IsSameStore};
-    ghost use Rattle.gix_ref_store.specs.Listings.{LacksNoneHeld, LacksNoneWalked, ListsHeld, ListsWalked, IteratesListing, IteratesPseudo, IsNotOpened, IsWalkedIn, LeavesUnopened, prefix_of_all, walked_prefix};
+    ghost use Rattle.gix_ref_store.specs.Listings.{FollowsHeld, FollowsWalked, ListsHeld, ListsWalked, IteratesListing, IteratesPseudo, IsNotOpened, IsWalkedIn, JudgesPrefix, LeavesUnopened, prefix_of_all, walked_prefix};
     ghost use Rattle.gix_ref_store.specs.contracts.file.store.Store.{the_row};
 
     /// The next item of a listing.
@@ -268,13 +267,13 @@ impl<F: Files> Store<F> {
         ensures* rests { sem 𝓛 (RestsIfErr (the_row F.row) self.entry (λ it. it.store.ghost_name)
             result (λ n. OnErr result (LooksUp F.honest F.means self.entry.now n))) }
         ensures same_reference { IfOk result (λ it. it.store.ghost_name ≡ self.entry.ghost_name) }
-        ensures looks_up { IfOk result
-            (λ it. LooksUp F.honest F.means self.entry.now it.store.now) }
+        ensures made { MatchResult result
+            (λ it. LooksUp F.honest F.means self.entry.now it.store.now)
+            (λ error. error ≡ Memory) }
         ensures lists { F.honest → ListsHeld F.honest F.means F.faults self.entry.now
             prefix.now packed.entry result }
-        ensures complete { F.honest → LacksNoneHeld F.honest F.means F.faults self.entry.now
+        ensures complete { F.honest → FollowsHeld F.honest F.means F.faults self.entry.now
             prefix.now packed.entry result }
-        ensures memory { IfErr result (λ error. error ≡ Memory) }
     {
         let settings = settings!(self);
         match list(alloc, &mut self.files, settings, prefix, packed) {
@@ -304,9 +303,7 @@ impl<F: Files> Store<F> {
         ensures walks { F.honest → IfOk result
             (IsWalkedIn F.honest F.means F.faults self.old self.new) }
         ensures asked { IfOk result (λ names. walked_prefix names ≡ prefix.now) }
-        ensures taken { OnOk result (IsAcceptedPrefix self.old.namespace prefix.now) }
-        ensures refused { IfErr result (λ error. (error ≡ Memory)
-            ⊎ IsRefusedPrefix self.old.namespace prefix.now error) }
+        ensures judged { JudgesPrefix self.old.namespace prefix.now result }
         ensures counts { NoFewer (F.faults (files_of self.old)) (F.faults (files_of self.new)) }
         ensures unchanged { LooksUp F.honest F.means self.old self.new }
     {
@@ -331,13 +328,13 @@ impl<F: Files> Store<F> {
             result (λ n. OnErr result (LooksUp F.honest F.means self.entry.now n))) }
         ensures same_reference { IfOk result (λ it. it.store.ghost_name ≡ self.entry.ghost_name) }
         ensures same { IfOk result (λ it. it.store.now ≡ self.entry.now) }
-        ensures looks_up { IfOk result
-            (λ it. LooksUp F.honest F.means self.entry.now it.store.now) }
+        ensures made { MatchResult result
+            (λ it. LooksUp F.honest F.means self.entry.now it.store.now)
+            (λ error. error ≡ Memory) }
         ensures lists { F.honest →
             ListsWalked F.honest F.means F.faults self.entry.now names packed.entry result }
         ensures complete { F.honest →
-            LacksNoneWalked F.honest F.means F.faults self.entry.now names packed.entry result }
-        ensures memory { IfErr result (λ error. error ≡ Memory) }
+            FollowsWalked F.honest F.means F.faults self.entry.now names packed.entry result }
     {
         let settings = settings!(self);
         match merge_walked(alloc, settings, names, packed) {
@@ -376,13 +373,13 @@ impl<F: Files> Store<F> {
         ensures* rests { sem 𝓛 (RestsIfErr (the_row F.row) self.entry (λ it. it.store.ghost_name)
             result (λ n. OnErr result (LooksUp F.honest F.means self.entry.now n))) }
         ensures same_reference { IfOk result (λ it. it.store.ghost_name ≡ self.entry.ghost_name) }
-        ensures looks_up { IfOk result
-            (λ it. LooksUp F.honest F.means self.entry.now it.store.now) }
+        ensures made { MatchResult result
+            (λ it. LooksUp F.honest F.means self.entry.now it.store.now)
+            (λ error. error ≡ Memory) }
         ensures lists { F.honest → ListsHeld F.honest F.means F.faults self.entry.now
             (prefix_of_all self.entry.now.namespace) packed.entry result }
-        ensures complete { F.honest → LacksNoneHeld F.honest F.means F.faults self.entry.now
+        ensures complete { F.honest → FollowsHeld F.honest F.means F.faults self.entry.now
             (prefix_of_all self.entry.now.namespace) packed.entry result }
-        ensures memory { IfErr result (λ error. error ≡ Memory) }
     {
         let prefix = prefix_of_all(&self.namespace);
         self.list(alloc, prefix, packed)
@@ -414,11 +411,9 @@ impl<F: Files> Store<F> {
             (λ it. LooksUp F.honest F.means self.entry.now it.store.now) }
         ensures lists { F.honest → ListsHeld F.honest F.means F.faults self.entry.now
             prefix.now packed.entry result }
-        ensures complete { F.honest → LacksNoneHeld F.honest F.means F.faults self.entry.now
+        ensures complete { F.honest → FollowsHeld F.honest F.means F.faults self.entry.now
             prefix.now packed.entry result }
-        ensures taken { OnOk result (IsAcceptedPrefix self.entry.now.namespace prefix.now) }
-        ensures refused { IfErr result (λ error. (error ≡ Memory)
-            ⊎ IsRefusedPrefix self.entry.now.namespace prefix.now error) }
+        ensures judged { JudgesPrefix self.entry.now.namespace prefix.now result }
     {
         match check_prefix(&self.namespace, prefix) {
             Ok(()) => self.list(alloc, prefix, packed),
@@ -432,11 +427,11 @@ impl<F: Files> Store<F> {
         ensures* rests { sem 𝓛 (RestsIfErr (the_row F.row) self.entry (λ it. it.store.ghost_name)
             result (λ n. OnErr result (LooksUp F.honest F.means self.entry.now n))) }
         ensures same_reference { IfOk result (λ it. it.store.ghost_name ≡ self.entry.ghost_name) }
-        ensures looks_up { IfOk result
-            (λ it. LooksUp F.honest F.means self.entry.now it.store.now) }
+        ensures made { MatchResult result
+            (λ it. LooksUp F.honest F.means self.entry.now it.store.now)
+            (λ error. error ≡ Memory) }
         ensures lists { F.honest → IfOk result (IteratesListing F.honest F.means F.faults
             self.entry.now [] (prefix_of_all self.entry.now.namespace)) }
-        ensures memory { IfErr result (λ error. error ≡ Memory) }
     {
         self.iter_packed(alloc, None)
     }
@@ -455,9 +450,7 @@ impl<F: Files> Store<F> {
             (λ it. LooksUp F.honest F.means self.entry.now it.store.now) }
         ensures lists { F.honest → IfOk result
             (IteratesListing F.honest F.means F.faults self.entry.now [] prefix.now) }
-        ensures taken { OnOk result (IsAcceptedPrefix self.entry.now.namespace prefix.now) }
-        ensures refused { IfErr result (λ error. (error ≡ Memory)
-            ⊎ IsRefusedPrefix self.entry.now.namespace prefix.now error) }
+        ensures judged { JudgesPrefix self.entry.now.namespace prefix.now result }
     {
         self.iter_prefixed_packed(alloc, prefix, None)
     }
@@ -482,8 +475,8 @@ impl<F: Files> Store<F> {
         ensures looks_up { IfOk result (λ p. LooksUp F.honest F.means self.entry.now p.store.now) }
         ensures no_fault { IfOk result (λ p. F.faults (files_of p.store.now)
             ≡ F.faults (files_of self.entry.now)) }
-        ensures opened { F.honest → IfOk result (λ _. CanBeOpened F.means self.entry.now) }
-        ensures refused { F.honest → IfErr result (IsNotOpened F.means self.entry.now) }
+        ensures opened { F.honest → MatchResult result (λ _. CanBeOpened F.means self.entry.now)
+            (IsNotOpened F.means self.entry.now) }
     {
         match self.force_refresh_packed_buffer(alloc) {
             Ok(()) => Ok(Platform {
@@ -512,11 +505,11 @@ impl<F: Files> Store<F> {
         ensures* rests { sem 𝓛 (RestsIfErr (the_row F.row) self.entry (λ it. it.store.ghost_name)
             result (λ n. OnErr result (LooksUp F.honest F.means self.entry.now n))) }
         ensures same_reference { IfOk result (λ it. it.store.ghost_name ≡ self.entry.ghost_name) }
-        ensures looks_up { IfOk result
-            (λ it. LooksUp F.honest F.means self.entry.now it.store.now) }
+        ensures made { MatchResult result
+            (λ it. LooksUp F.honest F.means self.entry.now it.store.now)
+            (λ error. error ≡ Memory) }
         ensures lists { F.honest → IfOk result
             (IteratesPseudo F.honest F.means F.faults self.entry.now) }
-        ensures memory { IfErr result (λ error. error ≡ Memory) }
     {
         let settings = settings!(self);
         match list_pseudo(alloc, &mut self.files, settings) {

@@ -94,6 +94,33 @@ fn makes_a_known_folder_anew_where_it_is_gone(rt: HostRuntime) -> Result<(), Fai
 }
 
 #[test]
+fn appends_to_the_file_that_was_seen_last(rt: HostRuntime) -> Result<(), Fail> {
+    fs::create_dir(&rt, "seen")?;
+    fs::write(&rt, "seen/f", b"a")?;
+    let mut disk = Disk::new(rt.clone()?);
+    let kind = disk.kind(b"seen/f");
+    let appended = disk.append(b"seen/f", b"bc");
+    let left = fs::read(&rt, "seen/f")?;
+    disk.kind(b"seen/f")?;
+    fs::remove_file(&rt, "seen/f")?;
+    let gone = disk.append(b"seen/f", b"d");
+    fs::write(&rt, "seen/f", b"e")?;
+    disk.kind(b"seen/f")?;
+    fs::remove_file(&rt, "seen/f")?;
+    fs::create_dir(&rt, "seen/f")?;
+    let a_folder = disk.append(b"seen/f", b"g");
+    let looked = disk.append(b"seen/f", b"h");
+    fs::remove_dir_all(&rt, "seen")?;
+    assert_eq!(rt; kind, Ok(Node::File));
+    assert_eq!(rt; appended, Ok(true));
+    assert_eq!(rt; left.as_slice(), b"abc".as_slice());
+    assert_eq!(rt; gone, Ok(false), "it was removed since");
+    assert_eq!(rt; a_folder, Ok(false), "a folder came in its place");
+    assert_eq!(rt; looked, Ok(false), "after a look");
+    Ok(())
+}
+
+#[test]
 fn reads_a_large_file_whole(rt: HostRuntime) -> Result<(), Fail> {
     let alloc = rt.alloc();
     let bytes = vec![in alloc; 7u8; 5000]?;

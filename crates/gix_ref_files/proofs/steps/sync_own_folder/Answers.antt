@@ -1,8 +1,8 @@
-use Rattle.std.proofs.Common.{rules, ◌≡◌, ◌≢◌, List, [], ◌∷◌, sym, ◌∙◌, ap, subst, false}
+use Rattle.std.proofs.Common.{rules, ◌≡◌, ◌≢◌, List, [], sym, subst, false}
 use Rattle.gix_ref_files.specs.Tree.{Path, is_folder}
 use Rattle.gix_ref_files.specs.Disk.{folder_of}
 use Rattle.gix_ref_files.specs.Files.{disk_of}
-use Rattle.gix_ref_files.specs.Settled.{Sync, sync_of_folder}
+use Rattle.gix_ref_files.specs.Settled.{Sync}
 use Rattle.gix_ref_files.specs.Settled.Sync.{OfFolder}
 use Rattle.gix_ref_files.specs.DiskSteps.{IsSomeSynced, Settling}
 use Rattle.gix_ref_files.proofs.Moments.{passes_weaken}

@@ -1,10 +1,12 @@
-use Rattle.std.proofs.Common.{◌∙◌, ap, subst, ◌++◌, List, [], Some, sym}
+use Rattle.std.proofs.Common.{◌∙◌, ap, subst, ◌++◌, ℕ, List, [], Some, sym}
 use Rattle.gix_ref_target.specs.PackedRecords.{Record}
 use Rattle.gix_ref_packed_text.specs.Prefixes.{records_prefixed}
 use Rattle.gix_ref_packed.specs.YetToGive.{IsYet}
-use Rattle.gix_ref_packed.specs.Buffers.{buffer_kind, buffer_text}
+use Rattle.gix_ref_packed.specs.Buffers.{buffer_kind, buffer_line, buffer_text}
+use Rattle.gix_ref_lookup.specs.StoreLayout.{namespace_text}
 use Rattle.gix_ref_listing.specs.OwedNames.{Text, OwesOthers}
 use Rattle.gix_ref_listing.proofs.OwedLemmas.{owes_all}
+use Rattle.gix_ref_listing.proofs.FaultRuns.{ItemsFrom, faults_in}
 use Rattle.gix_ref_listing.proofs.list.records_of.Goals as goal
 
 pub returns-in_ok-key-in-Some-clause-asked : goal.returns-in_ok-key-in-Some-clause-asked
@@ -22,5 +24,8 @@ pub returns-in_ok-key-in-Some-clause-owes : goal.returns-in_ok-key-in-Some-claus
 returns-in_ok-key-in-Some-clause-owes c settings text given =
     let of = rw c.in-Some.is at given in
     let key = c.in_ok-key-in-Some.ensures ∙ ap (λ n. n ++ c.args.prefix.now) c.text_of.ensures.text in
-    subst (λ (t : Text). OwesOthers settings t [] (Some c.iter_prefixed.result)) (sym of.0)
-    (owes_all settings (buffer_kind c.in-Some.buffer.now) (buffer_text c.in-Some.buffer.now) _ _ key c.iter_prefixed.result (c.iter_prefixed.ensures.owes of.1))
+    let buffer = c.in-Some.buffer.now in
+    let it = c.iter_prefixed.result in
+    let asked : Text = record { kind = buffer_kind buffer; bytes = buffer_text buffer; line = buffer_line buffer; key = namespace_text c.args.namespace.now ++ c.args.prefix.now } in
+    subst (λ (t : Text). OwesOthers settings t [] (Some it)) (sym of.0)
+    (owes_all settings asked _ key it (c.iter_prefixed.ensures.owes of.1) (faults_in asked it (subst (λ (k : List ℕ). ItemsFrom buffer k it) key c.iter_prefixed.ensures.items)))

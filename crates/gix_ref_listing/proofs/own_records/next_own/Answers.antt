@@ -2,7 +2,7 @@ use Rattle.std.proofs.Common.{sym, ◌∙◌, ap, Some, None, rules}
 use Rattle.gix_ref_packed_text.specs.Views.{record_of}
 use Rattle.gix_ref_packed.proofs.OneItem.{next_gives_first}
 use Rattle.gix_ref_listing.specs.OwnRecords.{own_records, with_own}
-use Rattle.gix_ref_listing.proofs.OwedLemmas.{ended, passed, taken}
+use Rattle.gix_ref_listing.proofs.OwedLemmas.{ended, met, passed, taken}
 use Rattle.gix_ref_listing.proofs.own_records.next_own.Goals as goal
 
 pub returns-in-Err-clause-gives : goal.returns-in-Err-clause-gives
@@ -26,6 +26,10 @@ loop-item-preserved c = record {
       passed c.args.settings text names c.loop-item.records c.next.new.self c.in-Ok.record (rw c.in-Ok.is at c.in-Some.ensures.steps) (sym c.in_default-name_of_key.ensures) (c.loop-item.invariant.owes text names owes);
   less = search rules;
 }
+
+pub returns-in-Err-clause-owes : goal.returns-in-Err-clause-owes
+returns-in-Err-clause-owes c text names owes =
+    met c.args.settings text names c.loop-item.records c.next.new.self _ (rw c.in-Err.is at c.in-Some.ensures.steps) (c.loop-item.invariant.owes text names owes)
 
 pub returns-in-Some-name_of_key-clause-owes : goal.returns-in-Some-name_of_key-clause-owes
 returns-in-Some-name_of_key-clause-owes c text names owes =

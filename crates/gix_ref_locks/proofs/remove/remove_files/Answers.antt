@@ -28,7 +28,7 @@ loop-at-preserved g c =
     record {
       tree = λ h. one_more_gone first.tree paths i p c.loop-at-test.true c.index-paths-at.is mid.tree (before.tree h) now.tree c.in_default.field-0 (subst (λ q. RemovesFile mid.tree q now.tree c.in_default.field-0) c.deref.ensures.value (c.in_default.ensures.answer h));
       leaves = λ h. run_on first mid now paths i p c.loop-at-test.true c.index-paths-at.is (before.tree h) (before.leaves h) (subst (λ q. Leaves mid now (RemovingFile mid.tree q)) c.deref.ensures.value (c.remove_file.ensures.leaves h));
-      no_fewer = no_fewer_joins before.no_fewer (fewer_same _ _ c.in_default.ensures.count);
+      no_fewer = no_fewer_joins before.no_fewer (fewer_same _ _ c.in_default.ensures.count.0);
     }
 
 pub returns-in-Err-clause-ended : goal.returns-in-Err-clause-ended

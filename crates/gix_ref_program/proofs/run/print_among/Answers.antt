@@ -18,7 +18,7 @@ returns-in-Err-clause-prints g c =
     let refused = c.refused.ensures in
     let does = ListRanAmong F.honest F.means F.faults store new names (AreHeldFor store (walked_prefix names) c.args.packed) in
     said does (g.W.Write.contents c.args.out.now) (g.W.Write.contents c.print.new.out) c.print.result c.refused.result
-    (subst (λ (o : Outcome). does (Said o)) (sym refused.1) (c.in-Err.ensures.memory, refused.2)) c.print.ensures.status c.print.ensures.printed
+    (subst (λ (o : Outcome). does (Said o)) (sym refused.1) (c.in-Err.ensures.made, refused.2)) c.print.ensures.status c.print.ensures.printed
 
 pub returns-in-Ok-clause-prints : goal.returns-in-Ok-clause-prints
 returns-in-Ok-clause-prints g c =
@@ -40,4 +40,4 @@ returns-in-Ok-clause-unchanged g c =
     let F = g.F.Files in
     let name = sym (c.into_store.ensures.same_reference ∙ (c.print_items-status.ensures.same_reference ∙ c.in-Ok.ensures.same_reference)) in
     subst (λ (x : Store g.row.F.Denot). LooksUp F.honest F.means c.args.store.now x) (sym (c.store-1.given.1 name ∙ c.into_store.ensures.same))
-    (looks_on F.honest F.means F.faults c.args.store.now (store_listed c.in-Ok.items) (store_listed c.print_items-status.new.items) c.in-Ok.ensures.looks_up c.print_items-status.ensures.unchanged)
+    (looks_on F.honest F.means F.faults c.args.store.now (store_listed c.in-Ok.items) (store_listed c.print_items-status.new.items) c.in-Ok.ensures.made c.print_items-status.ensures.unchanged)

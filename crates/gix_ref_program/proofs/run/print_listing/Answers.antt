@@ -32,7 +32,7 @@ returns-in-Ok-open_packed_prefixed-clause-prints g c =
     let Are = AreHeldFor now (walked_prefix names) c.as_ref.result in
     subst (λ (p : List ℕ). Prints (ListRan F.honest F.means F.faults G start new p) before after c.print_among.result) (sym asked)
     (prints_more (ListRanAmong F.honest F.means F.faults now new names Are) (ListRan F.honest F.means F.faults G start new prefix) before after c.print_among.result
-    (listed_from F.honest F.means F.faults G start now new prefix names Are c.in-Ok.ensures.taken c.in-Ok.ensures.asked
+    (listed_from F.honest F.means F.faults G start now new prefix names Are c.in-Ok.ensures.judged c.in-Ok.ensures.asked
     (λ h. walked_on F.honest F.means F.faults start mid now names (c.in-Ok.ensures.walks h) opened.ensures.unchanged (fewer_same _ _ opened.ensures.no_fault))
     (λ h records are.
     subst (λ (p : List ℕ). AreHeldFor now p c.as_ref.result records) (sym c.in-Ok.ensures.asked)
@@ -56,7 +56,7 @@ returns-in-Err-clause-prints g c =
     let does = ListRan F.honest F.means F.faults G start new prefix in
     subst (λ (p : List ℕ). Prints (ListRan F.honest F.means F.faults G start new p) before after c.print.result) (sym asked)
     (said does before after c.print.result c.refused.result
-    (subst (λ (o : Outcome). does (Said o)) (sym refused.1) (no_listing F.honest F.means F.faults G start new prefix c.in-Err.error c.in-Err.ensures.refused, refused.2)) c.print.ensures.status c.print.ensures.printed)
+    (subst (λ (o : Outcome). does (Said o)) (sym refused.1) (no_listing F.honest F.means F.faults G start new prefix c.in-Err.error c.in-Err.ensures.judged, refused.2)) c.print.ensures.status c.print.ensures.printed)
 
 pub returns-in-Err-open_packed_prefixed-clause-prints : goal.returns-in-Err-open_packed_prefixed-clause-prints
 returns-in-Err-open_packed_prefixed-clause-prints g c =

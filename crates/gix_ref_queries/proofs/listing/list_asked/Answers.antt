@@ -13,7 +13,7 @@ returns-in-Ok-collect_among-clause-lists g c =
     let start = c.args.store.now in
     let mid = c.walk_prefixed.new.self in
     let now = c.open_packed_prefixed.new.self in (
-      c.in-Ok.ensures.taken,
+      c.in-Ok.ensures.judged,
       λ h records are.
           subst (λ (p : List ℕ). AreAsked F.honest F.means F.faults start c.collect_among.new.store records p (texts c.args.patterns.now) c.in-Ok-collect_among.found.items) c.in-Ok.ensures.asked
           (c.in-Ok-collect_among.ensures.finds h start records (walked_on F.honest F.means F.faults start mid now c.in-Ok.names (c.in-Ok.ensures.walks h) opened.ensures.unchanged (fewer_same _ _ opened.ensures.no_fault))

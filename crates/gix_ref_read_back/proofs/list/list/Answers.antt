@@ -15,7 +15,7 @@ returns-in-Ok-open_packed_prefixed-clause-lists g c =
     let now = c.open_packed_prefixed.new.self in
     let names = c.in-Ok.names in
     let prefix = c.args.prefix.now in
-    listed_from F.honest F.means F.faults g.F.Reader.ReadAt start now c.list_among.new.store prefix names (AreHeldFor now (walked_prefix names) c.as_ref.result) c.in-Ok.ensures.taken c.in-Ok.ensures.asked
+    listed_from F.honest F.means F.faults g.F.Reader.ReadAt start now c.list_among.new.store prefix names (AreHeldFor now (walked_prefix names) c.as_ref.result) c.in-Ok.ensures.judged c.in-Ok.ensures.asked
     (λ h. walked_on F.honest F.means F.faults start mid now names (c.in-Ok.ensures.walks h) opened.ensures.unchanged (fewer_same _ _ opened.ensures.no_fault))
     (λ h records are.
     subst (λ (p : List ℕ). AreHeldFor now p c.as_ref.result records) (sym c.in-Ok.ensures.asked)

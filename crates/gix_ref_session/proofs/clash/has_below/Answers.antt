@@ -10,7 +10,7 @@ use Rattle.gix_ref_session.proofs.clash.has_below.Goals as goal
 pub returns-in-Err-clause-fails : goal.returns-in-Err-clause-fails
 returns-in-Err-clause-fails g c =
     let F = g.F.Files in
-    walk_failed F.honest F.means F.faults g.F.Reader.ReadAt c.args.store.now c.args.prefix.now c.in-Err.error c.in-Err.ensures.refused
+    walk_failed F.honest F.means F.faults g.F.Reader.ReadAt c.args.store.now c.args.prefix.now c.in-Err.error c.in-Err.ensures.judged
 
 pub returns-in-Ok-open_packed_prefixed-clause-lists : goal.returns-in-Ok-open_packed_prefixed-clause-lists
 returns-in-Ok-open_packed_prefixed-clause-lists g c h records are =

@@ -12,6 +12,6 @@ returns-in-Ok-clause-lists g c h start records walked are =
     let prefix = walked_prefix c.args.names in
     let items = c.in-Ok.items in
     let is : c.is_some-any.result ≡ is_some c.next.result = search rules in
-    let looks = looks_on F.honest F.means start c.args.store.now (store_listed items) walked.looks_up c.in-Ok.ensures.looks_up in
+    let looks = looks_on F.honest F.means start c.args.store.now (store_listed items) walked.looks_up c.in-Ok.ensures.made in
     subst (λ (any : Bool). MatchBool any (ListsOne F.honest F.means F.faults start records prefix) (ListsNone F.honest F.means start records prefix)) (sym is)
     (lists_by F.honest F.means F.faults start records prefix items c.next.new.self c.next.result looks (c.in-Ok.ensures.lists h start records walked are) c.next.ensures.steps)

@@ -1,5 +1,6 @@
+use Rattle.std.proofs.Common.{inl}
 use Rattle.gix_ref_files.specs.Files.{disk_of}
-use Rattle.gix_ref_files.proofs.LockLemmas.{if_ok}
+use Rattle.gix_ref_files.proofs.LockLemmas.{if_either, if_ok}
 use Rattle.gix_ref_files.proofs.Moments.{passes_weaken, weaken}
 use Rattle.gix_ref_transaction.proofs.Led.{acquiring, locked, locking, makes}
 use Rattle.gix_ref_transaction.proofs.edit.take_lock.Goals as goal
@@ -8,7 +9,7 @@ pub returns-then-is_ready-clause-answer : goal.returns-then-is_ready-clause-answ
 returns-then-is_ready-clause-answer g c h =
     let before = g.F.Files.means c.args.files.now in
     let after = g.F.Files.means c.create.new.files in
-    if_ok c.create.result (makes before.tree c.args.lock.now (c.requires.ready h c.if-is_ready.true) after.tree) (c.create.ensures.answer h)
+    if_either c.create.result (makes before.tree c.args.lock.now (c.requires.ready h c.if-is_ready.true) after.tree) (λ error same. inl same) (c.create.ensures.answer h)
 
 pub returns-then-is_ready-clause-leaves : goal.returns-then-is_ready-clause-leaves
 returns-then-is_ready-clause-leaves g c h =

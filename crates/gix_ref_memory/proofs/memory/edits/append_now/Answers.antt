@@ -25,11 +25,14 @@ returns-in_ok-push-in-Some-FileOf-clause-passes c =
     let at : c.in_ok-path-in-Some-FileOf.path.items ≡ c.args.path.now = search rules in
     let is : c.extend_from_slice.new.self.items ≡ c.in-Some-FileOf.old.now ++ c.args.bytes.now = search rules in
     let stood : Some (File c.in-Some-FileOf.old.now) ≡ after_changes c.args.changes.now.items no_tree c.args.path.now = search rules in
-    (append_more _ _ _ _ _ _ _ _ at is refl stood c.in_ok-push-in-Some-FileOf.ensures.items).passes
+    record {
+      passes = (append_more _ _ _ _ _ _ _ _ at is refl stood c.in_ok-push-in-Some-FileOf.ensures.items).passes;
+      adds = append_adds _ _ _ _ _ _ _ _ at is refl stood c.in_ok-push-in-Some-FileOf.ensures.items;
+    }
 
 pub returns-in_err-push-in-Some-FileOf-clause-passes : goal.returns-in_err-push-in-Some-FileOf-clause-passes
 returns-in_err-push-in-Some-FileOf-clause-passes c =
-    same_changes c.args.changes.now.items c.push.new.self.items _ c.in_err-push-in-Some-FileOf.ensures.items (inl refl)
+    record { passes = same_changes c.args.changes.now.items c.push.new.self.items _ c.in_err-push-in-Some-FileOf.ensures.items (inl refl); adds = search rules }
 
 pub returns-in_ok-push-in-Some-FileOf-clause-shape : goal.returns-in_ok-push-in-Some-FileOf-clause-shape
 returns-in_ok-push-in-Some-FileOf-clause-shape c shape =
@@ -39,19 +42,18 @@ returns-in_ok-push-in-Some-FileOf-clause-shape c shape =
     let grown = (append_more _ _ _ _ _ _ _ _ at is refl stood c.in_ok-push-in-Some-FileOf.ensures.items).tree_is in
     subst IsShaped (sym grown) (shaped_file (after_changes c.args.changes.now.items no_tree) c.args.path.now _ shape (ap is_file (sym stood)))
 
-pub returns-in_ok-push-in-Some-FileOf-clause-adds : goal.returns-in_ok-push-in-Some-FileOf-clause-adds
-returns-in_ok-push-in-Some-FileOf-clause-adds c =
-    let at : c.in_ok-path-in-Some-FileOf.path.items ≡ c.args.path.now = search rules in
-    let is : c.extend_from_slice.new.self.items ≡ c.in-Some-FileOf.old.now ++ c.args.bytes.now = search rules in
-    let stood : Some (File c.in-Some-FileOf.old.now) ≡ after_changes c.args.changes.now.items no_tree c.args.path.now = search rules in
-    append_adds _ _ _ _ _ _ _ _ at is refl stood c.in_ok-push-in-Some-FileOf.ensures.items
-
-pub returns-in_default-clause-adds : goal.returns-in_default-clause-adds
-returns-in_default-clause-adds c =
+pub returns-in_default-clause-passes : goal.returns-in_default-clause-passes
+returns-in_default-clause-passes c =
     let none : is_file (after_changes c.args.changes.now.items no_tree c.args.path.now) ≡ false = search rules in
-    nothing_adds c.args.changes.now.items c.args.changes.now.items c.args.path.now c.args.bytes.now none refl
+    record {
+      passes = same_changes c.args.changes.now.items c.args.changes.now.items _ refl (inl refl);
+      adds = nothing_adds c.args.changes.now.items c.args.changes.now.items c.args.path.now c.args.bytes.now none refl;
+    }
 
-pub returns-in_default-2-clause-adds : goal.returns-in_default-2-clause-adds
-returns-in_default-2-clause-adds c =
+pub returns-in_default-2-clause-passes : goal.returns-in_default-2-clause-passes
+returns-in_default-2-clause-passes c =
     let none : is_file (after_changes c.args.changes.now.items no_tree c.args.path.now) ≡ false = search rules in
-    nothing_adds c.args.changes.now.items c.args.changes.now.items c.args.path.now c.args.bytes.now none refl
+    record {
+      passes = same_changes c.args.changes.now.items c.args.changes.now.items _ refl (inl refl);
+      adds = nothing_adds c.args.changes.now.items c.args.changes.now.items c.args.path.now c.args.bytes.now none refl;
+    }

@@ -7,7 +7,7 @@ use Rattle.gix_ref_memory.proofs.Leaving.{appends_done}
 use Rattle.gix_ref_memory.proofs.memory.edits.append_some.Goals as goal
 
 pub returns-clause-passes : goal.returns-clause-passes
-returns-clause-passes c = append_part _ _ (disk c.args.changes.now.items) c.args.path.now c.args.bytes.now _ c.append_now.ensures.passes
+returns-clause-passes c = append_part _ _ (disk c.args.changes.now.items) c.args.path.now c.args.bytes.now _ c.append_now.ensures.passes.passes
 
 pub returns-clause-done : goal.returns-clause-done
 returns-clause-done c =

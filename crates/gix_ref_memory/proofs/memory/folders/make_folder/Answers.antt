@@ -9,11 +9,6 @@ use Rattle.gix_ref_files.proofs.Puts.{shaped_put}
 use Rattle.gix_ref_memory.proofs.Grows.{put_more, disk}
 use Rattle.gix_ref_memory.proofs.memory.folders.make_folder.Goals as goal
 
-pub returns-clause-made : goal.returns-clause-made
-returns-clause-made c =
-    let at : c.in_ok-path.path.items ≡ c.args.path.now = search rules in
-    (put_more _ _ _ _ _ _ _ _ (tt {0}) at refl c.in_ok-push.ensures.items).tree_is
-
 pub returns-clause-shape : goal.returns-clause-shape
 returns-clause-shape c below shape =
     let at : c.in_ok-path.path.items ≡ c.args.path.now = search rules in
@@ -41,12 +36,13 @@ no_bytes : (synced : Bool) (D : Disk) (p : Path) → with_item_as synced D p (re
 no_bytes true D p = refl
 no_bytes false D p = refl
 
-pub returns-clause-disk : goal.returns-clause-disk
-returns-clause-disk c =
+pub returns-clause-made : goal.returns-clause-made
+returns-clause-made c =
     let D = disk c.args.changes.now.items in
     let at : c.in_ok-path.path.items ≡ c.args.path.now = search rules in
     let free : is_folder (D.tree c.args.path.now) ≡ false = search rules in
-    (put_more _ _ _ _ _ _ _ _ (tt {0}) at refl c.in_ok-push.ensures.items).disk_is ∙ (no_bytes c.args.synced D c.args.path.now ∙ made_new c.args.synced D c.args.path.now free)
+    let grown = put_more _ _ _ _ _ _ _ _ (tt {0}) at refl c.in_ok-push.ensures.items in
+    record { tree = grown.tree_is; disk = grown.disk_is ∙ (no_bytes c.args.synced D c.args.path.now ∙ made_new c.args.synced D c.args.path.now free) }
 
 pub returns-clause-passes : goal.returns-clause-passes
 returns-clause-passes c =
@@ -57,8 +53,8 @@ returns-clause-passes c =
     passes_weaken (put_more _ _ _ _ _ _ _ _ (tt {0}) at refl c.in_ok-push.ensures.items).passes
     (λ E. ⊎_elim (λ before. inl before) (λ made. inr (tt {0}, made.1 ∙ same)))
 
-pub returns-then-is_folder_at-clause-disk : goal.returns-then-is_folder_at-clause-disk
-returns-then-is_folder_at-clause-disk c =
+pub returns-then-is_folder_at-clause-made : goal.returns-then-is_folder_at-clause-made
+returns-then-is_folder_at-clause-made c =
     let D = disk c.args.changes.now.items in
     let there : is_folder (D.tree c.args.path.now) ≡ true = search rules in
-    made_old c.args.synced D c.args.path.now there
+    record { tree = search rules; disk = made_old c.args.synced D c.args.path.now there }

@@ -1,5 +1,5 @@
 //! A commit from its decisions to the release of its locks, from a store.
-ghost use Rattle.std.specs.Prelude.{◌≡◌, IfOk, IfErr};
+ghost use Rattle.std.specs.Prelude.{◌≡◌, MatchResult};
 ghost use Rattle.gix_ref_transaction.specs.LeftLocks.{HasRoom};
 ghost use Rattle.gix_ref_transaction.specs.OwnLocks.{paths_of};
 ghost use Rattle.gix_ref_store.specs.CommitOutcomes.{HasSucceeded, HasEndedEarly, EveryMomentIsSafe, KeepsTheRest};
@@ -30,10 +30,11 @@ impl<F: Files> Store<F> {
         remains: Remains,
     ) -> Result<Remains, Failure<Error>>
         requires room { HasRoom edits remains }
-        ensures committed { IfOk result (λ r. HasSucceeded F.honest F.means F.faults self.old
-            self.new committer.entry packed edits.items r.edits.items (paths_of r.left.items)) }
-        ensures failed { IfErr result (λ e. HasEndedEarly F.honest F.means F.faults self.old
-            self.new committer.entry packed edits.items e.error) }
+        ensures ended { MatchResult result
+            (λ r. HasSucceeded F.honest F.means F.faults self.old self.new committer.entry packed
+            edits.items r.edits.items (paths_of r.left.items))
+            (λ e. HasEndedEarly F.honest F.means F.faults self.old self.new committer.entry packed
+            edits.items e.error) }
         ensures safe { EveryMomentIsSafe F.honest F.means F.faults self.old self.new committer.entry
             packed edits.items (left_in result) }
         ensures kept { KeepsTheRest F.honest F.means F.faults self.old self.new committer.entry

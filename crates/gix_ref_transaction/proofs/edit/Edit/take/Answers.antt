@@ -23,7 +23,7 @@ returns-in-Ok-Made-clause-takes g c =
     record {
       leaves = λ h. weaken (c.take_lock.ensures.leaves h) (acquiring_adds (g.F.Files.means c.args.files.now).tree place (lock_of place) refl);
       passes = c.take_lock.ensures.passes;
-      no_fewer = fewer_after c.take_lock.result _ _ c.take_lock.ensures.count;
+      no_fewer = fewer_after c.take_lock.result _ _ c.take_lock.ensures.count.0;
     }
 
 pub returns-in-Ok-Standing-clause-refused : goal.returns-in-Ok-Standing-clause-refused
@@ -44,7 +44,7 @@ returns-in-Ok-Standing-clause-takes g c =
     record {
       leaves = λ h. weaken (c.take_lock.ensures.leaves h) (acquiring_adds (g.F.Files.means c.args.files.now).tree place (lock_of place) refl);
       passes = c.take_lock.ensures.passes;
-      no_fewer = fewer_after c.take_lock.result _ _ c.take_lock.ensures.count;
+      no_fewer = fewer_after c.take_lock.result _ _ c.take_lock.ensures.count.0;
     }
 
 pub returns-in-Ok-Blocked-clause-refused : goal.returns-in-Ok-Blocked-clause-refused
@@ -65,7 +65,7 @@ returns-in-Ok-Blocked-clause-takes g c =
     record {
       leaves = λ h. weaken (c.take_lock.ensures.leaves h) (acquiring_adds (g.F.Files.means c.args.files.now).tree place (lock_of place) refl);
       passes = c.take_lock.ensures.passes;
-      no_fewer = fewer_after c.take_lock.result _ _ c.take_lock.ensures.count;
+      no_fewer = fewer_after c.take_lock.result _ _ c.take_lock.ensures.count.0;
     }
 
 pub returns-in-Err-clause-refused : goal.returns-in-Err-clause-refused
@@ -73,7 +73,7 @@ returns-in-Err-clause-refused g c =
     let place = c.args.self.now.lock in
     record {
       cause = search rules;
-      kept = λ h. readying_adds (g.F.Files.means c.args.files.now).tree place (lock_of place) refl (g.F.Files.means c.take_lock.new.files).tree (c.in-Err.ensures.failed h);
+      kept = λ h. readying_adds (g.F.Files.means c.args.files.now).tree place (lock_of place) refl (g.F.Files.means c.take_lock.new.files).tree (c.in-Err.ensures.answer h);
       counted = search rules;
     }
 
@@ -83,5 +83,5 @@ returns-in-Err-clause-takes g c =
     record {
       leaves = λ h. weaken (c.take_lock.ensures.leaves h) (acquiring_adds (g.F.Files.means c.args.files.now).tree place (lock_of place) refl);
       passes = c.take_lock.ensures.passes;
-      no_fewer = fewer_after c.take_lock.result _ _ c.take_lock.ensures.count;
+      no_fewer = fewer_after c.take_lock.result _ _ c.take_lock.ensures.count.0;
     }

@@ -9,5 +9,5 @@ returns-in_err-kind-clause-refused g c =
     rw (told.1, told.2) (record {
       cause = search rules;
       kept = search rules;
-      counted = told_fault _ _ _ c.in_err-kind.ensures.count;
+      counted = told_fault _ _ _ c.in_err-kind.ensures.count.0;
     })

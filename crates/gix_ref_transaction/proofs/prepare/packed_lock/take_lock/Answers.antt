@@ -40,7 +40,7 @@ pub returns-in-Made-clause-takes : goal.returns-in-Made-clause-takes
 returns-in-Made-clause-takes g c = record {
   leaves = λ h. weaken (c.take_lock.ensures.leaves h) (acquiring_adds (g.F.Files.means c.args.files.now).tree c.args.lock (lock_of c.args.lock) refl);
   passes = c.take_lock.ensures.passes;
-  no_fewer = fewer_after c.take_lock.result _ _ c.take_lock.ensures.count;
+  no_fewer = fewer_after c.take_lock.result _ _ c.take_lock.ensures.count.0;
 }
 
 pub returns-in-Standing-clause-refused : goal.returns-in-Standing-clause-refused
@@ -57,7 +57,7 @@ pub returns-in-Standing-clause-takes : goal.returns-in-Standing-clause-takes
 returns-in-Standing-clause-takes g c = record {
   leaves = λ h. weaken (c.take_lock.ensures.leaves h) (acquiring_adds (g.F.Files.means c.args.files.now).tree c.args.lock (lock_of c.args.lock) refl);
   passes = c.take_lock.ensures.passes;
-  no_fewer = fewer_after c.take_lock.result _ _ c.take_lock.ensures.count;
+  no_fewer = fewer_after c.take_lock.result _ _ c.take_lock.ensures.count.0;
 }
 
 pub returns-in_err-take_lock-clause-refused : goal.returns-in_err-take_lock-clause-refused
@@ -65,13 +65,13 @@ returns-in_err-take_lock-clause-refused g c =
     let told = err_from_is_err_and c.from_residual.result c.from_residual.ensures.1 in
     rw (told.1, told.2) (record {
       cause = search rules;
-      kept = λ h. readying_adds (g.F.Files.means c.args.files.now).tree c.args.lock (lock_of c.args.lock) refl (g.F.Files.means c.take_lock.new.files).tree (c.in_err-take_lock.ensures.failed h);
-      counted = told_fault _ _ _ c.in_err-take_lock.ensures.count;
+      kept = λ h. readying_adds (g.F.Files.means c.args.files.now).tree c.args.lock (lock_of c.args.lock) refl (g.F.Files.means c.take_lock.new.files).tree (c.in_err-take_lock.ensures.answer h);
+      counted = told_fault _ _ _ c.in_err-take_lock.ensures.count.0;
     })
 
 pub returns-in_err-take_lock-clause-takes : goal.returns-in_err-take_lock-clause-takes
 returns-in_err-take_lock-clause-takes g c = record {
   leaves = λ h. weaken (c.take_lock.ensures.leaves h) (acquiring_adds (g.F.Files.means c.args.files.now).tree c.args.lock (lock_of c.args.lock) refl);
   passes = c.take_lock.ensures.passes;
-  no_fewer = fewer_after c.take_lock.result _ _ c.take_lock.ensures.count;
+  no_fewer = fewer_after c.take_lock.result _ _ c.take_lock.ensures.count.0;
 }

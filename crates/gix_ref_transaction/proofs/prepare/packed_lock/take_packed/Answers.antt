@@ -43,7 +43,7 @@ pub returns-in_err-kind-clause-takes : goal.returns-in_err-kind-clause-takes
 returns-in_err-kind-clause-takes g c = record {
   leaves = λ h. weaken (c.kind.ensures.leaves h) (λ R is q. inl (ap (λ (U : Tree). U q) is));
   passes = λ h locked staying first own here. passes_weaken (c.kind.ensures.passes h) (λ (E : Disk) is. subst (IsAsBefore locked staying first) (sym is) here);
-  no_fewer = fewer_after c.kind.result _ _ c.kind.ensures.count;
+  no_fewer = fewer_after c.kind.result _ _ c.kind.ensures.count.0;
 }
 
 pub take_lock-requires : goal.take_lock-requires
@@ -107,7 +107,7 @@ returns-then-may_change-clause-refused g c =
           (λ there. inr (in_the_way s mode T edits asks (may h) lock at e (subst (λ (R : Tree). IsInTheWay R (lock_of lock)) (same h) there.0) there.1)) (why.cause h);
       kept = λ h. subst (λ (l : List Path). AddsLocks [] l T (F.means new).tree) (ap (map lock_of) (due_taken s mode T edits asks (may h)))
           (subst (λ (p : Path). AddsLocks [] (lock_of p ∷ []) T (F.means new).tree) at (subst (λ (R : Tree). AddsLocks [] (lock_of lock ∷ []) R (F.means new).tree) (same h) (why.kept h)));
-      counted = subst (λ n. IsCounted n (F.faults new) e) c.in_ok-kind.ensures.count why.counted;
+      counted = subst (λ n. IsCounted n (F.faults new) e) c.in_ok-kind.ensures.count.0 why.counted;
     }) c.take_lock.ensures.refused
 
 pub returns-then-may_change-clause-takes : goal.returns-then-may_change-clause-takes
@@ -136,7 +136,7 @@ returns-then-may_change-clause-takes g c =
           let mine : IsOwnLock locked (lock_of lock) = own (lock_of lock) (subst (λ (l : List Path). is_in l (lock_of lock) ≡ true) (locks h) (in_here (lock_of s.packed_path) (lock_of lock) [] (ap lock_of (sym at)))) in
           passes_joins (passes_weaken (c.kind.ensures.passes h) (λ (E : Disk) is. subst (IsAsBefore locked staying first) (sym is) here))
           (passes_weaken (takes.passes h) (λ (E : Disk) found. locking_as_before locked staying first _ E lock mine (subst (IsAsBefore locked staying first) (sym still) here) found));
-      no_fewer = no_fewer_joins (fewer_same _ _ c.in_ok-kind.ensures.count) takes.no_fewer;
+      no_fewer = no_fewer_joins (fewer_same _ _ c.in_ok-kind.ensures.count.0) takes.no_fewer;
     }
 
 pub returns-else-may_change-clause-taken : goal.returns-else-may_change-clause-taken
@@ -179,7 +179,7 @@ returns-else-may_change-clause-refused g c =
       cause = λ h. ⊎_elim (λ outside. inl outside)
           (λ there. inr (something_there s mode T edits asks (due h ∙ c.if-may_change.false) lock at e (subst (λ (R : Tree). IsSome (R (lock_of lock))) (same h) there.0) there.1)) (why.cause h);
       kept = λ h q. inl (ap (λ (U : Tree). U q) ((reads.leaves h).tree ∙ same h));
-      counted = subst (λ n. IsCounted n (F.faults new) e) c.in_ok-kind.ensures.count why.counted;
+      counted = subst (λ n. IsCounted n (F.faults new) e) c.in_ok-kind.ensures.count.0 why.counted;
     }) c.refuse_stale_lock.ensures.refused
 
 pub returns-else-may_change-clause-takes : goal.returns-else-may_change-clause-takes
@@ -204,7 +204,7 @@ returns-else-may_change-clause-takes g c =
           let still = (c.kind.ensures.passes h).disk in
           passes_joins (passes_weaken (c.kind.ensures.passes h) (λ (E : Disk) is. subst (IsAsBefore locked staying first') (sym is) here))
           (passes_weaken (reads.passes h) (λ (E : Disk) is. subst (IsAsBefore locked staying first') (sym (is ∙ still)) here));
-      no_fewer = no_fewer_joins (fewer_same _ _ c.in_ok-kind.ensures.count) reads.no_fewer;
+      no_fewer = no_fewer_joins (fewer_same _ _ c.in_ok-kind.ensures.count.0) reads.no_fewer;
     }
 
 pub returns-in_err-kind-clause-refused : goal.returns-in_err-kind-clause-refused
@@ -213,5 +213,5 @@ returns-in_err-kind-clause-refused g c =
     rw (told.1, told.2) (record {
       cause = search rules;
       kept = search rules;
-      counted = told_fault _ _ _ c.in_err-kind.ensures.count;
+      counted = told_fault _ _ _ c.in_err-kind.ensures.count.0;
     })

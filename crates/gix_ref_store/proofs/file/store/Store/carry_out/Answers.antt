@@ -37,8 +37,8 @@ left_over : (left : Vec (Vec ℕ Global) Global) (a b d e : FaultCounts) → NoF
 left_over left a b d e before rose after =
     risen_by_paths left.items a e (subst (λ n. HasRisenBy n a e) (omega (arith, left.ok)) (risen_by_before (vec_len left) a b e before (risen_by_on (vec_len left) b d e after rose)))
 
-pub returns-in-Err-clause-failed : goal.returns-in-Err-clause-failed
-returns-in-Err-clause-failed g c =
+pub returns-in-Err-clause-ended : goal.returns-in-Err-clause-ended
+returns-in-Err-clause-ended g c =
     let F = g.F.Files in
     let start = c.args.self.now in
     let new = with_files c.decide.new.self c.release_all-remains.new.files in
@@ -93,8 +93,8 @@ failure-requires g c =
     (all_of_edits F.honest c.decide.new.self.dirs ran.items c.args.packed c.in-Ok.decided.rewrite c.in-Ok.decided.ways.items (F.means c.decide.new.self.files).tree (F.means c.publish.new.self.files).tree c.in-Err-publish.unfinished
     (rw c.deref-2.ensures.value at (rw c.deref.ensures.value at c.in-Err-publish.ensures.stopped.ended)))
 
-pub returns-in-Err-publish-clause-failed : goal.returns-in-Err-publish-clause-failed
-returns-in-Err-publish-clause-failed g c =
+pub returns-in-Err-publish-clause-ended : goal.returns-in-Err-publish-clause-ended
+returns-in-Err-publish-clause-ended g c =
     let F = g.F.Files in
     let start = c.args.self.now in
     let new = with_files c.publish.new.self c.remove_empty_folders.new.files in
@@ -355,8 +355,8 @@ returns-clause-kept g c =
           (no_fewer_joins c.decide.ensures.fills.no_fewer c.publish.ensures.runs.no_fewer) c.release_all-released.ensures.named.named c.remove_empty_folders-2.ensures.no_fewer;
     }
 
-pub returns-clause-committed : goal.returns-clause-committed
-returns-clause-committed g c =
+pub returns-clause-ended : goal.returns-clause-ended
+returns-clause-ended g c =
     let F = g.F.Files in
     let start = c.args.self.now in
     let held = c.args.edits.items in

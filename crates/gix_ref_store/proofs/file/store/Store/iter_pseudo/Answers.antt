@@ -10,7 +10,7 @@ returns-in-Ok g c = (
   record {
     rests = _;
     same_reference = refl;
-    looks_up = record {
+    made = record {
       leaves = c.in-Ok.ensures.looks.leaves;
       passes = c.in-Ok.ensures.looks.passes;
       same = record { dirs = refl; namespace = refl; of_kind = refl; reflogs = refl; composes = refl; prohibits = refl; threshold = refl };
@@ -25,6 +25,5 @@ returns-in-Ok g c = (
           runs = each_run g.F.Files.honest g.F.Files.means g.F.Files.faults c.args.self.now _ found.listed h refl (ap view_of (c.in-Ok.ensures.looks.leaves h).tree) found.yet
               (all_pseudo_there (settings_of c.args.self.now) (view_in g.F.Files.means c.args.self.now) found.listed found.is.only);
         };
-    memory = _;
   },
 )

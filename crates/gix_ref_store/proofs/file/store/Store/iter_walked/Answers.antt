@@ -7,7 +7,7 @@ use Rattle.gix_ref_store.specs.Listings.{walked_prefix}
 use Rattle.gix_ref_store.specs.Lookup.{settings_of, view_in}
 use Rattle.gix_ref_store.specs.Store.{files_of}
 use Rattle.gix_ref_store.proofs.ListingRuns.{all_there, each_run, same_settings}
-use Rattle.gix_ref_store.proofs.CompleteListings.{lacks_none}
+use Rattle.gix_ref_store.proofs.CompleteListings.{follows_text}
 use Rattle.gix_ref_store.proofs.file.store.Store.iter_walked.Goals as goal
 
 pub returns-in-Ok : goal.returns-in-Ok
@@ -17,7 +17,7 @@ returns-in-Ok g c = (
     rests = _;
     same_reference = refl;
     same = refl;
-    looks_up = record {
+    made = record {
       leaves = λ h. starts (g.F.Files.means c.args.self.now.files) _ refl;
       passes = λ h. passes_starts (g.F.Files.means c.args.self.now.files) _ refl;
       same = record { dirs = refl; namespace = refl; of_kind = refl; reflogs = refl; composes = refl; prohibits = refl; threshold = refl };
@@ -45,8 +45,7 @@ returns-in-Ok g c = (
         let same = same_settings start store walked.looks_up.same in
         let before = F.faults (files_of start) in
         let now = F.faults (files_of store) in
-        lacks_none F.honest F.means F.faults (settings_of store) text _ refl
+        follows_text F.honest F.means F.faults (settings_of store) text _ refl
         (c.in-Ok.ensures.owes (view_in F.means start) before now (subst (λ (x : Settings). IsWalkOf x (view_in F.means start) before now c.args.names) same walked.walk) text of);
-    memory = _;
   },
 )

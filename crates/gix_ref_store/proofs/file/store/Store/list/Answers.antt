@@ -2,7 +2,7 @@ use Rattle.std.proofs.Common.{refl, ap}
 use Rattle.gix_ref_theory.specs.OnRealTrees.{view_of}
 use Rattle.gix_ref_store.specs.Lookup.{settings_of, view_in}
 use Rattle.gix_ref_store.proofs.ListingRuns.{all_there, each_run}
-use Rattle.gix_ref_store.proofs.CompleteListings.{lacks_none}
+use Rattle.gix_ref_store.proofs.CompleteListings.{follows_text}
 use Rattle.gix_ref_store.proofs.file.store.Store.list.Goals as goal
 
 pub returns-in-Ok : goal.returns-in-Ok
@@ -11,7 +11,7 @@ returns-in-Ok g c = (
   record {
     rests = _;
     same_reference = refl;
-    looks_up = record {
+    made = record {
       leaves = c.in-Ok.ensures.looks.leaves;
       passes = c.in-Ok.ensures.looks.passes;
       same = record { dirs = refl; namespace = refl; of_kind = refl; reflogs = refl; composes = refl; prohibits = refl; threshold = refl };
@@ -27,7 +27,6 @@ returns-in-Ok g c = (
               (all_there (settings_of c.args.self.now) (view_in g.F.Files.means c.args.self.now) records c.args.prefix.now found.listed found.is.only);
         };
     complete = λ h text of.
-        lacks_none g.F.Files.honest g.F.Files.means g.F.Files.faults (settings_of c.args.self.now) text _ refl (c.in-Ok.ensures.owes h text of);
-    memory = _;
+        follows_text g.F.Files.honest g.F.Files.means g.F.Files.faults (settings_of c.args.self.now) text _ refl (c.in-Ok.ensures.owes h text of);
   },
 )
