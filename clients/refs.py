@@ -7,7 +7,7 @@
             edits.update("refs/heads/a", new_id, old=old_id)
             edits.delete("refs/heads/b")
             edits.prepare()     # all locks are held from here on: look, vote, and raise to give it up
-        # here all of them are made, or an exception says why none is
+        # here all of them are made; else an exception says why: none is, or after a commit that failed some may be
 
 Names are str or bytes, ids hex digits. `librefs.so`, which `clients/build FOLDER` makes, is looked for beside this file, or where the
 environment's REFS_LIBRARY says.
@@ -43,7 +43,7 @@ def _some(new):
 
 
 class Refused(Exception):
-    """Why a transaction was not made, as `refs-session` says it. No reference has changed, unless it says so of a commit."""
+    """Why a transaction was not made, as `refs-session` says it. No reference has changed, except where the commit itself failed."""
 
 
 class _Run:

@@ -5,7 +5,8 @@
 //!   of following and peeling references.
 //! - `packed`, `log`, `raw`, `actor`: `packed-refs`, reflogs, references as values, and signatures.
 //! - `object`: objects, and finders of objects.
-//! - `files`: the file system that a store is over, with `Disk` for the disk and `Memory` for tests; `lock`: lock files.
+//! - `files`: the file system that a store is over, with `Disk` for the disk and `Memory` for tests; `lock`: lock files; `steps`: runs of
+//!   steps with their syncs.
 //! - `pack`: packing of loose references.
 //! - `layout`: where a name is kept; `theorems`: what is proved of definitions alone, and `theorems::read_back`: what a store reads
 //!   after a transaction.
