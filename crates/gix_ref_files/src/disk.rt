@@ -35,7 +35,7 @@ pub struct Disk {
     syncs: bool,
     made: Option<MadeFile>,
     folder: Option<Vec<u8>>,
-    seen: Option<String>,
+    seen: String,
 }
 
 /// A file that was made and is open.
@@ -91,13 +91,14 @@ impl Disk {
     /// let store = Store::at(files, b".git".to_vec(alloc)?, Kind::Sha1)?;
     /// ```
     pub fn new(rt: HostRuntime) -> Self {
+        let seen = String::new(rt.alloc());
         Disk {
             rt,
             faults: Faults::new(),
             syncs: true,
             made: None,
             folder: None,
-            seen: None,
+            seen,
         }
     }
 
@@ -110,13 +111,14 @@ impl Disk {
     /// let files = Disk::without_syncs(rt.clone()?); // for tests, and for repositories that can be fetched again
     /// ```
     pub fn without_syncs(rt: HostRuntime) -> Self {
+        let seen = String::new(rt.alloc());
         Disk {
             rt,
             faults: Faults::new(),
             syncs: false,
             made: None,
             folder: None,
-            seen: None,
+            seen,
         }
     }
 }
@@ -226,12 +228,12 @@ impl Files for Disk {
 
     /// One system call.
     fn kind(&mut self, path: &[u8]) -> Result<Node, FileError> {
-        self.seen = None;
+        self.seen.clear();
         let path = text_of(&mut self.faults, path)?;
         match fs::metadata(&self.rt, path) {
             Ok(about) => {
-                if about.is_file() {
-                    self.seen = String::from_str(self.rt.alloc(), path).ok();
+                if about.is_file() && self.seen.push_str(path).is_err() {
+                    self.seen.clear();
                 }
                 Ok(node_of(&about))
             }
@@ -334,10 +336,8 @@ impl Files for Disk {
     fn append(&mut self, path: &[u8], bytes: &[u8]) -> Result<bool, FileError> {
         let appended = match &mut self.made {
             Some(made) if made.path.as_bytes() == path => write_to(&mut made.file, bytes),
-            _ => match self.seen.take() {
-                Some(seen) if seen.as_bytes() == path => append_to_seen(&self.rt, &seen, bytes),
-                _ => append_to(&self.rt, text_of(&mut self.faults, path)?, bytes),
-            },
+            _ if self.seen.as_bytes() == path => append_to_seen(&self.rt, &self.seen, bytes),
+            _ => append_to(&self.rt, text_of(&mut self.faults, path)?, bytes),
         };
         match appended {
             Ok(appended) => Ok(appended),

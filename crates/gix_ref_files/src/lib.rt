@@ -4,8 +4,8 @@
 //!
 //! - for honest files: each call's answer by the tree, the tree afterwards for every answer, and exactly what a stop could have
 //!   left: each call of the trait `Files`
-//! - for honest files: which disks a stop or a loss of power in a call finds, and the disk after each answer; what `sync_file`
-//!   and `sync_folder` make sure of: the same, clauses `passes`, `disk`, `adds_disks`
+//! - for honest files: which disks a stop or a loss of power in a call finds, and the disk after each answer: the same, clauses
+//!   `passes`, `disk`, `adds_disks`; what `sync_file` and `sync_folder` make sure of: clause `answer` of these
 //! - what a loss of power leaves: a well formed tree; of a settled disk all files but locks; what a stop leaves, or less; syncs
 //!   only make sure; a climb settles its path; two wrong orders refuted: `theorems::losses_of_power`
 //! - for all files: which faults are counted, each by its kind, who can return `Memory`, what a buffer holds: the same, and

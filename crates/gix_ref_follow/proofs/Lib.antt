@@ -1,3 +1,4 @@
 pub mod Chains
+pub mod Peels
 pub mod Steps
 pub mod Stores

@@ -1,6 +1,7 @@
 -- One step of a following, and what it leaves of the rest.
-use Rattle.std.proofs.Common.{◌≡◌, ◌≤◌, ◌+◌, ℕ, suc, List, [], ◌∷◌, ◌++◌, Option, Some, None, Result, Ok, Err, Bool, true, false, if◌then◌else◌, ◌||◌, bytes_eq, MatchResult, IfErr, IfOk, OnOk, arith, refl, sym, ◌∙◌, ap, subst}
+use Rattle.std.proofs.Common.{◌≡◌, ◌⊎◌, inl, inr, ⊎_elim, ◌≤◌, ◌+◌, ℕ, suc, List, [], ◌∷◌, ◌++◌, Option, Some, None, Result, Ok, Err, Bool, true, false, if◌then◌else◌, ◌||◌, bytes_eq, MatchResult, IfErr, IfOk, OnOk, arith, refl, sym, ◌∙◌, ap, subst}
 use Rattle.std.specs.List.{list_any}
+use Rattle.std.proofs.lemmas.Slice.Eq.{bytes_eq-Decides}
 use Rattle.gix_ref_hash.specs.declared.hash.ObjectId.{ObjectId}
 use Rattle.gix_ref_name.specs.Names.{full_bytes, partial_bytes}
 use Rattle.gix_ref_target.specs.Targets.{TargetValue, target_value, target_id}
@@ -48,15 +49,9 @@ on_ok (Ok a) f p = f p
 on_ok (Err e) f p = tt
 
 -- the name of a target that was looked up
-pub symbolic_of : (t : TargetValue) (Bound : List ℕ → Missing → Type 0) (error : Missing) → OfStep t (λ name r. IfErr r (Bound name)) (Some (Err error)) →
-    (x : List ℕ) × (t ≡ symbolic_name x) × Bound x error
-symbolic_of (object_id id) Bound error is = absurd is
-symbolic_of (symbolic_name name) Bound error is = (name, refl, is)
-
-pub hit_of : (t : TargetValue) (Hits : List ℕ → Reference → Type 0) (next : Reference) → OfStep t (λ name r. IfOk r (Hits name)) (Some (Ok next)) →
-    (x : List ℕ) × (t ≡ symbolic_name x) × Hits x next
-hit_of (object_id id) Hits next is = absurd is
-hit_of (symbolic_name name) Hits next is = (name, refl, is)
+pub step_of : (t : TargetValue) (P : List ℕ → Result Reference Missing → Type 0) (r : Result Reference Missing) → OfStep t P (Some r) → (x : List ℕ) × (t ≡ symbolic_name x) × P x r
+step_of (object_id id) P r is = absurd is
+step_of (symbolic_name name) P r is = (name, refl, is)
 
 -- a lookup that finds the next reference is a step
 pub is_step : (find : HitsByName) (Miss : List ℕ → Missing → Type 0) (r next : Reference) (t : TargetValue) → target_value r.target ≡ t → OfStep t (FindsNext find Miss) (Some (Ok next)) → IsStep find (at_of r) (at_of next)
@@ -94,6 +89,22 @@ pub leads_more : {A : Type 0} (Step : A → A → Type 0) (steps : ℕ) (start b
 leads_more {A} Step steps start before end leads step =
     let more : suc steps ≡ steps + 1 = omega arith in
     subst (λ (n : ℕ). Leads Step n start end) more (before, leads, step)
+
+-- a name of these and one more
+pub one_of_more : (name n : List ℕ) (names : List (List ℕ)) → is_one_of name (names ++ n ∷ []) ≡ true → (is_one_of name names ≡ true) ⊎ (name ≡ n)
+one_of_more name n [] one = by (bytes_eq name n) refl one
+  where
+    by : (b : Bool) → bytes_eq name n ≡ b → (b || false) ≡ true → (false ≡ true) ⊎ (name ≡ n)
+    by true same one = inr ((bytes_eq-Decides name n).0 same)
+    by false other one = absurd (cc)
+one_of_more name n (x ∷ names) one = by (bytes_eq name x) refl one (λ more. one_of_more name n names more)
+  where
+    by : (b : Bool) → bytes_eq name x ≡ b → (b || is_one_of name (names ++ n ∷ [])) ≡ true → (is_one_of name (names ++ n ∷ []) ≡ true → (is_one_of name names ≡ true) ⊎ (name ≡ n)) → ((bytes_eq name x || is_one_of name names) ≡ true) ⊎ (name ≡ n)
+    by true same one later = inl (ap (λ c. c || is_one_of name names) same)
+    by false other one later = ⊎_elim
+        (λ (among : is_one_of name names ≡ true). inl (ap (λ c. c || is_one_of name names) other ∙ among))
+        (λ (same : name ≡ n). inr same)
+        (later one)
 
 -- a reference of a name that was reached leads back
 pub leads_back : (name : List ℕ) (names : List FullName) (place place' : List ℕ) (error : Error) → list_any (λ (n : FullName). bytes_eq name (full_bytes n)) names ≡ true → place ≡ place' →

@@ -1,7 +1,11 @@
 -- Lookups in a store after other lookups in it.
-use Rattle.std.proofs.Common.{◌≡◌, inl, inr, ℕ, Bool, ◌&&◌, List, [], ◌∷◌, sym, ◌∙◌, ap, subst}
+use Rattle.std.proofs.Common.{◌≡◌, inl, inr, ⊎_elim, ℕ, Bool, true, ◌&&◌, List, [], ◌∷◌, None, sym, ◌∙◌, ap, subst}
+use Rattle.std.specs.List.{AllByRecursion}
+use Rattle.std.specs.Prelude.{option_to_list}
 use Rattle.gix_ref_target.specs.PackedRecords.{Record}
+use Rattle.gix_ref_name.specs.Candidates.{candidates, remote_head}
 use Rattle.gix_ref_name.specs.Names.{full_bytes}
+use Rattle.gix_ref_packed_text.specs.Positions.{IsNotMalformed}
 use Rattle.gix_ref_files.specs.Files.{Meaning, FaultCounts}
 use Rattle.gix_ref_files.specs.Tree.{Tree}
 use Rattle.gix_ref_files.specs.declared.files.ReadAt.{Ghosts}
@@ -10,21 +14,30 @@ use Rattle.gix_ref_theory.specs.OnRealTrees.{view_of}
 use Rattle.gix_ref_theory.specs.Readings.{reading_among}
 use Rattle.gix_ref_theory.specs.Readings.Reading.{Absent}
 use Rattle.gix_ref_packed_text.specs.declared.raw.Reference.{Reference}
-use Rattle.gix_ref_lookup.specs.Lookups.{meaning_in, lookup_of, asked_names, AreAsked, AreStillAsked, IsHit, IsHitOf, name_asked, IsPassed, CandidateFails, FailsAt, FailsAmong}
+use Rattle.gix_ref_lookup.specs.Lookups.{AreHonest, meaning_in, lookup_of, asked_names, AreAsked, AreMissing, AreStillAsked, FindsNone, HasNoKey, IsHit, IsHitOf, IsMissing, name_asked, IsPassed, CandidateFails, FailsAt, FailsAmong, OfSearched, SearchesNone}
 use Rattle.gix_ref_lookup.specs.declared.settings.Settings.{Settings}
 use Rattle.gix_ref_lookup.specs.declared.find.error.Error.{Error as FindError}
 use Rattle.gix_ref_lookup.specs.declared.find.records.Records.{Records}
 use Rattle.gix_ref_lookup.specs.declared.find.existing.Error.{Error as Missing}
 use Rattle.gix_ref_lookup.specs.declared.find.existing.Error.TheVariants.{Find, NotFound}
 use Rattle.gix_ref_lookup.proofs.Looking.{packed_refs_at, fails_from, hit_from, among_wider, still_asked}
-use Rattle.gix_ref_store.specs.Lookup.{settings_of, composes_in, view_in, AreAskedIn, AreStillAskedIn, MissesIn, LooksUp}
+use Rattle.gix_ref_store.specs.Lookup.{settings_of, composes_in, view_in, AreAskedIn, AreStillAskedIn, IfNotFound, MissesIn, SeesNothing, LooksUp}
 use Rattle.gix_ref_store.specs.Store as stores
 use Rattle.gix_ref_store.specs.declared.file.store.Store.{Store}
-use Rattle.gix_ref_follow.specs.Followed.{finds_in, HitsNext, IsNotFollowed}
+use Rattle.gix_ref_follow.specs.Followed.{finds_in, HitsNext, IsNoStep, IsNotFollowed, IsReturn, WasPassed}
+use Rattle.gix_ref_follow.specs.Following.{is_one_of}
 use Rattle.gix_ref_follow.specs.declared.peel.to_object.Error.{Error}
 use Rattle.gix_ref_follow.specs.declared.peel.to_object.Error.TheVariants.{Follow, Cycle, DepthLimitExceeded, Memory}
 use Rattle.gix_ref_listing.specs.PlainSettings.{lent}
 use Rattle.gix_ref_store.proofs.SameStores.{same_on}
+
+all_wider : (P Q : List ℕ → Type 0) (names : List (List ℕ)) → ((n : List ℕ) → P n → Q n) → AllByRecursion P names → AllByRecursion Q names
+all_wider P Q [] wider all = tt
+all_wider P Q (n ∷ names) wider all = (wider n all.0, all_wider P Q names wider all.1)
+
+if_not_found : (error : Missing) (P Q : Type 0) → (P → Q) → IfNotFound error P → IfNotFound error Q
+if_not_found (NotFound n) P Q wider p = wider p
+if_not_found (Find error) P Q wider p = tt
 
 pub fails_wider : (Passed Passed' Fails Fails' : List ℕ → Type 0) (names : List (List ℕ)) → ((n : List ℕ) → Passed n → Passed' n) → ((n : List ℕ) → Fails n → Fails' n) →
     FailsAt Passed Fails names → FailsAt Passed' Fails' names
@@ -69,6 +82,15 @@ module _ {F : Type 0} (honest : Type 0) (means : F → Meaning) where
       ap (λ s. lookup_of (s.precompose_unicode && asks) (meaning_in s) (view_in means new) rs) (same_settings old new looked.same)
       ∙ ap (λ T. lookup_of (composes_in asks old) (stores.meaning_of old) (view_of T) rs) (looked.leaves h).tree
 
+module _ {F R : Type 0} {G : Ghosts R} (honest : Type 0) (means : F → Meaning) (faults : F → FaultCounts) (asks : Bool) (first mid new : Store F) (r : Records R G) (same : stores.IsSameStore first mid) where
+  -- a step that leads back to a name that was reached
+  pub no_step_back : (reached : List (List ℕ)) (at next : Reference) (error : Error) → (honest → AreHonest r → HitsNext means asks first r at next) →
+      IsReturn (full_bytes next.name) reached ((stores.meaning_of mid).place (full_bytes at.name)) error → IsNoStep honest means faults asks first new r reached at error
+  no_step_back reached at next (Cycle path) hit is = (is.1 ∙ same_place first mid (full_bytes at.name) same, λ h honest. (next, hit h honest, is.0))
+  no_step_back reached at next Memory hit is = tt
+  no_step_back reached at next (Follow error) hit is = absurd is
+  no_step_back reached at next (DepthLimitExceeded n) hit is = absurd is
+
 module _ {F R : Type 0} {G : Ghosts R} (honest : Type 0) (means : F → Meaning) (asks : Bool) (first mid : Store F) (r r' : Records R G) (looked : LooksUp honest means first mid) (still : honest → AreStillAskedIn means first r r') where
   abbrev T : Tree
   T = (means (stores.files_of first)).tree
@@ -108,6 +130,33 @@ module _ {F R : Type 0} {G : Ghosts R} (honest : Type 0) (means : F → Meaning)
         ),
       )
 
+  missing_on : honest → (name : List ℕ) → IsMissing (settings_of first) (view_of T') r' name → IsMissing (settings_of first) (view_of T) r name
+  missing_on h name missing =
+      let s = meaning_in (settings_of first) in
+      record {
+        loose = subst (λ (U : Tree). view_of U (s.place name) ≡ None) (same h) missing.loose;
+        packed = ⊎_elim
+            (λ (none : HasNoKey s name). inl none)
+            (λ (none : FindsNone (settings_of first).kind (view_of T' s.packed_path) r').
+            inr (⊎_elim
+            (λ (no_text : SearchesNone (view_of T s.packed_path) r'). inl ((still h).none no_text))
+            (λ (of : OfSearched (settings_of first).kind (view_of T s.packed_path) r' IsNotMalformed).
+            inr (record { of_kind = of.of_kind; text = of.text; searched = (still h).searched of.of_kind of.text of.searched; has = of.has }))
+            (subst (λ (U : Tree). FindsNone (settings_of first).kind (view_of U s.packed_path) r') (same h) none)))
+            missing.packed;
+      }
+
+  -- a lookup that sees nothing sees nothing from the first one on
+  pub nothing_on : honest → (name : List ℕ) → SeesNothing means asks mid r' name → SeesNothing means asks first r name
+  nothing_on h name nothing =
+      let composes = composes_in asks first in
+      let asked = name_asked composes name in
+      let of : AreMissing (settings_of first) (view_of T') r' asked = subst (λ (s : Settings). AreMissing s (view_of T') r' (name_asked (s.precompose_unicode && asks) name)) settled nothing in
+      record {
+        candidates = all_wider (IsMissing (settings_of first) (view_of T') r') (IsMissing (settings_of first) (view_of T) r) (candidates asked) (missing_on h) of.candidates;
+        head = subst (λ (U : Tree). AllByRecursion (λ n. view_of U ((meaning_in (settings_of first)).place n) ≡ None) (option_to_list (remote_head asked))) (same h) of.head;
+      }
+
   pub misses_on : (faults : F → FaultCounts) (new : Store F) (name : List ℕ) (error : Missing) → faults (stores.files_of mid) ≡ faults (stores.files_of first) →
       MissesIn honest means faults asks mid new r' name error → MissesIn honest means faults asks first new r name error
   misses_on faults new name (NotFound n) count why = why
@@ -116,9 +165,18 @@ module _ {F R : Type 0} {G : Ghosts R} (honest : Type 0) (means : F → Meaning)
       (fails_at_first honest (settings_of first) T T' r r' (faults (stores.files_of first)) (faults (stores.files_of mid)) (faults (stores.files_of new)) (asked_names (name_asked (composes_in asks first) name)) error same count still
       (subst (λ (s : Settings). FailsAmong honest s T' r' (faults (stores.files_of mid)) (faults (stores.files_of new)) (asked_names (name_asked (s.precompose_unicode && asks) name)) error) settled why))
 
-  pub not_followed_on : (faults : F → FaultCounts) (new : Store F) (at : Reference) (error : Error) → faults (stores.files_of mid) ≡ faults (stores.files_of first) →
-      IsNotFollowed honest means faults asks mid new r' at error → IsNotFollowed honest means faults asks first new r at error
-  not_followed_on faults new at (Follow error) count why = (why.0, why.1, misses_on faults new why.0 error count why.2)
-  not_followed_on faults new at (Cycle path) count why = why ∙ same_place first mid (full_bytes at.name) looked.same
-  not_followed_on faults new at (DepthLimitExceeded n) count why = why
-  not_followed_on faults new at Memory count why = tt
+  -- why a step is not made, once others were
+  pub not_followed_on : (faults : F → FaultCounts) (new : Store F) (start at : Reference) (reached : List (List ℕ)) (error : Error) → faults (stores.files_of mid) ≡ faults (stores.files_of first) →
+      (honest → AreHonest r → (name : List ℕ) → is_one_of name reached ≡ true → WasPassed means asks first r start name) → IsNoStep honest means faults asks mid new r' reached at error → IsNotFollowed honest means faults asks first new r start at error
+  not_followed_on faults new start at reached (Follow error) count passed why = (
+    why.0,
+    why.1,
+    misses_on faults new why.0 error count why.2,
+    λ h honest. if_not_found error (SeesNothing means asks mid r' why.0) (SeesNothing means asks first r why.0) (nothing_on h why.0) (why.3 h ((still h).readers honest)),
+  )
+  not_followed_on faults new start at reached (Cycle path) count passed why = (
+    why.0 ∙ same_place first mid (full_bytes at.name) looked.same,
+    λ h honest. let back = why.1 h ((still h).readers honest) in (back.0, hits_on h at back.0 back.1, passed h honest (full_bytes back.0.name) back.2),
+  )
+  not_followed_on faults new start at reached (DepthLimitExceeded n) count passed why = absurd why
+  not_followed_on faults new start at reached Memory count passed why = tt

@@ -1,5 +1,5 @@
 -- What following a reference in a store returns.
-use Rattle.std.specs.Prelude.{◌≡◌, ℕ, List, [], ◌∷◌, Option, Some, None, Result, Ok, Err, Bool, true, MatchResult, IfOk, IfErr}
+use Rattle.std.specs.Prelude.{◌≡◌, ℕ, suc, List, [], ◌∷◌, Option, Some, None, Result, Ok, Err, Bool, true, MatchResult, IfOk, IfErr}
 use Rattle.gix_ref_hash.specs.declared.hash.ObjectId.{ObjectId}
 use Rattle.gix_ref_name.specs.Names.{full_bytes, partial_bytes}
 use Rattle.gix_ref_target.specs.PackedRecords.{Record}
@@ -9,14 +9,14 @@ use Rattle.gix_ref_name.specs.declared.name.FullName.{FullName}
 use Rattle.gix_ref_files.specs.Files.{Meaning, FaultCounts}
 use Rattle.gix_ref_files.specs.declared.files.ReadAt.{Ghosts}
 use Rattle.gix_ref_packed_text.specs.declared.raw.Reference.{Reference}
-use Rattle.gix_ref_lookup.specs.Lookups.{IsSound}
+use Rattle.gix_ref_lookup.specs.Lookups.{AreHonest, IsSound}
 use Rattle.gix_ref_lookup.specs.declared.find.records.Records.{Records}
 use Rattle.gix_ref_lookup.specs.declared.find.existing.Error.{Error as Missing}
 use Rattle.gix_ref_lookup.specs.declared.find.existing.Error.TheVariants.{Find, NotFound}
-use Rattle.gix_ref_store.specs.Lookup.{hit_in, FindsBy, MissesBy, SeesIn, MissesIn}
+use Rattle.gix_ref_store.specs.Lookup.{hit_in, FindsBy, IfNotFound, MissesBy, SeesExisting, SeesIn, SeesNothing, MissesIn}
 use Rattle.gix_ref_store.specs.Store as stores
 use Rattle.gix_ref_store.specs.declared.file.store.Store.{Store}
-use Rattle.gix_ref_follow.specs.Following.{At, HitsByName, IsStep, LeadsWithinLimit, following, is_one_of}
+use Rattle.gix_ref_follow.specs.Following.{At, HitsByName, IsStep, Leads, LeadsWithinLimit, following, is_one_of}
 use Rattle.gix_ref_follow.specs.Following.EndOfChain.{Reached, Dangling, Circular, TooDeep}
 use Rattle.gix_ref_follow.specs.declared.peel.to_object.Error.{Error}
 use Rattle.gix_ref_follow.specs.declared.peel.to_object.Error.TheVariants.{Follow, Cycle, DepthLimitExceeded, Memory}
@@ -87,11 +87,12 @@ module _ {F : Type 0} (means : F → Meaning) where
       (Some next)) (MissesBy means asks_records store records name)) result
 
 module _ {F R : Type 0} {G : Ghosts R} (means : F → Meaning) where
-  -- on any text of `packed-refs`: what the lookup of a target finds is one that the target is short for
+  -- on any text of `packed-refs`: what the lookup of a target finds is one that the target is short for, and `NotFound` says that
+  -- it sees nothing
   abbrev pub StepHits : (asks_records : Bool) → Store F → Records R G → TargetValue →
       Option (Result Reference Missing) → Type 0
   StepHits asks_records store asked target result = OfStep target
-      (λ name r. IfOk r (λ next. SeesIn means asks_records store asked name (Some next))) result
+      (λ name r. SeesExisting means asks_records store asked name r) result
 
   -- on any text of `packed-refs`: the next reference is one that the target is short for
   abbrev pub HitsNext : (asks_records : Bool) → Store F → Records R G →
@@ -99,6 +100,13 @@ module _ {F R : Type 0} {G : Ghosts R} (means : F → Meaning) where
   HitsNext asks_records store asked at next = (name : List ℕ)
       × (target_value at.target ≡ symbolic_name name)
       × SeesIn means asks_records store asked name (Some next)
+
+  -- hits lead, by a step or more, from the first reference to one of this name
+  abbrev pub WasPassed : (asks_records : Bool) → Store F → Records R G → (start : Reference) →
+      (name : List ℕ) → Type 0
+  WasPassed asks_records store asked start name = (passed : Reference) × (steps : ℕ)
+      × Leads (HitsNext asks_records store asked) (suc steps) start passed
+      × (full_bytes passed.name ≡ name)
 
 module _ {F R : Type 0} {G : Ghosts R} (honest : Type 0) (means : F → Meaning)
     (faults : F → FaultCounts) where
@@ -108,14 +116,41 @@ module _ {F R : Type 0} {G : Ghosts R} (honest : Type 0) (means : F → Meaning)
   StepFails asks_records old new asked target result = OfStep target
       (λ name r. IfErr r (MissesIn honest means faults asks_records old new asked name)) result
 
-  -- why a reference is not followed further: the lookup of its target fails or finds nothing; that leads back, and this is the
-  -- place of the reference; five steps were taken; no memory
-  abbrev pub IsNotFollowed : (asks_records : Bool) → (old new : Store F) → Records R G → Reference →
-      Error → Type 0
-  IsNotFollowed asks_records old new asked at (Follow error) =
+  -- the lookup of the target of a reference fails, or sees nothing
+  abbrev pub MissesTarget : (asks_records : Bool) → (old new : Store F) → Records R G →
+      (at : Reference) → Missing → Type 0
+  MissesTarget asks_records old new asked at error =
       (name : List ℕ) × (target_value at.target ≡ symbolic_name name)
       × MissesIn honest means faults asks_records old new asked name error
-  IsNotFollowed asks_records old new asked at (Cycle path) = path.items
-      ≡ (stores.meaning_of old).place (full_bytes at.name)
-  IsNotFollowed asks_records old new asked at (DepthLimitExceeded steps) = steps ≡ 5
-  IsNotFollowed asks_records old new asked at Memory = Unit {0}
+      × (honest → AreHonest asked →
+      IfNotFound error (SeesNothing means asks_records old asked name))
+
+  -- this is the place of a reference whose target leads to one with such a name
+  abbrev pub LeadsBack : (asks_records : Bool) → (old : Store F) → Records R G →
+      (Was : List ℕ → Type 0) → (at : Reference) → (path : List ℕ) → Type 0
+  LeadsBack asks_records old asked Was at path =
+      (path ≡ (stores.meaning_of old).place (full_bytes at.name))
+      × (honest → AreHonest asked → (next : Reference)
+      × HitsNext means asks_records old asked at next × Was (full_bytes next.name))
+
+  -- why one step from a reference is not made: its target is not found, or leads to a name that was reached; no memory
+  abbrev pub IsNoStep : (asks_records : Bool) → (old new : Store F) → Records R G →
+      (reached : List (List ℕ)) → (at : Reference) → Error → Type 0
+  IsNoStep asks_records old new asked reached at (Follow error) =
+      MissesTarget asks_records old new asked at error
+  IsNoStep asks_records old new asked reached at (Cycle path) =
+      LeadsBack asks_records old asked (λ name. is_one_of name reached ≡ true) at path.items
+  IsNoStep asks_records old new asked reached at (DepthLimitExceeded steps) = ⊥
+  IsNoStep asks_records old new asked reached at Memory = Unit {0}
+
+  -- why a reference is not followed further, to which the first one leads: its target is not found, or leads to a name that was
+  -- passed; five steps lead to it; no memory
+  abbrev pub IsNotFollowed : (asks_records : Bool) → (old new : Store F) → Records R G →
+      (start at : Reference) → Error → Type 0
+  IsNotFollowed asks_records old new asked start at (Follow error) =
+      MissesTarget asks_records old new asked at error
+  IsNotFollowed asks_records old new asked start at (Cycle path) =
+      LeadsBack asks_records old asked (WasPassed means asks_records old asked start) at path.items
+  IsNotFollowed asks_records old new asked start at (DepthLimitExceeded steps) = (steps ≡ 5)
+      × (honest → AreHonest asked → Leads (HitsNext means asks_records old asked) 5 start at)
+  IsNotFollowed asks_records old new asked start at Memory = Unit {0}

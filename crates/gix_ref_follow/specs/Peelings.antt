@@ -93,23 +93,33 @@ IsOfTags name other = Unit {0}
 module _ {F R : Type 0} {G : Ghosts R} (honest : Type 0) (means : F → Meaning)
     (faults : F → FaultCounts) where
   -- why a reference is not peeled: it is not followed; or it was, and the tags of its object are not peeled
-  abbrev pub IsNotPeeled : (asks_records : Bool) → (old new : Store F) → Records R G → Reference →
-      Error → Type 0
-  IsNotPeeled asks_records old new asked at (FollowToObject error) =
-      IsNotFollowed honest means faults asks_records old new asked at error
-  IsNotPeeled asks_records old new asked at (NotFound id name) =
+  abbrev pub IsNotPeeled : (asks_records : Bool) → (old new : Store F) → Records R G →
+      (start at : Reference) → Error → Type 0
+  IsNotPeeled asks_records old new asked start at (FollowToObject error) =
+      IsNotFollowed honest means faults asks_records old new asked start at error
+  IsNotPeeled asks_records old new asked start at (NotFound id name) =
       (full_bytes name ≡ full_bytes at.name) × (first : ObjectId)
       × (target_value at.target ≡ object_id first)
-  IsNotPeeled asks_records old new asked at other = (first : ObjectId)
+  IsNotPeeled asks_records old new asked start at other = (first : ObjectId)
       × (target_value at.target ≡ object_id first)
 
+-- what comes of peeling the tags of the object that a reference points to, unless it was not followed to its end
+abbrev pub PeelsReached : (ObjectId → Stored) → Reference → Result ObjectId Error → Type 0
+PeelsReached meaning reached (Err (FollowToObject error)) = Unit {0}
+PeelsReached meaning reached result = (first : ObjectId)
+    × (target_value reached.target ≡ object_id first)
+    × PeelsTags (full_bytes reached.name) (tags.peel meaning 1000 first) result
+
 module _ {F R : Type 0} {G : Ghosts R} (means : F → Meaning) where
-  -- on any text of `packed-refs`: the name is that of a reference to which hits lead
+  -- On any text of `packed-refs`: the name is that of a reference to which hits lead; and the result is what comes of peeling its
+  -- object, by a finder that claims, unless the first one was peeled already.
   pub record HasPassed (asks_records : Bool) (store : Store F) (asked : Records R G)
-      (start now : Reference) : Type 0 where
+      (claims : Type 0) (meaning : ObjectId → Stored) (start now : Reference)
+      (result : Result ObjectId Error) : Type 0 where
     pub reached : Reference
     pub passes : LeadsWithinLimit (HitsNext means asks_records store asked) start reached
     pub name : full_bytes now.name ≡ full_bytes reached.name
+    pub peels : claims → start.peeled ≡ None → PeelsReached meaning reached result
 
 -- By lookups in a store, whatever its records are, as far as `Are` says of them:
 module _ {F : Type 0} (Are : List Record → Type 0) (means : F → Meaning)

@@ -10,7 +10,7 @@ ghost use Rattle.gix_ref_lookup.specs.Lookups.{AreHonest};
 ghost use Rattle.gix_ref_store.specs.Lookup.{AreAskedIn, AreStillAskedIn, FailsBy, LooksUp};
 ghost use Rattle.gix_ref_store.specs.Store.{files_of, meaning_of};
 ghost use Rattle.gix_ref_follow.specs.Following.{at_of, is_one_of, IsStep, LeadsWithinLimit};
-ghost use Rattle.gix_ref_follow.specs.Followed.{bytes_of_names, OnStep, StepFinds, StepHits, StepFails, IsCycle, IsReturn, RefusesStep, Follows, finds_in, HitsNext, IsNotFollowed};
+ghost use Rattle.gix_ref_follow.specs.Followed.{bytes_of_names, OnStep, StepFinds, StepHits, StepFails, IsCycle, IsReturn, RefusesStep, Follows, finds_in, HitsNext, IsNoStep, IsNotFollowed};
 
 use crate::peel::to_object::Error;
 use gix_ref_files::files::Files;
@@ -134,8 +134,8 @@ fn take_step<F: Files>(
         (bytes_of_names reached.old.items) (at_of reference.old)) }
     ensures hit { F.honest → AreHonest asked.old → OnOk result
         (HitsNext F.means asks_records store.old asked.old reference.old reference.new) }
-    ensures failed { IfErr result (IsNotFollowed F.honest F.means F.faults asks_records store.old
-        store.new asked.old reference.old) }
+    ensures failed { IfErr result (IsNoStep F.honest F.means F.faults asks_records store.old
+        store.new asked.old (bytes_of_names reached.old.items) reference.old) }
     ensures reached { OnOk result (bytes_of_names reached.new.items
         ≡ bytes_of_names reached.old.items ++ full_bytes reference.new.name ∷ []) }
     ensures kept { OnErr result (reference.new ≡ reference.old) }
@@ -166,7 +166,7 @@ pub(crate) fn follow_among<F: Files>(
     ensures object { IfOk result (λ id. target_value reference.new.target ≡ object_id id) }
     ensures failed { FailsBy F.faults store.old store.new
         (IsNotFollowed F.honest F.means F.faults asks_records store.old store.new asked.old
-        reference.new) result }
+        reference.old reference.new) result }
     ensures unchanged { LooksUp F.honest F.means store.old store.new }
 {
     let mut reached = Vec::new(alloc);

@@ -201,9 +201,10 @@ impl ReferenceExt for Reference {
         ensures done { IfOk result (λ id. (target_value self.new.target ≡ object_id id)
             × (self.new.peeled ≡ Some id)) }
         ensures hits { F.honest →
-            HasPassed {G = F.Reader.ReadAt} F.means true store.old Unopened self.old self.new }
+            HasPassed {G = F.Reader.ReadAt} F.means true store.old Unopened
+            (T.claims objects.now) (T.meaning objects.now) self.old self.new result }
         ensures failed { IfErr result (IsNotPeeled {G = F.Reader.ReadAt} F.honest F.means F.faults
-            true store.old store.new Unopened self.new) }
+            true store.old store.new Unopened self.old self.new) }
         ensures no_fault { OnOk result (F.faults (files_of store.new)
             ≡ F.faults (files_of store.old)) }
         ensures unchanged { LooksUp F.honest F.means store.old store.new }
@@ -225,9 +226,10 @@ impl ReferenceExt for Reference {
         ensures done { IfOk result (λ id. (target_value self.new.target ≡ object_id id)
             × (self.new.peeled ≡ Some id)) }
         ensures hits { F.honest →
-            HasPassed {G = F.Reader.ReadAt} F.means true store.old Unopened self.old self.new }
+            HasPassed {G = F.Reader.ReadAt} F.means true store.old Unopened
+            (T.claims objects.now) (T.meaning objects.now) self.old self.new result }
         ensures failed { IfErr result (IsNotPeeled {G = F.Reader.ReadAt} F.honest F.means F.faults
-            true store.old store.new Unopened self.new) }
+            true store.old store.new Unopened self.old self.new) }
         ensures no_fault { OnOk result (F.faults (files_of store.new)
             ≡ F.faults (files_of store.old)) }
         ensures unchanged { LooksUp F.honest F.means store.old store.new }
@@ -250,9 +252,10 @@ impl ReferenceExt for Reference {
         ensures done { IfOk result (λ id. (target_value self.new.target ≡ object_id id)
             × (self.new.peeled ≡ Some id)) }
         ensures hits { F.honest → HasPassed {G = F.Reader.ReadAt} F.means
-            (is_some packed.entry) store.old (held packed.entry) self.old self.new }
+            (is_some packed.entry) store.old (held packed.entry) (T.claims objects.now)
+            (T.meaning objects.now) self.old self.new result }
         ensures failed { IfErr result (IsNotPeeled {G = F.Reader.ReadAt} F.honest F.means F.faults
-            (is_some packed.entry) store.old store.new (held packed.entry) self.new) }
+            (is_some packed.entry) store.old store.new (held packed.entry) self.old self.new) }
         ensures no_fault { OnOk result (F.faults (files_of store.new)
             ≡ F.faults (files_of store.old)) }
         ensures unchanged { LooksUp F.honest F.means store.old store.new }
@@ -285,9 +288,10 @@ impl ReferenceExt for Reference {
         ensures done { IfOk result (λ id. (target_value self.new.target ≡ object_id id)
             × (self.new.peeled ≡ Some id)) }
         ensures hits { F.honest → HasPassed {G = F.Reader.ReadAt} F.means
-            (is_some packed.entry) store.old (held packed.entry) self.old self.new }
+            (is_some packed.entry) store.old (held packed.entry) (T.claims objects.now)
+            (T.meaning objects.now) self.old self.new result }
         ensures failed { IfErr result (IsNotPeeled {G = F.Reader.ReadAt} F.honest F.means F.faults
-            (is_some packed.entry) store.old store.new (held packed.entry) self.new) }
+            (is_some packed.entry) store.old store.new (held packed.entry) self.old self.new) }
         ensures no_fault { OnOk result (F.faults (files_of store.new)
             ≡ F.faults (files_of store.old)) }
         ensures unchanged { LooksUp F.honest F.means store.old store.new }
@@ -309,7 +313,8 @@ impl ReferenceExt for Reference {
         ensures object { IfOk result (λ id. target_value self.new.target ≡ object_id id) }
         ensures failed { FailsBy F.faults store.old store.new
             (IsNotFollowed {G = F.Reader.ReadAt} F.honest F.means F.faults
-            (is_some packed.entry) store.old store.new (held packed.entry) self.new) result }
+            (is_some packed.entry) store.old store.new (held packed.entry) self.old self.new)
+            result }
         ensures unchanged { LooksUp F.honest F.means store.old store.new }
     {
         match packed {
@@ -332,7 +337,8 @@ impl ReferenceExt for Reference {
         ensures object { IfOk result (λ id. target_value self.new.target ≡ object_id id) }
         ensures failed { FailsBy F.faults store.old store.new
             (IsNotFollowed {G = F.Reader.ReadAt} F.honest F.means F.faults
-            (is_some packed.entry) store.old store.new (held packed.entry) self.new) result }
+            (is_some packed.entry) store.old store.new (held packed.entry) self.old self.new)
+            result }
         ensures unchanged { LooksUp F.honest F.means store.old store.new }
     {
         self.follow_to_object_packed(alloc, store, packed)

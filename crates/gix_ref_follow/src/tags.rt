@@ -79,9 +79,10 @@ pub(crate) fn peel_among<F: Files, T: Find>(
     ensures done { IfOk result (λ id. (target_value reference.new.target ≡ object_id id)
         × (reference.new.peeled ≡ Some id)) }
     ensures hits { F.honest → AreHonest asked.old →
-        HasPassed F.means asks_records store.old asked.old reference.old reference.new }
+        HasPassed F.means asks_records store.old asked.old (T.claims objects.now)
+        (T.meaning objects.now) reference.old reference.new result }
     ensures failed { IfErr result (IsNotPeeled F.honest F.means F.faults asks_records store.old
-        store.new asked.old reference.new) }
+        store.new asked.old reference.old reference.new) }
     ensures no_fault { OnOk result (F.faults (files_of store.new) ≡ F.faults (files_of store.old)) }
     ensures unchanged { LooksUp F.honest F.means store.old store.new }
 {

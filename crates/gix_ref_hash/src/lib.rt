@@ -7,7 +7,7 @@
 //! - digits in lower case are added to a text, no id read: `hash::push_lower_hex`
 //! - ids at the front of a text, with what is left of it: `split_id`, `hex_hash`, `hex_hash_any`, `newline`
 //! - orders and equality: ids by kind and then bytes; in the crates above names by bytes, and all else by fields and variants: the
-//!   modules `laws`
+//!   modules `laws`, and `orders` of `gix_ref_follow`
 #![tactic(auto)]
 
 pub mod bytes;

@@ -8,7 +8,7 @@ use Rattle.gix_ref_packed.specs.declared.packed.iter.error.Error.{Error}
 use Rattle.gix_ref_lookup.specs.declared.settings.Settings.{Settings}
 use Rattle.gix_ref_listing.specs.Walks.{FoundEntry}
 use Rattle.gix_ref_listing.specs.OwnRecords.{Own, own_of, own_records, AheadOf, AreAhead, TakesOwn}
-use Rattle.gix_ref_listing.specs.Listings.{Listed, merged_listing, order_of, TakesFirst, TakesListed}
+use Rattle.gix_ref_listing.specs.Listings.{Listed, merged_listing, order_of, TakesFirst, TakesFound, TakesListed}
 use Rattle.gix_ref_listing.specs.Listings.Listed.{Walked, InPacked}
 use Rattle.gix_ref_listing.specs.declared.own_records.OwnRecord.{OwnRecord}
 use Rattle.gix_ref_listing.specs.declared.own_records.OwnRecords.{OwnRecords}
@@ -30,6 +30,12 @@ less_is settings es left e (Some (Err error)) records owns is order ahead = absu
 
 none_found : (es : List FoundEntry) (first : Option (Result OwnRecord Error)) (o : Ordering) → es ≡ [] → order_of es first ≡ o → Greater ≡ o
 none_found es first o none order = sym (ap (λ x. order_of x first) none) ∙ order
+
+-- what was found, where its first is taken
+pub first_is_found : (found left : List FoundEntry) (taken : Option Taken) → TakesFirst found taken left → TakesFound found taken left
+first_is_found found left None (none, empty) = empty ∙ sym none
+first_is_found found left (Some (taking.Walked one)) takes = takes
+first_is_found found left (Some (taking.Packed own)) takes = absurd takes
 
 pub less_takes : (settings : Settings) (old new : Merge) (taken : Option Taken) (owns : List Own) → order_of old.found.entries old.packed.first ≡ Less → TakesFirst old.found.entries taken new.found.entries → new.packed ≡ old.packed →
     AreAhead settings old.packed owns → TakesListed settings (merged_listing old.found.entries owns) taken new

@@ -27,7 +27,7 @@ use Rattle.gix_ref_listing.specs.GoneFiles.{IsFoundOrGone, IsTakenItem}
 use Rattle.gix_ref_listing.specs.Listings.{order_of, TakesFirst}
 use Rattle.gix_ref_listing.specs.OwedNames.{Text, AreAllGiven, FaultsAreIn, IsFaultIn, IsFaultOf, OwesOthers, OwesAfter, OwesOwn, PaysOwn, IsUnderItsName, OwesNames, PaysTaken, PaysItem}
 use Rattle.gix_ref_listing.specs.LooseListings.{IsFoundIn}
-use Rattle.gix_ref_listing.specs.Walks.{FoundEntry}
+use Rattle.gix_ref_listing.specs.Walks.{FoundEntry, Holds}
 use Rattle.gix_ref_listing.specs.declared.error.Error.{Error}
 use Rattle.gix_ref_listing.specs.declared.found.Found.TheVariants.{File, Unlisted}
 use Rattle.gix_ref_listing.specs.declared.merge.Merge.{Merge}
@@ -48,6 +48,18 @@ is_first x xs = (0, omega arith, refl)
 pub is_behind : {A : Type 0} (x r : A) (xs : List A) → Contains xs r → Contains (x ∷ xs) r
 is_behind x r xs has = (suc has.0, omega (arith, has.1), has.2)
 
+-- the item of what was found has its name
+file_named : (honest : Type 0) (settings : Settings) (view : View) (before now : FaultCounts) (n : FullName) (path : Vec ℕ Global) (r : Reference) → IsFoundOrGone honest settings view before now (File n path) (Ok r) → r.name ≡ n
+file_named honest settings view before now n path r (inl found) = found.0
+file_named honest settings view before now n path r (inr (gone, inl again)) = again.0
+file_named honest settings view before now n path r (inr (gone, inr packed)) = packed.2.0
+
+-- so it has the name under which it was found
+pub held_named : (honest : Type 0) (settings : Settings) (view : View) (before now : FaultCounts) (e : FoundEntry) (name : List ℕ) (r : Reference) → IsUnderItsName e → Holds name e → IsFoundOrGone honest settings view before now e.1 (Ok r) → full_bytes r.name ≡ name
+held_named honest settings view before now (key, File n path) name r under holds is = ap full_bytes (file_named honest settings view before now n path r is) ∙ under ∙ holds
+held_named honest settings view before now (key, Unlisted path error) name r under holds (inl found) = absurd found
+held_named honest settings view before now (key, Unlisted path error) name r under holds (inr gone) = absurd gone
+
 module _ (settings : Settings) (text : Text) where
   -- the text ended: all was given
   pub ended : (names : List (List ℕ)) (it t : Iter) → ItemStep it None t → OwesOthers settings text names (Some it) → AreAllGiven settings text names
@@ -65,11 +77,11 @@ module _ (settings : Settings) (text : Text) where
   -- a record without a name of its own was passed over
   pub passed : (names : List (List ℕ)) (it t : Iter) (x : PackedReference) → ItemStep it (Some (Ok x)) t → own_name settings (record_of x).name ≡ None → OwesOthers settings text names (Some it) → OwesOthers settings text names (Some t)
   passed names it t x step none (given, named, owes, faults) = (
-    record_of x ∷ given,
-    λ r has name own. ⊎_elim
-        (λ (same : r ≡ record_of x). let bad : Some name ≡ None = sym own ∙ (ap (λ (y : Record). own_name settings y.name) same ∙ none) in absurd (cc))
-        (λ (later : Contains given r). named r later name own)
-        (first_or_behind (record_of x) r given has),
+    (record_of x).name ∷ given,
+    λ key has name own. ⊎_elim
+        (λ (same : key ≡ (record_of x).name). let bad : Some name ≡ None = sym own ∙ (ap (own_name settings) same ∙ none) in absurd (cc))
+        (λ (later : Contains given key). named key later name own)
+        (first_or_behind (record_of x).name key given has),
     next_pays text.kind text.bytes text.key given it t (Some (Ok x)) owes step,
     later_faults it t x step faults,
   )
@@ -77,13 +89,13 @@ module _ (settings : Settings) (text : Text) where
   -- a record was taken
   pub taken : (names : List (List ℕ)) (it t : Iter) (x : PackedReference) (n : List ℕ) → ItemStep it (Some (Ok x)) t → own_name settings (record_of x).name ≡ Some n → OwesOthers settings text names (Some it) → OwesOthers settings text (n ∷ names) (Some t)
   taken names it t x n step is (given, named, owes, faults) = (
-    record_of x ∷ given,
-    λ r has name own. ⊎_elim
-        (λ (same : r ≡ record_of x).
-        let both : Some name ≡ Some n = sym own ∙ (ap (λ (y : Record). own_name settings y.name) same ∙ is) in
+    (record_of x).name ∷ given,
+    λ key has name own. ⊎_elim
+        (λ (same : key ≡ (record_of x).name).
+        let both : Some name ≡ Some n = sym own ∙ (ap (own_name settings) same ∙ is) in
         let it : n ≡ name = sym (the_same name n both) in subst (λ (m : List ℕ). Contains (n ∷ names) m) it (is_first n names))
-        (λ (later : Contains given r). is_behind n name names (named r later name own))
-        (first_or_behind (record_of x) r given has),
+        (λ (later : Contains given key). is_behind n name names (named key later name own))
+        (first_or_behind (record_of x).name key given has),
     next_pays text.kind text.bytes text.key given it t (Some (Ok x)) owes step,
     later_faults it t x step faults,
   )
@@ -97,7 +109,7 @@ module _ (settings : Settings) (text : Text) where
 
   pub others_wider : (names more : List (List ℕ)) → ((n : List ℕ) → Contains names n → Contains more n) → (records : Option Iter) → OwesOthers settings text names records → OwesOthers settings text more records
   others_wider names more wider None owes = given_wider names more wider owes
-  others_wider names more wider (Some it) (given, named, owes, faults) = (given, λ r has name own. wider name (named r has name own), owes, faults)
+  others_wider names more wider (Some it) (given, named, owes, faults) = (given, λ key has name own. wider name (named key has name own), owes, faults)
 
   one_wider : (x : List ℕ) (names more : List (List ℕ)) → ((n : List ℕ) → Contains names n → Contains more n) → (n : List ℕ) → Contains (x ∷ names) n → Contains (x ∷ more) n
   one_wider x names more wider n has = ⊎_elim
@@ -176,12 +188,6 @@ module _ (settings : Settings) (text : Text) where
 
   -- ---- as items
 
-  -- the item of what was found has its name
-  file_named : (honest : Type 0) (view : View) (before now : FaultCounts) (n : FullName) (path : Vec ℕ Global) (r : Reference) → IsFoundOrGone honest settings view before now (File n path) (Ok r) → r.name ≡ n
-  file_named honest view before now n path r (inl found) = found.0
-  file_named honest view before now n path r (inr (gone, inl again)) = again.0
-  file_named honest view before now n path r (inr (gone, inr packed)) = packed.2.0
-
   -- the fault of a file or of a folder is about no line
   no_line : (honest : Type 0) (view : View) (before now : FaultCounts) (found : Found) (error : Error) → IsFoundOrGone honest settings view before now found (Err error) → IsFaultOf text error
   no_line honest view before now found (failing.Traversal source path) is = tt
@@ -217,7 +223,7 @@ module _ (settings : Settings) (text : Text) where
   item_pays honest view before now names (taking.Packed (Ok own)) (Err error) t is pays = record_no_line (meaning_in settings) (full_ref_bytes own.name) error is
   item_pays honest view before now names (taking.Packed (Err line)) (Err error) t is pays = of_line line error pays is
   item_pays honest view before now names (taking.Walked (File n path)) (Ok r) t is pays =
-      subst (λ (m : List ℕ). OwesNames settings text (m ∷ names) t) (ap full_bytes (sym (file_named honest view before now n path r is))) pays
+      subst (λ (m : List ℕ). OwesNames settings text (m ∷ names) t) (ap full_bytes (sym (file_named honest settings view before now n path r is))) pays
   item_pays honest view before now names (taking.Walked (Unlisted path error)) (Ok r) t (inl found) pays = absurd found
   item_pays honest view before now names (taking.Walked (Unlisted path error)) (Ok r) t (inr gone) pays = absurd gone
   item_pays honest view before now names (taking.Packed (Ok own)) (Ok r) t is pays = subst (λ (m : List ℕ). OwesNames settings text (m ∷ names) t) (sym is.0.0) pays
@@ -225,7 +231,7 @@ module _ (settings : Settings) (text : Text) where
 
 -- an iterator of a key owes the records of the key, where none was given
 pub owes_all : (settings : Settings) (text : Text) (asked : List ℕ) → asked ≡ text.key → (it : Iter) → Owes text.kind text.bytes asked [] it → FaultsAreIn text it → OwesOthers settings text [] (Some it)
-owes_all settings text asked same it owes faults = ([], λ r has name own. absurd (omega (arith, has.1)), subst (λ (k : List ℕ). Owes text.kind text.bytes k [] it) same owes, faults)
+owes_all settings text asked same it owes faults = ([], λ key has name own. absurd (omega (arith, has.1)), subst (λ (k : List ℕ). Owes text.kind text.bytes k [] it) same owes, faults)
 
 -- what a walk found is under its name
 pub under_names : (settings : Settings) (view : View) (prefix : List ℕ) (es : List FoundEntry) → All (IsFoundIn settings view prefix) es → All IsUnderItsName es

@@ -1,5 +1,5 @@
 -- Where settings lie does not matter to a listing.
-use Rattle.std.proofs.Common.{◌≡◌, ℕ, List, [], ◌∷◌, refl, sym, ◌∙◌, ap, subst, Option, Some, None, Result, Ok, Err}
+use Rattle.std.proofs.Common.{◌≡◌, inl, inr, ℕ, List, [], ◌∷◌, refl, sym, ◌∙◌, ap, subst, Option, Some, None, Result, Ok, Err}
 use Rattle.std.specs.List.{All}
 use Rattle.std.specs.Prelude.{IfSome, IfNone, slice_index_or}
 use Rattle.gix_ref_target.specs.PackedRecords.{Record}
@@ -21,7 +21,7 @@ use Rattle.gix_ref_listing.specs.Listings.Listed.{Walked, InPacked}
 use Rattle.gix_ref_listing.specs.LooseListings.{IsLooseListed, IsFoundIn}
 use Rattle.gix_ref_listing.specs.GoneFiles.{IsGivenItem}
 use Rattle.gix_ref_listing.specs.Items.{IsAllowed}
-use Rattle.gix_ref_listing.specs.Steps.{AreYet, GivesItem, GivesRecord, IsDrained}
+use Rattle.gix_ref_listing.specs.Steps.{AreYet, GivesFound, GivesItem, GivesRecord, IsDrained}
 use Rattle.gix_ref_listing.specs.declared.error.Error.{Error}
 use Rattle.gix_ref_listing.specs.declared.found.Found.TheVariants.{File, Unlisted}
 use Rattle.gix_ref_listing.specs.declared.merge.Merge.{Merge}
@@ -56,18 +56,18 @@ module _ (s : Settings) where
   -- ---- what is owed over any text
 
   given_to_plain : (text : Text) (names : List (List ℕ)) → AreAllGiven s text names → AreAllGiven (plain s) text names
-  given_to_plain text names given = λ name due. given name (record { of = due.of; asked = due.asked; own = same_name due.of.name ∙ due.own })
+  given_to_plain text names given = λ name due. given name (record { of = due.of; asked = due.asked; own = same_name due.of ∙ due.own })
 
   given_of_plain : (text : Text) (names : List (List ℕ)) → AreAllGiven (plain s) text names → AreAllGiven s text names
-  given_of_plain text names given = λ name due. given name (record { of = due.of; asked = due.asked; own = sym (same_name due.of.name) ∙ due.own })
+  given_of_plain text names given = λ name due. given name (record { of = due.of; asked = due.asked; own = sym (same_name due.of) ∙ due.own })
 
   others_to_plain : (text : Text) (names : List (List ℕ)) (records : Option Iter) → OwesOthers s text names records → OwesOthers (plain s) text names records
   others_to_plain text names None owes = given_to_plain text names owes
-  others_to_plain text names (Some it) (given, named, owes, faults) = (given, λ r has name own. named r has name (same_name r.name ∙ own), owes, faults)
+  others_to_plain text names (Some it) (given, named, owes, faults) = (given, λ key has name own. named key has name (same_name key ∙ own), owes, faults)
 
   others_of_plain : (text : Text) (names : List (List ℕ)) (records : Option Iter) → OwesOthers (plain s) text names records → OwesOthers s text names records
   others_of_plain text names None owes = given_of_plain text names owes
-  others_of_plain text names (Some it) (given, named, owes, faults) = (given, λ r has name own. named r has name (sym (same_name r.name) ∙ own), owes, faults)
+  others_of_plain text names (Some it) (given, named, owes, faults) = (given, λ key has name own. named key has name (sym (same_name key) ∙ own), owes, faults)
 
   own_to_plain : (text : Text) (names : List (List ℕ)) (first : Option (Result OwnRecord LineError)) (records : Option Iter) → OwesAfter s text names first records → OwesAfter (plain s) text names first records
   own_to_plain text names None records owes = given_to_plain text names owes
@@ -94,9 +94,10 @@ module _ (s : Settings) where
   pub lends_plain : (old new : Merge) (result : Option OwnRecord) →
       IfSome result (λ own. (owns : List Own) → AreAhead s old.packed owns → TakesRecord s (merged_listing old.found.entries owns) own new) →
       IfSome result (λ own. (text : Text) (names : List (List ℕ)) → OwesNames s text names old → OwesNames s text (full_ref_bytes own.name ∷ names) new) → IfSome result (λ own. IsDrained old → ⊥) →
-      IfSome result (λ own. IsAllowed (meaning_in s) (full_ref_bytes own.name)) → IfSome result (GivesRecord (plain s) old new)
-  lends_plain old new None takes pays goes_on allowed = _
-  lends_plain old new (Some own) takes pays goes_on allowed = record {
+      new.found ≡ old.found → IfSome result (λ own. IsAllowed (meaning_in s) (full_ref_bytes own.name)) → IfSome result (GivesRecord (plain s) old new)
+  lends_plain old new None takes pays goes_on same allowed = _
+  lends_plain old new (Some own) takes pays goes_on same allowed = record {
+    found = ap (λ f. f.entries) same;
     pays = λ text names owes. owes_to_plain text (full_ref_bytes own.name ∷ names) new (pays text names (owes_of_plain text names old owes));
     gives = λ listed yet.
         let before = of_plain old listed yet in
@@ -155,3 +156,8 @@ module _ {F : Type 0} (honest : Type 0) (means : F → Meaning) (faults : F → 
   pub gives_plain : (before now : F) (listed : List Listed) (r : Option (Result Reference Error)) (t : Merge) → GivesItem honest means faults s before now listed r t → GivesItem honest means faults (plain s) before now listed r t
   gives_plain before now listed None t (none, yet) = (none, to_plain s t [] yet)
   gives_plain before now listed (Some item) t (one, more, is, yet, given) = (one, more, is, to_plain s t more yet, item_plain s honest (view_of (means before).tree) (faults before) (faults now) one item given)
+
+  -- what a walk found, which stays or is given
+  pub found_of_plain : (before now : F) (found left : List FoundEntry) (r : Option (Result Reference Error)) → GivesFound honest means faults s before now found r left → GivesFound honest means faults (plain s) before now found r left
+  found_of_plain before now found left r (inl same) = inl same
+  found_of_plain before now found left r (inr (e, item, whole, is, of)) = inr (e, item, whole, is, item_plain s honest (view_of (means before).tree) (faults before) (faults now) (Walked e) item of)

@@ -12,7 +12,7 @@ use Rattle.gix_ref_packed.specs.FilePrefixes.{HoldsPrefix, HoldsAsked, FailsRead
 use Rattle.gix_ref_packed.specs.FileSearches.{IsNoChange}
 use Rattle.gix_ref_packed_text.specs.Prefixes.{NamesAscend}
 use Rattle.gix_ref_files.specs.declared.files.ReadAt.{Ghosts}
-use Rattle.gix_ref_packed.specs.OpenFiles.{CountsRefusal, OpenedFile, packed_file_kind, packed_file_text}
+use Rattle.gix_ref_packed.specs.OpenFiles.{CountsRefusal, OpenedFile, packed_file_kind, packed_file_line, packed_file_text}
 use Rattle.gix_ref_packed.specs.declared.packed.file.PackedFile.{PackedFile}
 use Rattle.gix_ref_packed.specs.declared.packed.sorted_file.ReadError.{ReadError}
 use Rattle.gix_ref_packed.specs.declared.packed.sorted_file.ReadError.TheVariants as reading
@@ -83,14 +83,15 @@ not_there None is = refl
 
 -- what was read of an open file for a key has the records of the key
 pub asked_of : {R : Type 0} {G : Ghosts R} (kind : Kind) (content : Option Content) (file : PackedFile R G) (b : Buffer) (asked key : List ℕ) → is_file content ≡ true → OpenedFile kind (bytes_of content) file → asked ≡ key →
-    buffer_kind b ≡ packed_file_kind file → (NamesAscend (packed_file_kind file) (packed_file_text file) → HoldsAsked (packed_file_kind file) (packed_file_text file) asked (buffer_text b)) → HoldsAskedOf kind (file_of content) key (Some b)
-asked_of kind content file b asked key is opened same of_kind holds = (
-  of_kind ∙ opened.kind_is,
-  (
-    packed_file_text file,
-    (refl, bytes_of content, opened.line, there_is content is, opened.opens),
-    λ ascend.
-        let of_file = holds (subst (λ (k : Kind). NamesAscend k (packed_file_text file)) (sym opened.kind_is) ascend) in
-        subst (λ (k : Kind). HoldsAsked k (packed_file_text file) key (buffer_text b)) opened.kind_is (subst (λ (n : List ℕ). HoldsAsked (packed_file_kind file) (packed_file_text file) n (buffer_text b)) same of_file),
-  ),
+    HoldsPrefix (packed_file_kind file) (packed_file_text file) (packed_file_line file) asked b
+    → (NamesAscend (packed_file_kind file) (packed_file_text file) → HoldsAsked (packed_file_kind file) (packed_file_text file) asked (buffer_text b)) → HoldsAskedOf kind (file_of content) key (Some b)
+asked_of kind content file b asked key is opened same part holds = (
+  packed_file_text file,
+  (refl, bytes_of content, opened.line, there_is content is, opened.opens),
+  subst (λ (k : Kind). HoldsPrefix k (packed_file_text file) opened.line key b) opened.kind_is
+      (subst (λ (n : ℕ). HoldsPrefix (packed_file_kind file) (packed_file_text file) n key b) (sym opened.line_is)
+      (subst (λ (n : List ℕ). HoldsPrefix (packed_file_kind file) (packed_file_text file) (packed_file_line file) n b) same part)),
+  λ ascend.
+      let of_file = holds (subst (λ (k : Kind). NamesAscend k (packed_file_text file)) (sym opened.kind_is) ascend) in
+      subst (λ (k : Kind). HoldsAsked k (packed_file_text file) key (buffer_text b)) opened.kind_is (subst (λ (n : List ℕ). HoldsAsked (packed_file_kind file) (packed_file_text file) n (buffer_text b)) same of_file),
 )

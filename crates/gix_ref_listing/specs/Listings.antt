@@ -46,6 +46,12 @@ TakesFirst found (Some (taking.Walked one)) left = (e : FoundEntry) × (e.1 ≡ 
     × (found ≡ e ∷ left)
 TakesFirst found (Some (taking.Packed item)) left = ⊥
 
+-- over any text: what was found stays, except for its first where that is taken
+abbrev pub TakesFound : List FoundEntry → Option Taken → List FoundEntry → Type 0
+TakesFound found (Some (taking.Walked one)) left = (e : FoundEntry) × (e.1 ≡ one)
+    × (found ≡ e ∷ left)
+TakesFound found other left = left ≡ found
+
 -- the first of a listing, and what is left then
 abbrev pub TakesListed : Settings → List Listed → Option Taken → Merge → Type 0
 TakesListed settings listed None t = (listed ≡ []) × (t.found.entries ≡ [])

@@ -1,4 +1,4 @@
--- What a listing owes over any text of `packed-refs`: the name of each record that is asked for, or the fault of a line of it.
+-- What a listing owes over any text of `packed-refs`: each name that is asked for and has a line of it, or the fault of a line.
 use denote.Ref.{Bor}
 use Rattle.std.specs.Prelude.{◌≡◌, ◌+◌, ℕ, List, [], ◌∷◌, ◌++◌, take, drop, Option, Some, None, Result, Ok, Err}
 use Rattle.std.specs.Iterator.{Yields}
@@ -8,6 +8,7 @@ use Rattle.gix_ref_name.specs.Names.{full_bytes, full_ref_bytes}
 use Rattle.gix_ref_target.specs.PackedRecords.{Record}
 use Rattle.gix_ref_packed_text.specs.declared.raw.Reference.{Reference}
 use Rattle.gix_ref_packed_text.specs.Prefixes.{IsListStart, NamesAscend}
+use Rattle.gix_ref_packed_text.specs.RecordGrammar.{Records, Rising}
 use Rattle.gix_ref_packed_text.specs.declared.packed.reference.Reference.{Reference as PackedRecord}
 use Rattle.gix_ref_packed.specs.Buffers.{buffer_kind, buffer_line, buffer_text}
 use Rattle.gix_ref_packed.specs.Items.{AreItems, ItemStep, Unread, line_feeds}
@@ -44,12 +45,16 @@ unread_of text start = record {
   text = drop start text.bytes;
 }
 
--- The fault is about a line of the text that is no record, and has its number: reading from the start of a line on gives these items, and
--- then this fault.
+-- it is not records alone whose names do not descend
+abbrev pub IsDamaged : Text → Type 0
+IsDamaged text = (rs : List Record) → Records text.kind text.bytes rs → Rising rs → ⊥
+
+-- The fault is about a line of the text that is no record, and has its number: the text is damaged, and reading from the start of a
+-- line on gives these items, and then this fault.
 abbrev pub IsFaultIn : Text → LineError → Type 0
-IsFaultIn text error = (start : ℕ) × IsListStart text.bytes start
+IsFaultIn text error = IsDamaged text × ((start : ℕ) × IsListStart text.bytes start
     × (before : List (Result PackedRecord LineError))
-    × AreItems ⊥ (unread_of text start) (before ++ Err error ∷ [])
+    × AreItems ⊥ (unread_of text start) (before ++ Err error ∷ []))
 
 -- so each fault that an iterator is yet to give
 abbrev pub FaultsAreIn : Text → Iter → Type 0
@@ -75,25 +80,26 @@ IsTextFor key (Some buffer) text =
     })
     × NamesAscend (buffer_kind buffer.now) (buffer_text buffer.now)
 
--- A record of the text that is asked for has this name: it begins a line, whatever the other lines are.
+-- A line of the text, of a record's form, has a key that is asked for, and this is the name of that, whatever the lines are.
 pub record IsDue (settings : Settings) (text : Text) (name : List ℕ) : Type 0 where
-  pub of : Record
+  pub of : List ℕ
   pub asked : IsAsked text.kind text.bytes text.key of
-  pub own : own_name settings of.name ≡ Some name
+  pub own : own_name settings of ≡ Some name
 
 -- each name that is due was given
 abbrev pub AreAllGiven : Settings → Text → (names : List (List ℕ)) → Type 0
 AreAllGiven settings text names = (name : List ℕ) → IsDue settings text name → Contains names name
 
--- the names of these records are among these
-abbrev pub HaveNames : Settings → List Record → (names : List (List ℕ)) → Type 0
-HaveNames settings records names = (r : Record) → Contains records r → (name : List ℕ) →
-    own_name settings r.name ≡ Some name → Contains names name
+-- the names of these keys are among these
+abbrev pub HaveNames : Settings → (keys names : List (List ℕ)) → Type 0
+HaveNames settings keys names = (key : List ℕ) → Contains keys key → (name : List ℕ) →
+    own_name settings key ≡ Some name → Contains names name
 
--- where these names were given, an iterator owes the records of the others
+-- where these names were given, an iterator owes records of the others
 abbrev pub OwesOthers : Settings → Text → (names : List (List ℕ)) → Option Iter → Type 0
 OwesOthers settings text names None = AreAllGiven settings text names
-OwesOthers settings text names (Some it) = (given : List Record) × HaveNames settings given names
+OwesOthers settings text names (Some it) = (given : List (List ℕ))
+    × HaveNames settings given names
     × Owes text.kind text.bytes text.key given it × FaultsAreIn text it
 
 -- and so where the next record was taken; after a line that is no record it owes nothing more

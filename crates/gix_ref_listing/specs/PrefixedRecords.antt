@@ -1,7 +1,7 @@
 -- The records of a prefix, in a buffer that was read for it.
 use Rattle.std.specs.Prelude.{◌≡◌, ℕ, List, [], Option, Some, None}
 use Rattle.gix_ref_lookup.specs.Lookups.{IsOpenedText}
-use Rattle.gix_ref_packed.specs.FilePrefixes.{HoldsAsked}
+use Rattle.gix_ref_packed.specs.FilePrefixes.{HoldsAsked, HoldsPrefix}
 use Rattle.gix_ref_packed_text.specs.Prefixes.{NamesAscend}
 use Rattle.std.specs.declared.io.ErrorKind.TheVariants.{InvalidData}
 use Rattle.gix_ref_hash.specs.declared.hash.Kind.{Kind}
@@ -21,13 +21,19 @@ IsHeldFor prefix None records = records ≡ []
 IsHeldFor prefix (Some buffer) records = HoldsFor (buffer_kind buffer) prefix records
     (buffer_text buffer)
 
+-- the number of the first line of the text that is kept of a file
+abbrev pub first_line : {kind of_kind : Kind} {file : Option (List ℕ)} {text : List ℕ} →
+    IsOpenedText kind file of_kind text → ℕ
+first_line opened = opened.2
+
 -- Whatever its other lines are: the buffer has each record of the key that a text has which is kept of this file, where the names
--- of that ascend; or there is no such file.
+-- of that ascend, and its lines are numbered as in the file; or there is no such file.
 abbrev pub HoldsAskedOf : Kind → (file : Option (List ℕ)) → (key : List ℕ) → Option Buffer → Type 0
 HoldsAskedOf kind file key None = file ≡ None
-HoldsAskedOf kind file key (Some buffer) =
-    (buffer_kind buffer ≡ kind) × ((text : List ℕ) × IsOpenedText kind file kind text
-    × (NamesAscend kind text → HoldsAsked kind text key (buffer_text buffer)))
+HoldsAskedOf kind file key (Some buffer) = (text : List ℕ)
+    × (opened : IsOpenedText kind file kind text)
+    × HoldsPrefix kind text (first_line opened) key buffer
+    × (NamesAscend kind text → HoldsAsked kind text key (buffer_text buffer))
 
 -- a buffer that holds all records holds those of each prefix
 abbrev pub WholeBuffersHold : Type 0

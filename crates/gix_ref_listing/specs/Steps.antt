@@ -1,5 +1,5 @@
 -- One item of a listing after the other.
-use Rattle.std.specs.Prelude.{◌≡◌, ℕ, List, [], ◌∷◌, Option, Some, None, Result, Ok, Err}
+use Rattle.std.specs.Prelude.{◌≡◌, ◌⊎◌, ℕ, List, [], ◌∷◌, Option, Some, None, Result, Ok, Err}
 use Rattle.gix_ref_files.specs.Files.{Meaning, disk_of, Leaves, Passes, FaultCounts, NoFewer}
 use Rattle.gix_ref_files.specs.Calls.{Unchanged}
 use Rattle.gix_ref_files.specs.DiskCalls.{Untouched}
@@ -12,8 +12,9 @@ use Rattle.gix_ref_listing.specs.OwedNames.{Text, OwesNames, PaysItem}
 use Rattle.gix_ref_listing.specs.OwnRecords.{Own, own_of, AreAhead}
 use Rattle.gix_ref_listing.specs.Listings.{Listed, merged_listing}
 use Rattle.gix_ref_listing.specs.Listings.Listed.{InPacked}
-use Rattle.gix_ref_listing.specs.GoneFiles.{IsGivenItem}
+use Rattle.gix_ref_listing.specs.GoneFiles.{IsFoundOrGone, IsGivenItem}
 use Rattle.gix_ref_listing.specs.Items.{IsAllowed}
+use Rattle.gix_ref_listing.specs.Walks.{FoundEntry}
 use Rattle.gix_ref_listing.specs.declared.own_records.OwnRecord.{OwnRecord}
 use Rattle.gix_ref_listing.specs.declared.error.Error.{Error}
 use Rattle.gix_ref_listing.specs.declared.merge.Merge.{Merge}
@@ -34,6 +35,7 @@ pub record GivesRecord (settings : Settings) (s t : Merge) (own : OwnRecord) : T
       × (listed ≡ InPacked (own_of own) ∷ more) × AreYet settings t more
   pub pays : (text : Text) (names : List (List ℕ)) → OwesNames settings text names s →
       OwesNames settings text (full_ref_bytes own.name ∷ names) t
+  pub found : t.found.entries ≡ s.found.entries
   pub allowed : IsAllowed (meaning_in settings) (full_ref_bytes own.name)
   pub goes_on : IsDrained s → ⊥
 
@@ -53,6 +55,14 @@ module _ {F : Type 0} (honest : Type 0) (means : F → Meaning) (faults : F → 
       × IsGivenItem honest settings (view_of (means before).tree) (faults before) (faults now) one
       item
 
+  -- over any text: what a walk found stays, except for its first where the item is that one
+  abbrev pub GivesFound : Settings → (before now : F) → List FoundEntry →
+      Option (Result Reference Error) → List FoundEntry → Type 0
+  GivesFound settings before now found r left = (left ≡ found)
+      ⊎ ((e : FoundEntry) × (item : Result Reference Error) × (found ≡ e ∷ left)
+      × (r ≡ Some item) × IsFoundOrGone honest settings (view_of (means before).tree)
+      (faults before) (faults now) e.1 item)
+
   -- What giving an item does: it is the first of those that are yet to come; no file changes, and the disk does not; a fault that is
   -- counted is told by the item; and what has ended stays ended, whatever the texts are.
   pub record GivesNext (settings : Settings) (before now : F) (s : Merge)
@@ -62,6 +72,7 @@ module _ {F : Type 0} (honest : Type 0) (means : F → Meaning) (faults : F → 
     -- over any text: each name that is due is given, or a fault
     pub pays : (text : Text) (names : List (List ℕ)) → OwesNames settings text names s →
         PaysItem settings text names r t
+    pub found : GivesFound settings before now s.found.entries r t.found.entries
     pub rises : NoFewer (faults before) (faults now)
     pub counts : CountsNone (faults before) (faults now) r
     pub leaves : honest → Leaves (means before) (means now) (Unchanged (means before).tree)

@@ -26,14 +26,17 @@
 //! - the records of a prefix that are read from a well-formed `packed-refs` are those of the prefix in it; a buffer of all
 //!   records holds those of each prefix; of any `packed-refs` whose names ascend each record of the prefix is read:
 //!   `prefixed_records::open_prefixed`, clauses `holds`, `asked`, `laws::whole_buffers_hold_prefixes`
-//! - over any text whose names ascend, whatever its other lines are: each name that is due by a record of the text is given, or a
-//!   fault is, and where the first is about a line, that line is no record, and has its number: `list::merge_walked`, `list::list`,
-//!   clause `owes` (`OwesNames`, `IsFaultIn` in `OwedNames.antt`), `item::next_item` (`pays` of `GivesNext`)
+//! - over any text: each loose reference of the prefix is given, or a fault is: `list::merge_walked`, `list::list`, clause `owes`
+//!   (`HasLoose` in `WholeListings.antt`), `item::next_item` (`found` of `GivesNext`)
+//! - over any text whose names ascend, whatever its lines are: each name that is due by a line of a record's form is given, or a
+//!   fault is, and where the first is about a line, that line is no record, and has its number: the same (`OwesNames`, `IsFaultIn`
+//!   in `OwedNames.antt`; `pays` of `GivesNext`)
 //!
 //! Where names are composed, a file whose name on disk is not composed is listed under its composed name; that it is listed is
 //! only tested. Over a `packed-refs` that is not well formed the end of a listing is proved, that it changes nothing, that an
-//! item in which a fault of files is counted is a fault, that it lacks no name in silence, and which line its first fault is about (the
-//! point before this). That its other items are right, and what comes after the first fault, is tested.
+//! item in which a fault of files is counted is a fault, that it lacks no name in silence, and that its first fault, if it is
+//! about a line, is about one that is no record (the points before this). That its other items are right, and what comes after
+//! the first fault, is tested.
 #![tactic(auto)]
 
 pub mod error;

@@ -90,7 +90,7 @@ pub fn merge_walked<'p>(
         ListsHeld settings.entry view names.prefix.items packed.entry before now result }
     ensures owes { (view : View) (before now : FaultCounts) →
         IsWalkOf (plain settings.entry) view before now names →
-        OwesHeld settings.entry names.prefix.items packed.entry result }
+        OwesHeld settings.entry view names.prefix.items packed.entry result }
     ensures memory { IfErr result (λ error. error ≡ Memory) }
 {
     let LooseNames { found, prefix } = names;
@@ -113,7 +113,8 @@ pub fn list<'p, F: Files>(
 ) -> Result<Merge<'p>, Error>
     ensures lists { F.honest → ListsHeld settings.entry (contents F.means files.old) prefix.now
         packed.entry (F.faults files.old) (F.faults files.new) result }
-    ensures owes { F.honest → OwesHeld settings.entry prefix.now packed.entry result }
+    ensures owes { F.honest → OwesHeld settings.entry (contents F.means files.old) prefix.now
+        packed.entry result }
     ensures looks { OnlyReads F.honest F.means F.faults files.old files.new }
     ensures memory { IfErr result (λ error. error ≡ Memory) }
 {

@@ -30,7 +30,7 @@ impl<'p> Merge<'p> {
     ghost use Rattle.std.specs.Option.{option_len};
     ghost use Rattle.gix_ref_listing.specs.OwnRecords.{Own, AreAhead};
     ghost use Rattle.gix_ref_listing.specs.OwedNames.{Text, OwesNames, PaysTaken};
-    ghost use Rattle.gix_ref_listing.specs.Listings.{merged_listing, order_of, TakesFirst, TakesListed, TakesRecord, IsNotLent, merge_left};
+    ghost use Rattle.gix_ref_listing.specs.Listings.{merged_listing, order_of, TakesFirst, TakesFound, TakesListed, TakesRecord, IsNotLent, merge_left};
     ghost use Rattle.gix_ref_listing.specs.Items.{IsAllowed};
     ghost use Rattle.gix_ref_listing.specs.Steps.{IsDrained};
 
@@ -67,6 +67,7 @@ impl<'p> Merge<'p> {
         ensures pays { (text : Text) (names : List (List ℕ)) →
             OwesNames settings.entry text names self.old →
             PaysTaken settings.entry text names result self.new }
+        ensures found { TakesFound self.old.found.entries result self.new.found.entries }
         ensures left { option_len result + merge_left self.new ≤ merge_left self.old }
         ensures ends { IfNone result (IsDrained self.new) }
         ensures stays_ended { IsDrained self.old → result ≡ None }
@@ -93,6 +94,7 @@ impl<'p> Merge<'p> {
         ensures pays { IfSome result (λ own. (text : Text) (names : List (List ℕ)) →
             OwesNames settings.entry text names self.old →
             OwesNames settings.entry text (full_ref_bytes own.name ∷ names) self.new) }
+        ensures found { self.new.found ≡ self.old.found }
         ensures allowed { IfSome result
             (λ own. IsAllowed (meaning_in settings.entry) (full_ref_bytes own.name)) }
         ensures none { IfNone result ((owns : List Own) →

@@ -7,8 +7,8 @@ ghost use Rattle.gix_ref_files.specs.Tree.{is_file};
 ghost use Rattle.gix_ref_hash.specs.declared.hash.Kind.{Kind};
 ghost use Rattle.gix_ref_packed.specs.Buffers.{HoldsRecords, IsRefusedBytes, IsRefusedFile, buffer_kind, buffer_text};
 ghost use Rattle.gix_ref_packed_text.specs.Prefixes.{NamesAscend};
-ghost use Rattle.gix_ref_packed.specs.FilePrefixes.{HoldsAsked};
-ghost use Rattle.gix_ref_packed.specs.OpenFiles.{CountsRefusal, packed_file_kind, packed_file_text};
+ghost use Rattle.gix_ref_packed.specs.FilePrefixes.{HoldsAsked, HoldsPrefix};
+ghost use Rattle.gix_ref_packed.specs.OpenFiles.{CountsRefusal, packed_file_kind, packed_file_line, packed_file_text};
 ghost use Rattle.gix_ref_lookup.specs.Lookups.{ArePackedRecordsWith, meaning_in, packed_refs_in};
 ghost use Rattle.gix_ref_listing.specs.PrefixedRecords.{HoldsAskedOf, IsHeldFor, of_part};
 ghost use Rattle.gix_ref_listing.specs.WholeListings.{HoldsFor, key_in};
@@ -44,7 +44,8 @@ fn read_part<R: ReadAt + Drop>(
     ensures holds { R.honest → (records : List Record) →
         HoldsRecords (packed_file_kind file) records (packed_file_text file) →
         IfOk result (λ b. HoldsFor (buffer_kind b) key.now records (buffer_text b)) }
-    ensures kind { R.honest → IfOk result (λ b. buffer_kind b ≡ packed_file_kind file) }
+    ensures part { R.honest → IfOk result (HoldsPrefix (packed_file_kind file)
+        (packed_file_text file) (packed_file_line file) key.now) }
     ensures asked { R.honest → NamesAscend (packed_file_kind file) (packed_file_text file) →
         IfOk result (λ b. HoldsAsked (packed_file_kind file) (packed_file_text file) key.now
         (buffer_text b)) }

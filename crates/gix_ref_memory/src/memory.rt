@@ -1,6 +1,7 @@
 //! Files in memory, which keep every change, and fail or stop at a call that the caller chooses.
 ghost use Rattle.std.specs.Prelude.{◌≡◌};
 ghost use Rattle.gix_ref_files.specs.Tree.{IsShaped, no_tree};
+ghost use Rattle.gix_ref_files.specs.Disk.{no_disk};
 ghost use Rattle.gix_ref_memory.specs.Changes.{after_changes};
 
 mod births;
@@ -60,7 +61,7 @@ impl Memory {
     ghost use Rattle.gix_ref_memory.specs.Memory.{meaning, tree_in, calls_of, faults_of, plan_of, KeepsFiles, KeepsCounts, FailsOnlyForMemory, IsStartedAgain};
     ghost use Rattle.gix_ref_memory.specs.declared.memory.turns.Plan.TheVariants.{Runs, FailsAt, StopsAt};
 
-    /// An empty tree, of which no call fails. The allocator is kept for the tree and its record.
+    /// An empty tree, all of it synced, of which no call fails. The allocator is kept for the tree and its record.
     ///
     /// ```text
     /// let mut files = Memory::new(alloc);
@@ -69,6 +70,7 @@ impl Memory {
     /// ```
     pub fn new(alloc: Global) -> Self
         ensures tree { tree_in result ≡ no_tree }
+        ensures disk { disk_of (meaning result) ≡ no_disk }
         ensures calls { calls_of result ≡ 0 }
         ensures faults { faults_of result ≡ no_faults }
         ensures plan { plan_of result ≡ Runs }

@@ -1,5 +1,7 @@
 -- What a finder has under an id, and what its calls report of that.
 use Rattle.std.specs.Prelude.{◌≡◌, ℕ, List, Option, Some, None, Result, Ok, Err}
+use Rattle.gix_ref_hash.specs.declared.hash.ObjectId.{ObjectId}
+use Rattle.gix_ref_hash.specs.Ids.{id_kind}
 use Rattle.gix_ref_object.specs.declared.object.Kind.{Kind}
 use Rattle.gix_ref_object.specs.declared.object.Data.{Data}
 use Rattle.gix_ref_object.specs.declared.object.FindError.{FindError}
@@ -11,10 +13,11 @@ pub data Stored : Type 0 where
   Absent : Stored
   Faulty : Stored
 
--- a call reports what is stored, or that there was no memory
-abbrev pub Reports : Stored → Result (Option Data) FindError → Type 0
-Reports stored (Err finding.Memory) = Unit {0}
-Reports (Object kind bytes) (Ok (Some found)) = (found.kind ≡ kind) × (found.bytes.now ≡ bytes)
-Reports Absent (Ok None) = Unit {0}
-Reports Faulty (Err finding.Failed) = Unit {0}
-Reports stored result = ⊥
+-- a call for an id reports what is stored, with the hash function of the id, or that there was no memory
+abbrev pub Reports : ObjectId → Stored → Result (Option Data) FindError → Type 0
+Reports id stored (Err finding.Memory) = Unit {0}
+Reports id (Object kind bytes) (Ok (Some found)) = (found.kind ≡ kind)
+    × (found.bytes.now ≡ bytes) × (found.object_hash ≡ id_kind id)
+Reports id Absent (Ok None) = Unit {0}
+Reports id Faulty (Err finding.Failed) = Unit {0}
+Reports id stored result = ⊥

@@ -26,7 +26,7 @@ pub struct Data<'b> {
     pub kind: Kind,
     /// The bytes of the object, without the header that names the kind.
     pub bytes: &'b [u8],
-    /// The hash function of the ids that the object names.
+    /// The hash function of the ids that the object names, which is that of its own id.
     pub object_hash: hash::Kind,
 }
 
@@ -56,7 +56,7 @@ pub trait Find: Drop {
         id: &ObjectId,
         buf: &'b mut Vec<u8>,
     ) -> Result<Option<Data<'b>>, FindError>
-        ensures { claims self.now → Reports (meaning self.now id.now) result };
+        ensures { claims self.now → Reports id.now (meaning self.now id.now) result };
 }
 
 /// A finder that finds nothing. As gix-object's `find::Never`.

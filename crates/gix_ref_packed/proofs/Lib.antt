@@ -2,6 +2,7 @@ pub mod AreRecords
 pub mod AskedParts
 pub mod FileSearchLemmas
 pub mod FoundInOrder
+pub mod FrontItems
 pub mod InOrderLemmas
 pub mod ItemRuns
 pub mod MemorySearches

@@ -180,7 +180,12 @@ module _ (k : Kind) (text prefix : List ℕ) (line : ℕ) (b : Buffer) (kind_is 
   holds_first start end encloses is first number = record {
     kind_is = kind_is;
     part = record { start = start; end = end; encloses = encloses; is = is };
-    numbered = inl (end - start, is ∙ ap (λ i. take (end - start) (drop i text)) first ∙ ap (take (end - start)) (drop_zero text), number);
+    numbered = inl (
+      end - start,
+      (let all : end ≡ end - start = omega (arith, first) in subst (IsListStart text) all encloses.ends),
+      is ∙ ap (λ i. take (end - start) (drop i text)) first ∙ ap (take (end - start)) (drop_zero text),
+      number,
+    );
   }
 
   -- the whole text

@@ -43,10 +43,10 @@ pub record IsPrefixPart (kind : Kind) (text prefix part : List ℕ) : Type 0 whe
   pub encloses : Encloses kind text prefix start end
   pub is : part ≡ take (end - start) (drop start text)
 
--- a fault among the items has its number: the records begin with the first line, or there is no fault
+-- a fault among the items has its number: the buffer has whole lines from the first one on, or there is no fault
 abbrev pub IsNumbered : Kind → List ℕ → ℕ → Buffer → Type 0
 IsNumbered kind text line b =
-    ((n : ℕ) × (buffer_text b ≡ take n text) × (buffer_line b ≡ line))
+    ((n : ℕ) × IsListStart text n × (buffer_text b ≡ take n text) × (buffer_line b ≡ line))
     ⊎ ((held : List Record) × Records kind (buffer_text b) held)
 
 -- The buffer has all records of the prefix, for `iter_prefixed` of that prefix; lines are numbered as in the file.
@@ -69,18 +69,18 @@ FailsReadBy faults (Io error) = HasReadFault faults error
 FailsReadBy faults Memory = Unit {0}
 FailsReadBy faults Changed = Unit {0}
 
--- The lines of a text from one place up to another have each record of the prefix, whatever the other lines are.
+-- The lines of a text from one place up to another have each name of the prefix, whatever the lines are.
 pub record EnclosesAsked (kind : Kind) (text prefix : List ℕ) (start end : ℕ) : Type 0 where
   pub begins : IsListStart text start
   pub ends : IsNameStart kind text end
   pub ordered : start ≤ end
-  pub asked : (r : Record) (asked : IsAsked kind text prefix r) →
+  pub asked : (name : List ℕ) (asked : IsAsked kind text prefix name) →
       (start ≤ asked.0.0) × (asked.0.0 < end)
 
--- a text has each record of the prefix that another one has, and its names ascend
+-- a text has each line with a name of the prefix that another one has, and its names ascend
 abbrev pub HoldsAsked : Kind → (text prefix part : List ℕ) → Type 0
 HoldsAsked kind text prefix part = NamesAscend kind part
-    × ((r : Record) → IsAsked kind text prefix r → IsAsked kind part prefix r)
+    × ((name : List ℕ) → IsAsked kind text prefix name → IsAsked kind part prefix name)
 
 -- so the buffer
 abbrev pub BufferHoldsAsked : Kind → (text prefix : List ℕ) → Buffer → Type 0

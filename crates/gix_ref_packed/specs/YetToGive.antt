@@ -8,7 +8,7 @@ use Rattle.gix_ref_packed.specs.declared.packed.iter.error.Error.{Error}
 use Rattle.gix_ref_packed.specs.declared.packed.iter.error.Error.TheVariants.{Header as bad_header, Reference as bad_line}
 use Rattle.gix_ref_target.specs.PackedRecords.{Record}
 use Rattle.gix_ref_packed_text.specs.RecordGrammar.{NoRecord, Records, Below}
-use Rattle.gix_ref_packed_text.specs.Prefixes.{RecordAt, NamesAscend}
+use Rattle.gix_ref_packed_text.specs.Prefixes.{NamedLine, NamesAscend}
 use Rattle.gix_ref_packed.specs.Items.{ItemStep, has_prefix, unread}
 use Rattle.gix_ref_packed_text.specs.Views.{record_of}
 
@@ -47,16 +47,16 @@ abbrev pub EndedStaysEnded : Type 0
 EndedStaysEnded = (s t u : Iter) (item : Option (Result Reference Error)) → ItemStep s None t →
     ItemStep t item u → item ≡ None
 
--- a record that begins a line of what is unread, and is asked for, whatever the other lines are
-abbrev pub IsOwed : Iter → Record → Type 0
-IsOwed it r = ((p : ℕ) × RecordAt (unread it).kind (unread it).text p r)
-    × (has_prefix (unread it).prefix r.name ≡ true)
+-- a line of what is unread has this name, which is asked for, whatever the lines are
+abbrev pub IsOwed : Iter → (name : List ℕ) → Type 0
+IsOwed it name = ((p : ℕ) × NamedLine (unread it).kind (unread it).text p name)
+    × (has_prefix (unread it).prefix name ≡ true)
 
--- no record of what is unread comes before those that are asked for
+-- no name of what is unread comes before those that are asked for
 abbrev pub NoneIsBefore : Option (List ℕ) → Iter → Type 0
 NoneIsBefore None it = Unit {0}
-NoneIsBefore (Some prefix) it = (p : ℕ) (r : Record) →
-    RecordAt (unread it).kind (unread it).text p r → Below r.name prefix → ⊥
+NoneIsBefore (Some prefix) it = (p : ℕ) (name : List ℕ) →
+    NamedLine (unread it).kind (unread it).text p name → Below name prefix → ⊥
 
 -- the names of what is unread ascend, whatever its other lines are
 pub record IsInOrder (it : Iter) : Type 0 where
@@ -68,26 +68,29 @@ pub record IsAtBadLine (it : Iter) : Type 0 where
   pub some : (unread it).text ≢ []
   pub bad : NoRecord (unread it).kind (unread it).text
 
--- a record that begins a line of the text, whose name begins with the prefix
-abbrev pub IsAsked : Kind → List ℕ → (prefix : List ℕ) → Record → Type 0
-IsAsked kind text prefix r =
-    ((p : ℕ) × RecordAt kind text p r) × (starts_with nat_eq r.name prefix ≡ true)
+-- a line of the text, which has the form of a record's, has this name, which begins with the prefix
+abbrev pub IsAsked : Kind → List ℕ → (prefix name : List ℕ) → Type 0
+IsAsked kind text prefix name =
+    ((p : ℕ) × NamedLine kind text p name) × (starts_with nat_eq name prefix ≡ true)
 
--- Where these records were given, it is yet to give each other one of the text with the prefix; or it gives a line that is no
--- record.
-abbrev pub Owes : Kind → (text prefix : List ℕ) → (given : List Record) → Iter → Type 0
+-- Where records of these names were given, it is yet to give one of each other name of the text with the prefix; or it gives a line
+-- that is no record.
+abbrev pub Owes : Kind → (text prefix : List ℕ) → (given : List (List ℕ)) → Iter → Type 0
 Owes kind text prefix given it = IsAtBadLine it
-    ⊎ (IsInOrder it × ((r : Record) → IsAsked kind text prefix r → Contains given r ⊎ IsOwed it r))
+    ⊎ (IsInOrder it × ((name : List ℕ) → IsAsked kind text prefix name →
+    Contains given name ⊎ IsOwed it name))
 
 -- one item of an iterator that owes these, and what it owes then; at its end all were given, unless an item was a fault
-abbrev pub PaysOne : Kind → (text prefix : List ℕ) → (given : List Record) →
+abbrev pub PaysOne : Kind → (text prefix : List ℕ) → (given : List (List ℕ)) →
     Option (Result Reference Error) → Iter → Type 0
-PaysOne kind text prefix given None t = (r : Record) → IsAsked kind text prefix r → Contains given r
-PaysOne kind text prefix given (Some (Ok x)) t = Owes kind text prefix (record_of x ∷ given) t
+PaysOne kind text prefix given None t = (name : List ℕ) → IsAsked kind text prefix name →
+    Contains given name
+PaysOne kind text prefix given (Some (Ok x)) t = Owes kind text prefix
+    ((record_of x).name ∷ given) t
 PaysOne kind text prefix given (Some (Err e)) t = Unit {0}
 
--- of any text: one call of `next` gives a record that the iterator owes, or a fault, or all were given
+-- of any text: one call of `next` gives a record of a name that the iterator owes, or a fault, or all were given
 abbrev pub NextPaysOne : Type 0
-NextPaysOne = (kind : Kind) (text prefix : List ℕ) (given : List Record) (s t : Iter)
+NextPaysOne = (kind : Kind) (text prefix : List ℕ) (given : List (List ℕ)) (s t : Iter)
     (item : Option (Result Reference Error)) → Owes kind text prefix given s → ItemStep s item t
     → PaysOne kind text prefix given item t

@@ -9,10 +9,10 @@
 //! - the same for a caller that keeps the iterator: which records it is yet to give, and that each `next` gives the first of
 //!   them, none after the last, and for no text a fault that is no line: `Buffer::iter`, `iter_prefixed`,
 //!   `packed::laws::next_gives_the_first`
-//! - of any text whose names ascend, whatever its other lines are: each record of a prefix is yet to be given, or a line that is
-//!   no record; so where the items end without a fault, none is missing: `Buffer::iter_prefixed`, clause `owes` (`Owes`,
-//!   `NextPaysOne` in `YetToGive.antt`), `packed::laws::next_gives_the_first`, clause `pays`; of what is read of a file for the
-//!   prefix `PackedFile::into_prefixed`, clause `asked`
+//! - of any text whose names ascend: of each line of a record's form with a name of a prefix a record is yet to be given, or a
+//!   line that is no record; so where the items end without a fault, none is missing, and each is a record: `Buffer::iter_prefixed`,
+//!   clause `owes` (`Owes`, `NextPaysOne` in `YetToGive.antt`), `packed::laws::next_gives_the_first`, clause `pays`; of what is
+//!   read of a file for the prefix `PackedFile::into_prefixed`, clause `asked`
 //! - of an opened file a buffer has all records of a prefix, with the file's line numbers; why it cannot be read:
 //!   `packed::file::PackedFile::into_prefixed`, `packed::laws::prefixed_buffers_hold_records`
 //! - on ascending records a search gives the record of the name or none, and no fault; on any text a hit is a record of the name

@@ -1,6 +1,7 @@
 pub mod AlterLemmas
 pub mod CutRecords
 pub mod DigitLemmas
+pub mod FrontTexts
 pub mod Halves
 pub mod HeaderLemmas
 pub mod LineBounds

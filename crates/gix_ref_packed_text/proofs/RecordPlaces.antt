@@ -43,7 +43,7 @@ hex_no_lf d k h i x lt same =
     let hex : is_hex_digit (get_or d i x) ≡ true = h.digits i x lt in
     let bad : is_hex_digit 10 ≡ true = subst (λ (b : ℕ). is_hex_digit b ≡ true) same hex in cc
 
-line_no_lf : (l : List ℕ) → All (λ b. in_record_line b ≡ true) l → NoLf l
+pub line_no_lf : (l : List ℕ) → All (λ b. in_record_line b ≡ true) l → NoLf l
 line_no_lf l passes i x lt same =
     let bad : in_record_line 10 ≡ true = subst (λ (b : ℕ). in_record_line b ≡ true) same (passes i x lt) in cc
 

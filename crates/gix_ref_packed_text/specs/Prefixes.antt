@@ -2,8 +2,9 @@
 use Rattle.std.specs.Prelude.{◌≡◌, ◌≢◌, ◌<◌, ◌≤◌, ◌⊎◌, ℕ, List, [], ◌++◌, nat_eq, length, drop}
 use Rattle.std.specs.List.{All, filter, starts_with}
 use Rattle.gix_ref_hash.specs.declared.hash.Kind.{Kind}
+use Rattle.gix_ref_hash.specs.Bytes.{StopsAt}
 use Rattle.gix_ref_target.specs.PackedRecords.{Record}
-use Rattle.gix_ref_packed_text.specs.RecordGrammar.{Takes, NoRecord, Records, Below}
+use Rattle.gix_ref_packed_text.specs.RecordGrammar.{RecordLine, Takes, NoRecord, Records, Below, is_caret}
 use Rattle.gix_ref_packed_text.specs.OpenedText.{Fronts}
 use Rattle.gix_ref_packed_text.specs.Positions.{BeginsLine, NameAt}
 
@@ -37,6 +38,17 @@ abbrev pub NameAtLine : Kind → List ℕ → ℕ → List ℕ → Type 0
 NameAtLine kind text place name = BeginsLine text place × NameAt kind (drop place text) name
     × (name ≢ [])
 
+-- A line begins there that has the form of a record's, with this name: as many bytes as an id has digits, the first no `^` and none a
+-- LF, a space and the name. Whether it is a record, its id and its name say.
+pub record NamedLine (kind : Kind) (text : List ℕ) (place : ℕ) (name : List ℕ) : Type 0 where
+  pub begins : BeginsLine text place
+  pub digits : List ℕ
+  pub rest : List ℕ
+  pub line : RecordLine kind (drop place text) digits name rest
+  pub one_line : All (λ b. b ≢ 10) digits
+  pub no_caret : StopsAt is_caret (drop place text)
+  pub some_name : name ≢ []
+
 -- the names of a text ascend, whatever its other lines are
 abbrev pub NamesAscend : Kind → List ℕ → Type 0
 NamesAscend kind text = (p q : ℕ) (m n : List ℕ) → p < q → NameAtLine kind text p m →
@@ -47,11 +59,12 @@ abbrev pub IsNameStart : Kind → List ℕ → ℕ → Type 0
 IsNameStart kind text place = (place ≡ length text)
     ⊎ ((name : List ℕ) × NameAtLine kind text place name)
 
--- the records before the place are below the wanted name, and those from there on are not
+-- the lines with a name before the place are below the wanted name, and those from there on are not
 pub record SplitsLines (kind : Kind) (text wanted : List ℕ) (place : ℕ) : Type 0 where
   pub there : IsNameStart kind text place
-  pub low : (p : ℕ) (r : Record) → p < place → RecordAt kind text p r → Below r.name wanted
-  pub high : (p : ℕ) (r : Record) → place ≤ p → RecordAt kind text p r → Below r.name wanted → ⊥
+  pub low : (p : ℕ) (name : List ℕ) → p < place → NamedLine kind text p name → Below name wanted
+  pub high : (p : ℕ) (name : List ℕ) → place ≤ p → NamedLine kind text p name →
+      Below name wanted → ⊥
 
 -- a line begins there that is no record
 pub record IsBadStart (kind : Kind) (text : List ℕ) (place : ℕ) : Type 0 where

@@ -4,9 +4,9 @@
 //!
 //! # What is proved
 //!
-//! - what becomes of `packed-refs`: where it is well formed, its records without those of deleted references, as they are
-//!   spelled, in a text that is read as them again; the file is removed where none is left, and stays where no deletion finds a
-//!   record: `repack::repack`, clause `repacked` (`IsRepack` in `Repacks.antt`)
+//! - what becomes of `packed-refs`: where it is well formed, its records without those of deleted references, byte for byte, in a
+//!   text that is read as them again; the file is removed where none is left, and stays where no deletion finds a record:
+//!   `repack::repack`, clause `repacked` (`IsRepack` in `Repacks.antt`)
 //! - of a well-formed one it fails only by a fault of files or for want of memory; of any text the line that is reported is no
 //!   record, and no line that is no record is passed over where an edit removes a record; no file changes, and none is looked at
 //!   where no edit removes a record: the same, clauses `sound`, `refused`, `whole`, `idle`, `reads`, `counted`

@@ -4,6 +4,7 @@ pub mod RunLemmas
 pub mod Updating
 pub mod WordLemmas
 pub mod ItemLemmas
+pub mod ListedNames
 pub mod Listing
 pub mod ListLoop
 pub mod LogLoop

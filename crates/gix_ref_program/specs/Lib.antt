@@ -1,5 +1,6 @@
 pub mod AskedEdits
 pub mod ListPrinting
+pub mod ListedItems
 pub mod Outcomes
 pub mod Runs
 pub mod ScriptLines

@@ -8,6 +8,7 @@ use Rattle.gix_ref_files.specs.Files.{FaultCounts}
 use Rattle.gix_ref_files.specs.Tree.{Content, is_file, bytes_of}
 use Rattle.gix_ref_log.specs.LogItems.{IsLentRun, items_from}
 use Rattle.gix_ref_log.specs.LogWindows.{NextRefStep}
+use Rattle.gix_ref_packed.specs.OpenFiles.{HasReadFault}
 use Rattle.gix_ref_program.specs.Printed.{fault_line}
 use Rattle.gix_ref_log.specs.declared.log.line.LineRef.{LineRef}
 use Rattle.gix_ref_log.specs.declared.log.iter.backward.Reverse.{Reverse}
@@ -35,6 +36,12 @@ abbrev pub AreLogItems : Option Content → (whole : Bool) → List (Result Line
 AreLogItems content whole items =
     ((is_file content ≡ false) × (items ≡ []))
     ⊎ ((is_file content ≡ true) × IsLentRun (whole ≡ true) (items_from 4096 1 (bytes_of content)) items)
+
+-- where an item is a fault of reading, a reader has counted it
+abbrev pub IsCountedFault : {R : Type 0} → (faults : R → FaultCounts) →
+    Result LineRef ReverseError → Type 0
+IsCountedFault faults (Err (Io error)) = HasReadFault faults error
+IsCountedFault faults item = Unit {0}
 
 -- the text of an item, if there is one
 abbrev pub next_log_text : Option (Result LineRef ReverseError) → List ℕ

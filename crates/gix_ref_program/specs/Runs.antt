@@ -1,5 +1,7 @@
 -- The outcome of a run of the program.
-use Rattle.std.specs.Prelude.{◌≡◌, ◌⊎◌, ℕ, List, [], ◌∷◌, Bool, true, false, codes, Option, Some, None, Result, IfOk}
+use Rattle.std.specs.Prelude.{◌≡◌, ◌⊎◌, ℕ, List, [], ◌∷◌, Bool, true, false, codes, Option, Some, None, Result, Ok, IfOk}
+use denote.Ref.{Bor}
+use Rattle.std.specs.Iterator.{DrainsIf}
 use Rattle.gix_ref_files.specs.declared.files.FileError.{FileError}
 use Rattle.std.specs.Io.KnownBytes.{Appends}
 use Rattle.std.specs.List.{AllByRecursion, flat_map}
@@ -15,6 +17,7 @@ use Rattle.gix_ref_log.specs.declared.actor.SignatureRef.{SignatureRef}
 use Rattle.gix_ref_target.specs.PackedRecords.{Record}
 use Rattle.gix_ref_files.specs.declared.files.ReadAt.{Ghosts}
 use Rattle.gix_ref_lookup.specs.Lookups.{IsSound}
+use Rattle.gix_ref_lookup.specs.Reflogs.{count_by}
 use Rattle.gix_ref_lookup.specs.declared.settings.Settings.{Settings}
 use Rattle.gix_ref_theory.specs.Views.{View}
 use Rattle.gix_ref_lookup.specs.declared.find.records.Records.TheVariants.{Unopened}
@@ -22,8 +25,11 @@ use Rattle.gix_ref_store.specs.Lookup.{AreRecordsIn, FindsAmong, SeesIn, FailsIn
 use Rattle.gix_ref_store.specs.Prepared.{tree_of, HasGoodRecords, IsAtRest}
 use Rattle.gix_ref_store.specs.Store.{files_of, folders, kind_of}
 use Rattle.gix_ref_store.specs.Reflogs.{reflog_at, IsNoReflog}
-use Rattle.gix_ref_store.specs.Listings.{prefix_of_all, walked_prefix, AreFirst, IsNoListing, IsWalkedIn}
+use Rattle.gix_ref_store.specs.Listings.{prefix_of_all, walked_prefix, AreFirst, AreHeldFor, FollowsWalked, IsNoListing, IsWalkedIn, NextItem}
+use Rattle.gix_ref_store.specs.declared.file.iter.LooseThenPacked.{LooseThenPacked}
+use Rattle.gix_ref_store.specs.declared.file.iter.Remaining.{Remaining}
 use Rattle.gix_ref_packed.specs.OpenFiles.{HasReadFault}
+use Rattle.gix_ref_packed.specs.declared.packed.buffer.Buffer.{Buffer}
 use Rattle.gix_ref_packed_text.specs.declared.raw.Reference.{Reference}
 use Rattle.gix_ref_listing.specs.CleanPrefixes.{IsAcceptedPrefix}
 use Rattle.gix_ref_listing.specs.Listings.{Listed as ListedName}
@@ -45,7 +51,8 @@ use Rattle.gix_ref_program.specs.ScriptLines.{script_lines}
 use Rattle.gix_ref_program.specs.Scripts.{IsSaid, IsScriptLoss, IsScriptStop, ScriptEnd, ScriptEnds, script_status}
 use Rattle.gix_ref_program.specs.Writes.{IsKept, IsWriteLoss, IsWriteStop, Terms, WriteComes, terms_of}
 use Rattle.gix_ref_program.specs.ListPrinting.{list_text}
-use Rattle.gix_ref_program.specs.LogPrinting.{log_text, AreLogItems}
+use Rattle.gix_ref_program.specs.ListedItems.{LackNone}
+use Rattle.gix_ref_program.specs.LogPrinting.{log_text, AreLogItems, IsCountedFault}
 use Rattle.gix_ref_program.specs.Printed.{items_status}
 use Rattle.gix_ref_program.specs.Words.{Asked, Update, Symbolic, Delete, Show, Listing as AskedListing, Log, Script, LineAsked, AreWordsOf, MayWrite, who_given}
 use Rattle.gix_ref_program.specs.declared.outcome.Outcome.{Outcome}
@@ -172,25 +179,28 @@ module _ {F : Type 0} where
   prefix_asked store None = prefix_of_all store.namespace
   prefix_asked store (Some prefix) = prefix
 
-  -- A reflog is refused: it is not read, or its name breaks a rule.
-  abbrev pub RefusesReflog : (old new : Store F) → (name : List ℕ) → Outcome → Type 0
-  RefusesReflog old new name (outcomes.Refused (refusals.Log error) locks) =
-      IsNoReflog old name error × (locks.items ≡ [])
-  RefusesReflog old new name (outcomes.Refused (refusals.Name error) locks) =
+  -- A reflog is refused: it is not read, and a fault of files is counted; or its name breaks a rule.
+  abbrev pub RefusesReflog : (faults : F → FaultCounts) → (old new : Store F) → (name : List ℕ) →
+      Outcome → Type 0
+  RefusesReflog faults old new name (outcomes.Refused (refusals.Log error) locks) =
+      IsNoReflog old name error
+      × (faults (files_of new) ≡ count_by error (faults (files_of old)))
+      × (locks.items ≡ [])
+  RefusesReflog faults old new name (outcomes.Refused (refusals.Name error) locks) =
       (full_error name ≡ Some error) × (new ≡ old) × (locks.items ≡ [])
-  RefusesReflog old new name outcome = ⊥
-
-  -- A reflog: it is refused; or its items are printed, newest first.
-  abbrev pub LogRan : (honest : Type 0) (means : F → Meaning) → (old new : Store F) →
-      (name : List ℕ) → Ran → Type 0
-  LogRan honest means old new name (Said outcome) = RefusesReflog old new name outcome
-  LogRan honest means old new name (Listed whole items) = ⊥
-  LogRan honest means old new name (Scripted end said) = ⊥
-  LogRan honest means old new name (Logged whole items) =
-      (full_error name ≡ None) × (honest → AreLogItems (reflog_at means old name) whole items)
-      × EndsAtError items
+  RefusesReflog faults old new name outcome = ⊥
 
   module _ (honest : Type 0) (means : F → Meaning) (faults : F → FaultCounts) where
+    -- A reflog: it is refused; or its items are printed, newest first. A fault of reading among them is one that a reader counted.
+    abbrev pub LogRan : {R : Type 0} (G : Ghosts R) → (old new : Store F) → (name : List ℕ) →
+        Ran → Type 0
+    LogRan G old new name (Said outcome) = RefusesReflog faults old new name outcome
+    LogRan G old new name (Listed whole items) = ⊥
+    LogRan G old new name (Scripted end said) = ⊥
+    LogRan G old new name (Logged whole items) =
+        (full_error name ≡ None) × (honest → AreLogItems (reflog_at means old name) whole items)
+        × EndsAtError items × AllByRecursion (IsCountedFault G.faults) items
+
     -- A lookup: what it finds is shown; or there is nothing; or it fails; or its name breaks a rule.
     abbrev pub ShowOutcome : {R : Type 0} (G : Ghosts R) → (old new : Store F) → (name : List ℕ) →
         Outcome → Type 0
@@ -199,8 +209,9 @@ module _ {F : Type 0} where
         × ((records : List Record) → AreRecordsIn means old records →
         FindsAmong means old records name (Some reference))
     ShowOutcome G old new name (outcomes.Refused refusals.NotFound locks) =
-        (honest → (records : List Record) → AreRecordsIn means old records →
-        FindsAmong means old records name None) × (locks.items ≡ [])
+        (honest → SeesIn {G = G} means true old Unopened name None
+        × ((records : List Record) → AreRecordsIn means old records →
+        FindsAmong means old records name None)) × (locks.items ≡ [])
     ShowOutcome G old new name (outcomes.Refused (refusals.Find error) locks) =
         FailsIn {G = G} honest means faults true old new Unopened name error
         × (honest → (records : List Record) → AreRecordsIn means old records → IsSound error)
@@ -221,29 +232,34 @@ module _ {F : Type 0} where
       pub first : AreFirst honest means faults settings view before now listed rest items
       pub ends : whole ≡ true → rest ≡ []
 
-    -- A listing of the names that a walk found, among these records: there was no memory; or its items are printed, by ascending
-    -- names.
-    abbrev pub ListRanAmong : (old new : Store F) → LooseNames → (Are : List Record → Type 0) →
+    -- A listing of the names that a walk found, with the records of a buffer if one is given: there was no memory; or its items are
+    -- printed, by ascending names.
+    abbrev pub ListRanAmong : (old new : Store F) → LooseNames → (packed : Option (Bor Buffer)) →
         Ran → Type 0
-    ListRanAmong old new names Are (Said (outcomes.Refused (refusals.List error) locks)) =
+    ListRanAmong old new names packed (Said (outcomes.Refused (refusals.List error) locks)) =
         (error ≡ no_list.Memory) × (locks.items ≡ [])
-    ListRanAmong old new names Are (Listed whole items) =
-        honest → (start : Store F) (records : List Record) →
-        IsWalkedIn honest means faults start old names → Are records →
+    ListRanAmong old new names packed (Listed whole items) =
+        honest → ((it : LooseThenPacked F Remaining)
+        × FollowsWalked honest means faults old names packed (Ok it)
+        × DrainsIf (NextItem honest means faults) (whole ≡ true) it items)
+        × ((start : Store F) (records : List Record) →
+        IsWalkedIn honest means faults start old names →
+        AreHeldFor old (walked_prefix names) packed records →
         AreListed (settings_of start) (view_in means start) (faults (files_of start))
-        (faults (files_of new)) records (walked_prefix names) whole items
-    ListRanAmong old new names Are ran = ⊥
+        (faults (files_of new)) records (walked_prefix names) whole items)
+    ListRanAmong old new names packed ran = ⊥
 
-    -- A listing: it is refused; or its items are printed.
+    -- A listing: it is refused; or its items are printed. None is lacking, whatever the lines of `packed-refs` are.
     abbrev pub ListRan : {R : Type 0} (G : Ghosts R) → (old new : Store F) → (prefix : List ℕ) →
         Ran → Type 0
     ListRan G old new prefix (Said (outcomes.Refused (refusals.List error) locks)) =
         IsNoListing honest means faults G old new prefix error × (locks.items ≡ [])
     ListRan G old new prefix (Listed whole items) =
         IsAcceptedPrefix old.namespace prefix
-        × (honest → (records : List Record) → AreRecordsIn means old records →
+        × (honest → LackNone means old prefix whole items
+        × ((records : List Record) → AreRecordsIn means old records →
         AreListed (settings_of old) (view_in means old) (faults (files_of old))
-        (faults (files_of new)) records prefix whole items)
+        (faults (files_of new)) records prefix whole items))
     ListRan G old new prefix ran = ⊥
 
     -- what is printed of commands that write
@@ -265,7 +281,7 @@ module _ {F : Type 0} where
     CommandRan G old new terms (Show name) (Said outcome) = ShowOutcome G old new name outcome
     CommandRan G old new terms (AskedListing prefix) ran =
         ListRan G old new (prefix_asked old prefix) ran
-    CommandRan G old new terms (Log name) ran = LogRan honest means old new name ran
+    CommandRan G old new terms (Log name) ran = LogRan G old new name ran
     CommandRan G old new terms asked ran = ⊥
 
     -- a stop in it leaves this tree: as before; or, where it writes, what a stop in its transaction leaves

@@ -21,10 +21,12 @@
 //! - `show` prints what a lookup in the store finds, or the error with which it fails; the clauses are those of the lookup:
 //!   `run::run`
 //! - `list` prints the items of the listing of the prefix over a well-formed `packed-refs`, in their order, and the status is 1
-//!   exactly where one is a fault; why there is no listing; where the writer fails nothing is said of what was written:
-//!   `run::run`, `list::print_items` (`ListRan` in `Runs.antt`)
+//!   exactly where one is a fault; over any other that can be opened and whose names ascend, no name is lacking where each item
+//!   is a reference (`LackNone` in `ListedItems.antt`); why there is no listing; where the writer fails nothing is said of what
+//!   was written: `run::run`, `list::print_items` (`ListRan` in `Runs.antt`)
 //! - `log` prints the items of `reflog_iter_rev` through 4,096 bytes, in their order, and the status is 1 exactly where one is a
-//!   fault; where the writer fails nothing is said of what was written: `run::run`, `log::print_items`
+//!   fault; a fault of reading is one that was counted; where the writer fails nothing is said of what was written: `run::run`,
+//!   `log::print_items`
 //! - arguments are a command exactly where they have its form: `words::parse`
 //! - invalid arguments print `wrong words`, exit with 2 and change nothing, unless there is no memory for them, which is printed,
 //!   with 1; a valid command prints its result and any leftover locks, and exits with 0 or 1, or returns the writer's error; at

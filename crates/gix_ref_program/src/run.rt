@@ -1,7 +1,6 @@
 //! One run of the program, over any files.
 ghost use Rattle.std.specs.Prelude.{◌≡◌, ◌⊎◌, List, [], ◌∷◌, Option, None, MatchResult};
 ghost use Rattle.gix_ref_store.specs.Store.{files_of};
-ghost use Rattle.gix_ref_store.specs.Listings.{AreHeldFor, walked_prefix};
 ghost use Rattle.gix_ref_store.specs.Lookup.{LooksUp};
 ghost use Rattle.gix_ref_files.specs.Calls.{Unchanged};
 ghost use Rattle.gix_ref_files.specs.DiskCalls.{Untouched};
@@ -80,8 +79,8 @@ fn print_log<F: Files, W: Write>(
     name: &[u8],
     out: &mut W,
 ) -> io::Result<u8>
-    ensures prints { Prints (LogRan F.honest F.means store.old store.new name.now)
-        (W.contents out.old) (W.contents out.new) result }
+    ensures prints { Prints (LogRan F.honest F.means F.faults F.Reader.ReadAt store.old store.new
+        name.now) (W.contents out.old) (W.contents out.new) result }
     ensures leaves { F.honest → AtEveryStop F.means (files_of store.old)
         (files_of store.new) Unchanged }
 {
@@ -106,8 +105,7 @@ fn print_among<F: Files, W: Write>(
     out: &mut W,
 ) -> io::Result<u8>
     ensures prints { Prints (ListRanAmong F.honest F.means F.faults store.old store.new names
-        (AreHeldFor store.old (walked_prefix names) packed.entry)) (W.contents out.old)
-        (W.contents out.new) result }
+        packed.entry) (W.contents out.old) (W.contents out.new) result }
     ensures unchanged { LooksUp F.honest F.means store.old store.new }
 {
     match store.iter_walked(alloc, names, packed) {

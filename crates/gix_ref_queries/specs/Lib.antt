@@ -2,6 +2,7 @@ pub mod Answers
 pub mod Arguments
 pub mod Asks
 pub mod Formats
+pub mod ListedNames
 pub mod LogRows
 pub mod Patterns
 pub mod Resolving

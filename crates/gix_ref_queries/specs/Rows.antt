@@ -1,6 +1,7 @@
 -- The rows of `git for-each-ref`: one for each reference that is asked for and leads to an object.
 use Rattle.std.specs.Prelude.{◌≡◌, ◌⊎◌, ℕ, Bool, true, false, List, [], ◌∷◌, ◌++◌, Option, Some, None, Result, Ok, Err, Vec, map, reverse, take, codes, if◌then◌else◌, MatchResult}
-use Rattle.std.specs.Iterator.{Yields}
+use denote.Ref.{Bor}
+use Rattle.std.specs.Iterator.{Drains, Yields, YieldsThen}
 use Rattle.std.specs.List.{AllByRecursion, Any, filter, filter_map, find, flat_map}
 use Rattle.std.specs.Option.{option_map}
 use Rattle.std.specs.declared.alloc.Global.{Global}
@@ -11,16 +12,18 @@ use Rattle.gix_ref_target.specs.PackedRecords.{Record}
 use Rattle.gix_ref_target.specs.Targets.{TargetValue, target_value}
 use Rattle.gix_ref_target.specs.Targets.TargetValue.{object_id, symbolic_name}
 use Rattle.gix_ref_theory.specs.Views.{View}
+use Rattle.gix_ref_packed.specs.declared.packed.buffer.Buffer.{Buffer}
 use Rattle.gix_ref_packed_text.specs.declared.raw.Reference.{Reference}
 use Rattle.gix_ref_lookup.specs.declared.settings.Settings.{Settings}
 use Rattle.gix_ref_listing.specs.CleanPrefixes.{IsAcceptedPrefix}
 use Rattle.gix_ref_listing.specs.Listings.{Listed}
+use Rattle.gix_ref_listing.specs.OwedNames.{IsFaultOf}
 use Rattle.gix_ref_listing.specs.WholeListings.{IsListing, IsNameOrMet}
 use Rattle.gix_ref_listing.specs.declared.error.Error.{Error as ItemError}
 use Rattle.gix_ref_listing.specs.declared.error.Error.TheVariants as item
 use Rattle.gix_ref_listing.specs.declared.list.LooseNames.{LooseNames}
 use Rattle.gix_ref_listing.specs.declared.prefix.Error.TheVariants as list
-use Rattle.gix_ref_store.specs.Listings.{AreFirst, IsNoListing, IsWalkedIn, NextItem, walked_prefix}
+use Rattle.gix_ref_store.specs.Listings.{AreFirst, AreHeldFor, FollowsWalked, IsNoListing, IsWalkedIn, NextItem, OfPackedText, walked_prefix}
 use Rattle.gix_ref_store.specs.Lookup.{AreRecordsIn, LooksUp, settings_of, view_in}
 use Rattle.gix_ref_store.specs.Store.{files_of}
 use Rattle.gix_ref_store.specs.declared.file.iter.LooseThenPacked.{LooseThenPacked}
@@ -28,6 +31,7 @@ use Rattle.gix_ref_store.specs.declared.file.iter.Remaining.{Remaining}
 use Rattle.gix_ref_store.specs.declared.file.store.Store.{Store}
 use Rattle.gix_ref_queries.specs.Answers.{Says, Fails}
 use Rattle.gix_ref_queries.specs.Formats.{format_parts, row_text, shows_short}
+use Rattle.gix_ref_queries.specs.ListedNames.{LackNone}
 use Rattle.gix_ref_queries.specs.Patterns.{has_other_sign, is_asked_by}
 use Rattle.gix_ref_queries.specs.Resolving.{TargetsByName, NameEnd, IsUnread, targets_in, resolved}
 use Rattle.gix_ref_queries.specs.Resolving.NameEnd.{Reached}
@@ -157,7 +161,7 @@ module _ {F : Type 0} (honest : Type 0) (means : F → Meaning) (faults : F → 
   -- An iterator gave references, and then this fault; or there was no memory.
   abbrev pub StopsAtItem : (old new : LooseThenPacked F Remaining) → ItemError → Type 0
   StopsAtItem old new error = (error ≡ item.Memory) ⊎ ((all : List Reference)
-      × Yields (NextItem honest means faults) old (as_items all ++ Err error ∷ []) new)
+      × YieldsThen (NextItem honest means faults) old (as_items all) (Some (Err error)) new)
 
   -- Items of the listing of a prefix, between two counts of faults: the first ones, before `rest`. A folder that could not be listed is
   -- among them only with a fault that was counted.
@@ -175,47 +179,60 @@ module _ {F : Type 0} (honest : Type 0) (means : F → Meaning) (faults : F → 
   AreListedIn old new records prefix rest items = AreListed (settings_of old) (view_in means old)
       (faults (files_of old)) (faults (files_of new)) records prefix rest items
 
-  -- the references of a whole listing that are asked for
-  abbrev pub AreAsked : (old new : Store F) → List Record → (prefix : List ℕ) →
-      (patterns : List (List ℕ)) → List Reference → Type 0
-  AreAsked old new records prefix patterns references = (all : List Reference)
-      × AreListedIn old new records prefix [] (as_items all)
-      × (references ≡ filter (is_asked patterns) all)
-
   -- a listing goes up to this fault; or there was no memory
   abbrev pub EndsAtItem : (old new : Store F) → List Record → (prefix : List ℕ) → ItemError → Type 0
   EndsAtItem old new records prefix error = (error ≡ item.Memory) ⊎ ((all : List Reference)
       × (rest : List Listed)
       × AreListedIn old new records prefix rest (as_items all ++ Err error ∷ []))
 
-  -- what is found of the references of a listing
-  abbrev pub FindsAsked : (old new : Store F) → List Record → (prefix : List ℕ) →
-      (patterns : List (List ℕ)) → Result (Vec Reference Global) ItemError → Type 0
-  FindsAsked old new records prefix patterns (Ok found) =
-      AreAsked old new records prefix patterns found.items
-  FindsAsked old new records prefix patterns (Err error) = EndsAtItem old new records prefix error
+  -- an iterator over the names of a walk and the records of a buffer gives these references, and no more
+  abbrev pub GivesAll : (old : Store F) → LooseNames → (packed : Option (Bor Buffer)) →
+      (all : List Reference) → Type 0
+  GivesAll old names packed all = (it : LooseThenPacked F Remaining)
+      × FollowsWalked honest means faults old names packed (Ok it)
+      × Drains (NextItem honest means faults) it (as_items all)
 
-  -- and so among the names of a walk and these records
-  abbrev pub FindsAmongNames : (old new : Store F) → LooseNames → (Are : List Record → Type 0) →
-      (patterns : List (List ℕ)) → Result (Vec Reference Global) ItemError → Type 0
-  FindsAmongNames old new names Are patterns found = honest → (start : Store F)
-      (records : List Record) → IsWalkedIn honest means faults start old names → Are records →
-      FindsAsked start new records (walked_prefix names) patterns found
+  -- or it gives some references, and then this fault; or there was no memory
+  abbrev pub GivesFault : (old : Store F) → LooseNames → (packed : Option (Bor Buffer)) →
+      ItemError → Type 0
+  GivesFault old names packed error = (error ≡ item.Memory) ⊎ ((it : LooseThenPacked F Remaining)
+      × (end : LooseThenPacked F Remaining) × (all : List Reference)
+      × FollowsWalked honest means faults old names packed (Ok it)
+      × YieldsThen (NextItem honest means faults) it (as_items all) (Some (Err error)) end)
 
-  -- the references of a prefix that are asked for
+  -- what is found of the references of a listing, among the names of a walk and the records of a buffer
+  abbrev pub FindsAmongNames : (old new : Store F) → LooseNames → (packed : Option (Bor Buffer)) →
+      (patterns : List (List ℕ)) → Result (Vec Reference Global) ItemError → Type 0
+  FindsAmongNames old new names packed patterns (Ok found) = (all : List Reference)
+      × (found.items ≡ filter (is_asked patterns) all)
+      × (honest → GivesAll old names packed all × ((start : Store F) (records : List Record) →
+      IsWalkedIn honest means faults start old names →
+      AreHeldFor old (walked_prefix names) packed records →
+      AreListedIn start new records (walked_prefix names) [] (as_items all)))
+  FindsAmongNames old new names packed patterns (Err error) = honest →
+      GivesFault old names packed error × ((start : Store F) (records : List Record) →
+      IsWalkedIn honest means faults start old names →
+      AreHeldFor old (walked_prefix names) packed records →
+      EndsAtItem start new records (walked_prefix names) error)
+
+  -- The references of a prefix that are asked for, of all of them. None is lacking, whatever the lines of `packed-refs` are.
   abbrev pub ListsAsked : (old new : Store F) → (prefix : List ℕ) → (patterns : List (List ℕ)) →
       List Reference → Type 0
   ListsAsked old new prefix patterns references = IsAcceptedPrefix old.namespace prefix
-      × (honest → (records : List Record) → AreRecordsIn means old records →
-      AreAsked old new records prefix patterns references)
+      × (all : List Reference) × (references ≡ filter (is_asked patterns) all)
+      × (honest → LackNone means old prefix all
+      × ((records : List Record) → AreRecordsIn means old records →
+      AreListedIn old new records prefix [] (as_items all)))
 
   module _ {R : Type 0} (G : Ghosts R) where
-    -- why the references of a prefix are not listed
+    -- Why the references of a prefix are not listed. A fault of a line is about a line of the text of `packed-refs` that is no record.
     abbrev pub IsUnlisted : (old new : Store F) → (prefix : List ℕ) → Unlisted → Type 0
     IsUnlisted old new prefix (unlisted.Prefix error) =
         IsNoListing honest means faults G old new prefix error
-    IsUnlisted old new prefix (unlisted.Item error) = honest → (records : List Record) →
-        AreRecordsIn means old records → EndsAtItem old new records prefix error
+    IsUnlisted old new prefix (unlisted.Item error) = honest → ((error ≡ item.Memory)
+        ⊎ OfPackedText means old prefix (λ text. IsFaultOf text error))
+        × ((records : List Record) → AreRecordsIn means old records →
+        EndsAtItem old new records prefix error)
 
     -- the references of a prefix that are asked for are listed so, or this is why not
     abbrev pub ListsAs : (old new : Store F) → (prefix : List ℕ) → (patterns : List (List ℕ)) →

@@ -1,5 +1,5 @@
-//! Commands that read a store, and answer as Git does: `show-ref --verify`, `symbolic-ref`, `reflog exists`, `reflog show`, `for-each-ref`; and
-//! `locks`, which lists and removes lock files.
+//! Commands that read a store, and answer as Git does: `show-ref --verify`, `symbolic-ref`, `reflog exists`, `reflog show`,
+//! `for-each-ref`; and `locks`, which lists and removes lock files.
 //!
 //! # What is proved
 //!
@@ -11,7 +11,8 @@
 //! - the short name of a reference: what comes after the longest front, where no other name that Git takes it for leads to an object:
 //!   `short::short_name` (`Shortening.antt`)
 //! - each entry of a log that can be read, newest first, with its place: `reflog::show_log` (`ShowAnswer` in `LogRows.antt`)
-//! - which references of a listing the patterns match, what the format shows of each, their order and number; and each error:
+//! - which references of a listing the patterns match, what the format shows of each, their order and number; and each error; that
+//!   the listing lacks none, also over a damaged `packed-refs` whose names ascend (`LackNone` in `ListedNames.antt`):
 //!   `for_each_ref::for_each_ref` (`EachAnswer` in `Rows.antt`, `Patterns.antt`, `Formats.antt`)
 //! - a line for each lock file, or for each that was removed; where it fails, those before are gone: `locks::list_locks`,
 //!   `locks::remove_locks` (`LocksAnswer`, `RemovesAnswer` in `Answers.antt`)

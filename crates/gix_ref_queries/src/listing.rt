@@ -2,7 +2,7 @@
 ghost use Rattle.std.specs.Prelude.{◌≡◌, ◌<◌, IfOk, MatchResult, IfSome, codes};
 ghost use Rattle.gix_ref_files.specs.Files.{NoFewer};
 ghost use Rattle.gix_ref_store.specs.Lookup.{LooksUp};
-ghost use Rattle.gix_ref_store.specs.Listings.{AreHeldFor, count_in, items_ahead, store_listed, walked_prefix};
+ghost use Rattle.gix_ref_store.specs.Listings.{count_in, items_ahead, store_listed};
 ghost use Rattle.gix_ref_queries.specs.Patterns.{texts};
 ghost use Rattle.gix_ref_queries.specs.Rows.{Collects, FindsAmongNames, GivesReference, ListsAs, StopsAtItem};
 
@@ -82,7 +82,7 @@ fn collect_among<F: Files>(
     patterns: &[&[u8]],
 ) -> Result<Vec<Reference>, ItemError>
     ensures finds { FindsAmongNames F.honest F.means F.faults store.old store.new names
-        (AreHeldFor store.old (walked_prefix names) packed.entry) (texts patterns.now) result }
+        packed.entry (texts patterns.now) result }
     ensures unchanged { LooksUp F.honest F.means store.old store.new }
 {
     match store.iter_walked(alloc, names, packed) {

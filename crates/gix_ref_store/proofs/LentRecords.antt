@@ -1,5 +1,5 @@
 -- A record that is lent in the place of an item.
-use Rattle.std.proofs.Common.{◌≡◌, ℕ, List, ◌∷◌, refl, sym, ap, subst, Option, Some, None, Ok}
+use Rattle.std.proofs.Common.{◌≡◌, inl, ℕ, List, ◌∷◌, refl, sym, ap, subst, Option, Some, None, Ok}
 use Rattle.gix_ref_files.proofs.Meeting.{no_fewer_starts}
 use Rattle.std.specs.Prelude.{IfSome}
 use denote.Ref.{MutBor}
@@ -27,6 +27,7 @@ module _ {F : Type 0} (honest : Type 0) (means : F → Meaning) (faults : F → 
   given files settings s t own r gave is = record {
     gives = λ listed yet. let first = gave.gives listed yet in (InPacked (own_of own), first.0, first.1, first.2, (is, gave.allowed));
     pays = λ text names owes. subst (λ (n : List ℕ). OwesNames settings text (n ∷ names) t) (sym is.0) (gave.pays text names owes);
+    found = inl gave.found;
     rises = no_fewer_starts (faults files);
     counts = refl;
     leaves = λ h. starts (means files) _ refl;

@@ -9,6 +9,7 @@ pub mod LentRecords
 pub mod ListingRuns
 pub mod LooseAnswers
 pub mod MissingNames
+pub mod PlatformLogs
 pub mod Platforms
 pub mod PreparedLosses
 pub mod Preparing

@@ -15,9 +15,10 @@ use Rattle.gix_ref_packed_text.specs.declared.raw.Reference.{Reference}
 use Rattle.gix_ref_listing.specs.CleanPrefixes.{IsAcceptedPrefix, IsRefusedPrefix}
 use Rattle.gix_ref_listing.specs.Items.{IsItem, IsOfRecord}
 use Rattle.gix_ref_listing.specs.Listings.{Listed, IsNotLent, merge_left}
+use Rattle.gix_ref_listing.specs.LooseListings.{IsLooseListed}
 use Rattle.gix_ref_listing.specs.OwedNames.{Text, IsDue, IsFaultOf, IsTextFor}
 use Rattle.gix_ref_listing.specs.OwnRecords.{own_of}
-use Rattle.gix_ref_listing.specs.PrefixedRecords.{IsHeldFor}
+use Rattle.gix_ref_listing.specs.PrefixedRecords.{IsHeldFor, first_line}
 use Rattle.gix_ref_listing.specs.PseudoListings.{IsPseudoListing}
 use Rattle.gix_ref_listing.specs.Steps.{AreYet, GivesNext, GivesRecord}
 use Rattle.gix_ref_listing.specs.WholeListings.{AreHeldOf, IsListing, IsNameOrMet, IsWalkOf, key_in}
@@ -105,13 +106,24 @@ module _ {F : Type 0} where
   IsNotOpened means store error = (why : OpenError) × RefusesBuffer means store why
       × (error ≡ of_open why)
 
+  -- Why `packed-refs` is not opened after a walk, and that the store which is left has counted it, and has not changed otherwise.
+  pub record LeavesRefused {R : Type 0} (G : Ghosts R) (honest : Type 0) (means : F → Meaning)
+      (faults : F → FaultCounts) (old : Store F) (error : OpenError) : Type 0 where
+    pub refuses : RefusesBuffer means old error
+    pub walked : FaultCounts
+    pub more : NoFewer (faults (stores.files_of old)) walked
+    pub left : Store F
+    pub looks_up : LooksUp honest means old left
+    pub counts : CountsRefusal G.faults walked (faults (stores.files_of left)) error
+
   -- why a listing of a platform is not made: no memory; the prefix has none, as `Prefix` says; or `packed-refs` is not opened
-  abbrev pub IsNoPlatformListing : (honest : Type 0) (means : F → Meaning) → Store F →
+  abbrev pub IsNoPlatformListing : {R : Type 0} (G : Ghosts R) (honest : Type 0)
+      (means : F → Meaning) (faults : F → FaultCounts) → Store F →
       (Prefix : ListError → Type 0) → ListError → Type 0
-  IsNoPlatformListing honest means store Prefix (PackedOpen error) = honest →
-      RefusesBuffer means store error
-  IsNoPlatformListing honest means store Prefix Memory = Unit {0}
-  IsNoPlatformListing honest means store Prefix error = Prefix error
+  IsNoPlatformListing G honest means faults store Prefix (PackedOpen error) = honest →
+      LeavesRefused G honest means faults store error
+  IsNoPlatformListing G honest means faults store Prefix Memory = Unit {0}
+  IsNoPlatformListing G honest means faults store Prefix error = Prefix error
 
   -- and then nothing has changed but the count of faults, which a fault of files has raised by one
   abbrev pub LeavesUnopened : (honest : Type 0) (means : F → Meaning) (faults : F → FaultCounts) →
@@ -120,6 +132,21 @@ module _ {F : Type 0} where
       LooksUp honest means old new
       × ((why : OpenError) × (error ≡ of_open why)
       × (faults (stores.files_of new) ≡ count_open (Err why) (faults (stores.files_of old))))
+
+  -- A store has no `packed-refs`; or it can be opened, and where the names of the text that is kept of it ascend, this holds of the
+  -- text, which is asked for a prefix.
+  abbrev pub OfPackedText : (means : F → Meaning) (store : Store F) (prefix : List ℕ) →
+      (P : Text → Type 0) → Type 0
+  OfPackedText means store prefix P =
+      let kind = stores.kind_of store in
+      let file = packed_refs_in (settings_of store) (means (stores.files_of store)) in
+      (file ≡ None) ⊎ ((bytes : List ℕ) × (opened : IsOpenedText kind file kind bytes)
+      × (NamesAscend kind bytes → P (record {
+        kind = kind;
+        bytes = bytes;
+        line = first_line opened;
+        key = key_in (settings_of store) prefix;
+      })))
 
   module _ (honest : Type 0) (means : F → Meaning) (faults : F → FaultCounts) where
     -- the faults of its files
@@ -169,32 +196,32 @@ module _ {F : Type 0} where
         Among (IsNamed name) items
 
     -- Where they then give the fault of a line, it is about a line of the text that is no record.
-    abbrev pub TellsLine : Text → LooseThenPacked F Remaining → Type 0
-    TellsLine text it = (items : List (Result Reference Error)) (t u : LooseThenPacked F Remaining)
-        (error : Error) → Yields (NextItem) it items t → NextItem t (Some (Err error)) u →
-        AllByRecursion IsReference items → IsFaultOf text error
+    abbrev pub FirstFaultIsIn : Text → LooseThenPacked F Remaining → Type 0
+    FirstFaultIsIn text it = (items : List (Result Reference Error))
+        (t u : LooseThenPacked F Remaining) (error : Error) → Yields (NextItem) it items t →
+        NextItem t (Some (Err error)) u → AllByRecursion IsReference items → IsFaultOf text error
 
-    -- It lacks no name that is due by the text, or its first fault is about a line of it.
+    -- It lacks no name that is due by the text, and the fault of a line, if that is its first one, is about a line of the text.
     pub record FollowsText (settings : Settings) (text : Text)
         (it : LooseThenPacked F Remaining) : Type 0 where
       pub lacks_none : LacksNone settings text it
-      pub first_fault : TellsLine text it
+      pub first_fault : FirstFaultIsIn text it
 
-    -- And no name is lacking of the `packed-refs` of a store, of which a text is kept, where its names ascend; or there is no such
-    -- file.
-    abbrev pub LacksNoneIn : (store : Store F) → (prefix : List ℕ) →
+    -- Whatever the lines of `packed-refs` are: where calls of `next` give references alone, and then none, each loose reference of
+    -- the prefix is among theirs.
+    abbrev pub LacksNoLoose : (store : Store F) → (prefix : List ℕ) →
         LooseThenPacked F Remaining → Type 0
-    LacksNoneIn store prefix it =
-        let kind = stores.kind_of store in
-        let file = packed_refs_in (settings_of store) (means (stores.files_of store)) in
-        (file ≡ None) ⊎ ((bytes : List ℕ) × (opened : IsOpenedText kind file kind bytes)
-        × (NamesAscend kind bytes → LacksNone (settings_of store)
-        (record {
-          kind = kind;
-          bytes = bytes;
-          line = opened.2;
-          key = key_in (settings_of store) prefix;
-        }) it))
+    LacksNoLoose store prefix it = (items : List (Result Reference Error))
+        (t u : LooseThenPacked F Remaining) → Yields (NextItem) it items t → NextItem t None u →
+        AllByRecursion IsReference items → (name : List ℕ) →
+        IsLooseListed (settings_of store) (view_in means store) prefix name →
+        Among (IsNamed name) items
+
+    -- it lacks no loose reference, and follows the text of the `packed-refs` of a store
+    abbrev pub FollowsFile : (store : Store F) → (prefix : List ℕ) →
+        LooseThenPacked F Remaining → Type 0
+    FollowsFile store prefix it = LacksNoLoose store prefix it
+        × OfPackedText means store prefix (λ text. FollowsText (settings_of store) text it)
 
     -- An iterator over the listing of a prefix of a store: whatever its calls give are the first items of the listing. A folder
     -- that could not be listed is among them only with a fault that was counted.
@@ -220,12 +247,12 @@ module _ {F : Type 0} where
     ListsHeld store prefix packed result = (records : List Record) →
         AreHeldFor store prefix packed records → IfOk result (IteratesListing store records prefix)
 
-    -- which follows its text
+    -- which lacks no loose reference and follows its text
     abbrev pub FollowsHeld : (store : Store F) → (prefix : List ℕ) → Option (Bor Buffer) →
         Result (LooseThenPacked F Remaining) ListError → Type 0
-    FollowsHeld store prefix packed result = (text : Text) →
-        IsTextFor (key_in (settings_of store) prefix) packed text →
-        IfOk result (FollowsText (settings_of store) text)
+    FollowsHeld store prefix packed result = IfOk result (LacksNoLoose store prefix)
+        × ((text : Text) → IsTextFor (key_in (settings_of store) prefix) packed text →
+        IfOk result (FollowsText (settings_of store) text))
 
     -- and so over the listing of its pseudo references
     pub record IteratesPseudo (store : Store F) (it : LooseThenPacked F Remaining) : Type 0 where
@@ -263,10 +290,10 @@ module _ {F : Type 0} (honest : Type 0) (means : F → Meaning) (faults : F → 
       IsWalkedIn start now names → AreHeldFor now (walked_prefix names) packed records →
       IfOk result (IteratesListing honest means faults start records (walked_prefix names))
 
-  -- which follows its text
+  -- which lacks no loose reference and follows its text
   abbrev pub FollowsWalked : (now : Store F) → LooseNames → Option (Bor Buffer) →
       Result (LooseThenPacked F Remaining) ListError → Type 0
-  FollowsWalked now names packed result = (start : Store F) (text : Text) →
-      IsWalkedIn start now names →
-      IsTextFor (key_in (settings_of now) (walked_prefix names)) packed text →
-      IfOk result (FollowsText honest means faults (settings_of now) text)
+  FollowsWalked now names packed result = (start : Store F) → IsWalkedIn start now names →
+      IfOk result (LacksNoLoose honest means faults start (walked_prefix names))
+      × ((text : Text) → IsTextFor (key_in (settings_of now) (walked_prefix names)) packed text →
+      IfOk result (FollowsText honest means faults (settings_of now) text))

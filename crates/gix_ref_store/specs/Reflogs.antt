@@ -1,7 +1,7 @@
 -- What the calls of a store return for reflogs (`git reflog`).
 use Rattle.std.specs.Prelude.{◌≡◌, ℕ, List, Bool, true, false, Option, Some, None}
 use Rattle.std.specs.Iterator.Runs.{EachRunFrom}
-use Rattle.gix_ref_files.specs.Files.{Meaning}
+use Rattle.gix_ref_files.specs.Files.{Meaning, FaultCounts}
 use Rattle.gix_ref_files.specs.Tree.{Content, is_file, bytes_of}
 use Rattle.gix_ref_files.specs.declared.files.ReadAt.{Ghosts}
 use Rattle.gix_ref_log.specs.LogCuts.{log_lines}
@@ -14,7 +14,7 @@ use Rattle.gix_ref_lookup.specs.Reflogs as reflogs
 use Rattle.gix_ref_lookup.specs.declared.reflog.error.Error.{Error}
 use Rattle.gix_ref_lookup.specs.declared.reflog.error.Error.TheVariants.{EmptyBuffer}
 use Rattle.gix_ref_store.specs.Store as stores
-use Rattle.gix_ref_store.specs.Lookup.{settings_of}
+use Rattle.gix_ref_store.specs.Lookup.{LooksUp, settings_of}
 use Rattle.gix_ref_store.specs.declared.file.store.Store.{Store}
 
 -- what is at the path of the log of a name; the name has a log where that is a file
@@ -37,6 +37,14 @@ ReadsForward content (Some lines) =
 -- why it is not read
 abbrev pub IsNoReflog : {F : Type 0} → Store F → List ℕ → Error → Type 0
 IsNoReflog store name error = reflogs.IsNoLog (settings_of store) name error
+
+-- Why a platform does not read it, and that the store which is left has counted it, and has not changed otherwise.
+pub record LeavesNoReflog {F : Type 0} (honest : Type 0) (means : F → Meaning)
+    (faults : F → FaultCounts) (old : Store F) (name : List ℕ) (error : Error) : Type 0 where
+  pub why : IsNoReflog old name error
+  pub left : Store F
+  pub looks_up : LooksUp honest means old left
+  pub counts : faults (stores.files_of left) ≡ reflogs.count_by error (faults (stores.files_of old))
 
 -- why it is not read from its end: so, or there is a log and the buffer has no byte
 abbrev pub IsNoReverse : {F : Type 0} → (honest : Type 0) → Option Content → (room : ℕ) → Store F →

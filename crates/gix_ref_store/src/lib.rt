@@ -33,11 +33,11 @@
 //!   `loose_iter_prefixed`, clause `lists` (`IteratesListing` in `Listings.antt`)
 //! - the same of what a walk found earlier, in the store as it was then, of which only the count of faults has changed; no file
 //!   is called for it: `walk_prefixed`, clause `walks` (`IsWalkedIn` in `Listings.antt`), `iter_walked`, clauses `lists`, `same`
-//! - over any `packed-refs` whose names ascend, whatever its other lines are: where a listing gives no fault, each name that is
-//!   due by a record is among its references; and where its first fault is about a line of a buffer that is given, that line is no
-//!   record, and has its number: `iter_packed`, `iter_prefixed_packed`, `iter_walked` and, without the fault,
-//!   `file::iter::Platform::all`, `prefixed`, clause `complete` (`FollowsText`, `LacksNoneIn` in `Listings.antt`; `IsDue`,
-//!   `IsFaultIn` in `gix_ref_listing/specs/OwedNames.antt`)
+//! - over any `packed-refs`: where a listing gives no fault, each loose reference of the prefix is among its references; and where
+//!   the names of `packed-refs`, or of a buffer that is given, ascend, each name that is due by a line of a record's form; and there
+//!   its first fault, if it is about a line, is about one that is no record, and has its number: `iter_packed`,
+//!   `iter_prefixed_packed`, `iter_walked`, `file::iter::Platform::all`, `prefixed`, clause `complete` (`LacksNoLoose`,
+//!   `FollowsText`, `FollowsFile` in `Listings.antt`; `IsDue`, `IsFaultIn` in `gix_ref_listing/specs/OwedNames.antt`)
 //! - a record that is lent is the next item, as `next` gives it; none is lent only where no record comes next or the store
 //!   prohibits device names, and then nothing is taken: `file::iter::LooseThenPacked::next_record`, clauses `lends` (`LendsNext`
 //!   in `Listings.antt`), `none`, `stays`
@@ -60,7 +60,7 @@
 //!   put, each with the object at the end of its tags where that is another one, by what the finder claims; the first object that
 //!   cannot be peeled is reported after the lock of `packed-refs` and its records and before any lock of an edit; a deletion, a
 //!   symbolic update and an edit of a log alone put nothing, whatever the finder has: the same, clauses `prepared` (`put` of
-//!   `PreparesGiven`), `rests` (`IsLockCause`, `IsPeelCause` in `Peels.antt`)
+//!   `PreparesGiven`), `rests` (`IsLockCause`, `IsPeelCause` in `gix_ref_transaction/specs/Peels.antt`)
 //! - the lock of `packed-refs` is taken exactly where an edit of a reference may have a record in it, and it is a file or an
 //!   update is put into it; it is empty while it is held, and one of the locks in all that is said of locks here: the same,
 //!   clause `prepared` (`HoldsPacked` in `Prepared.antt`)
@@ -74,18 +74,18 @@
 //! - the edits are those that were given; where the store composes names they are of the composed names, and otherwise as given:
 //!   the same, clauses `rests`, `prepared` (`AreAskedAs` in `ComposedEdits.antt`)
 //! - device names are refused where the store prohibits them, after an unsafe name and before the other causes of an edit by
-//!   itself: the same (`IsInvalidEdit` in `Causes.antt`)
+//!   itself: the same (`IsInvalidEdit` in `gix_ref_transaction/specs/Causes.antt`)
 //! - edits that follow symbolic references are split: the edits of a prepared transaction are those of the split list by what the
 //!   loose files of the store lead to, the name of each edit that is looked up is safe and not prohibited, and edits of which
 //!   none follows stay as they are; each that was split from another has the place of that one in the list:
 //!   `file::transaction::Transaction::prepare`, clause `prepared` (`SplitsGiven`, `PreparesGiven` in `Prepared.antt`;
-//!   `Parents.antt`)
+//!   `gix_ref_transaction/specs/Parents.antt`)
 //! - no cause holds against a prepared transaction, and no two of its edits have one name; each lock has the whole new text; each
 //!   edit carries what was found, and whether there was a loose file, and is otherwise as given, message and force flag included;
-//!   at every stop there is nothing new but its locks, and folders on the way to them: the same
+//!   at every stop there is nothing new but its locks, and folders that lead to them: the same
 //! - a commit that succeeds: the edits, updates and deletions, are committed: each edited reference reads as edited, each log of
 //!   an update has its old text and the line that is due, if one is, the logs of deletions are gone, `packed-refs` has the merged
-//!   records: those that no edit names, as they were spelled, without those of deletions, and with those of updates that are put;
+//!   records: those that no edit names, byte for byte, without those of deletions, and with those of updates that are put;
 //!   and all other files are as before except for locks that it names; the file of a reference that has its object already is as
 //!   it was, to the byte: `file::transaction::Prepared::commit`, clause `committed` (`HasSucceeded` in `CommitOutcomes.antt`,
 //!   `lines_due` in `CommitLines.antt`)

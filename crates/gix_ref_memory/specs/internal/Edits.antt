@@ -6,8 +6,8 @@ use Rattle.gix_ref_files.specs.Files.{AddsDisks, disk_of}
 use Rattle.gix_ref_memory.specs.Changes.{after_changes, meaning_after, MakingFrontsOn}
 use Rattle.gix_ref_memory.specs.declared.memory.changes.Change.{Change}
 
--- the changes make this tree and this disk
-pub record Make (changes : List Change) (T : Tree) (D : Disk) : Type 0 where
+-- the changes lead to this tree and this disk
+pub record LeadTo (changes : List Change) (T : Tree) (D : Disk) : Type 0 where
   pub tree : after_changes changes no_tree ≡ T
   pub disk : disk_of (meaning_after changes) ≡ D
 

@@ -8,7 +8,7 @@ ghost use Rattle.gix_ref_files.specs.DiskCalls.{BeforeOrAfterOn, after_folders, 
 ghost use Rattle.gix_ref_memory.specs.Calls.{PassesEach};
 ghost use Rattle.gix_ref_memory.specs.Turns.{IsDone};
 ghost use Rattle.gix_ref_memory.specs.Changes.{after_changes, meaning_after, MakingFrontsOn, tree_after, disk_after, with_folder_as, with_folders_as};
-ghost use Rattle.gix_ref_memory.specs.internal.Edits.{Make, MakesAllFronts};
+ghost use Rattle.gix_ref_memory.specs.internal.Edits.{LeadTo, MakesAllFronts};
 
 use super::changes::{Change, Stored, is_below_file, is_file_at, is_folder_at};
 use std::alloc::{AllocError, Global};
@@ -20,7 +20,7 @@ fn make_folder(
     path: &[u8],
     synced: bool,
 ) -> Result<(), AllocError>
-    ensures made { OnOk result (Make changes.new.items
+    ensures made { OnOk result (LeadTo changes.new.items
         (put (tree_after changes.old) path.now (Some Folder))
         (with_folder_as synced (disk_after changes.old) path.now)) }
     ensures failed { OnErr result (changes.new.items ≡ changes.old.items) }
@@ -52,7 +52,7 @@ pub fn make_fronts(
     most: usize,
     synced: bool,
 ) -> Result<(), AllocError>
-    ensures made { OnOk result (Make changes.new.items
+    ensures made { OnOk result (LeadTo changes.new.items
         (with_folders (tree_after changes.old) (take most (fronts path.now)))
         (with_folders_as synced (disk_after changes.old) (take most (fronts path.now)))) }
     ensures kept { take (length changes.old.items) changes.new.items ≡ changes.old.items }

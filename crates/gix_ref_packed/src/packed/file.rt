@@ -217,7 +217,7 @@ impl<R: ReadAt + Drop> PackedFile<R> {
         ensures holds { R.honest → IfOk result (HoldsPrefix (packed_file_kind self)
             (packed_file_text self) (packed_file_line self) prefix.now) }
 
-        // Whatever the other lines are, where names ascend: each record of the prefix is in it.
+        // Whatever the lines are, where names ascend: each line with a name of the prefix is in it.
         ensures asked { R.honest → NamesAscend (packed_file_kind self) (packed_file_text self) →
             IfOk result (BufferHoldsAsked (packed_file_kind self) (packed_file_text self)
             prefix.now) }

@@ -192,7 +192,7 @@ impl Buffer {
         ensures yet { (rs : List Record) → Records (buffer_kind self.now) (buffer_text self.now)
             rs → Rising rs → IsYet result (records_prefixed prefix.items rs) }
 
-        // Whatever the other lines are, where the names ascend: each record of the prefix is yet to come, or a fault.
+        // Whatever the lines are, where the names ascend: a record of each name of the prefix is yet to come, or a fault.
         ensures owes { NamesAscend (buffer_kind self.now) (buffer_text self.now) →
             Owes (buffer_kind self.now) (buffer_text self.now) prefix.items [] result }
     {

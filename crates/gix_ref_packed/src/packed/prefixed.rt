@@ -68,7 +68,7 @@ impl<R: ReadAt + Drop> SortedFile<R> {
         ensures encloses { R.honest → IfOk result (λ places. Encloses kind
             (drop self.old.base (R.bytes self.old.reader)) prefix.now places.0 places.1) }
 
-        // Whatever the other lines are, where names ascend.
+        // Whatever the lines are, where names ascend.
         ensures asked { R.honest → NamesAscend kind (drop self.old.base (R.bytes self.old.reader)) →
             IfOk result (λ places. EnclosesAsked kind
             (drop self.old.base (R.bytes self.old.reader)) prefix.now places.0 places.1) }

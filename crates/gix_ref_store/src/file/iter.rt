@@ -125,7 +125,7 @@ impl<'s, F: Files> Platform<'s, F> {
     ghost use Rattle.gix_ref_listing.specs.declared.prefix.Error.TheVariants.{Memory};
     ghost use Rattle.gix_ref_listing.specs.CleanPrefixes.{IsAcceptedPrefix, IsRefusedPrefix};
     ghost use Rattle.gix_ref_store.specs.Lookup.{LooksUp};
-    ghost use Rattle.gix_ref_store.specs.Listings.{IteratesPseudo, ListsIn, IsNoPlatformListing, LacksNoneIn, prefix_of_all, platform_store};
+    ghost use Rattle.gix_ref_store.specs.Listings.{IteratesPseudo, ListsIn, IsNoPlatformListing, FollowsFile, prefix_of_all, platform_store};
 
     /// The references below `refs/`, or in a namespace all of its references, as `iter_packed` gives them. The folders are walked
     /// first, and then `packed-refs` is opened. As gix-ref's `Platform::all`.
@@ -145,11 +145,11 @@ impl<'s, F: Files> Platform<'s, F> {
         ensures lists { F.honest → ListsIn F.honest F.means F.faults
             (platform_store self.entry.now)
             (prefix_of_all (platform_store self.entry.now).namespace) result }
-        ensures complete { F.honest → IfOk result (LacksNoneIn F.honest F.means F.faults
+        ensures complete { F.honest → IfOk result (FollowsFile F.honest F.means F.faults
             (platform_store self.entry.now)
             (prefix_of_all (platform_store self.entry.now).namespace)) }
-        ensures refused { IfErr result (IsNoPlatformListing F.honest F.means
-            (platform_store self.entry.now) (λ _. ⊥)) }
+        ensures refused { IfErr result (IsNoPlatformListing F.Reader.ReadAt
+            F.honest F.means F.faults (platform_store self.entry.now) (λ _. ⊥)) }
     {
         let prefix = prefix_of_all(&self.store.namespace);
         self.prefixed(alloc, prefix)
@@ -177,12 +177,12 @@ impl<'s, F: Files> Platform<'s, F> {
             (λ it. LooksUp F.honest F.means (platform_store self.entry.now) it.store.now) }
         ensures lists { F.honest → ListsIn F.honest F.means F.faults
             (platform_store self.entry.now) prefix.now result }
-        ensures complete { F.honest → IfOk result (LacksNoneIn F.honest F.means F.faults
+        ensures complete { F.honest → IfOk result (FollowsFile F.honest F.means F.faults
             (platform_store self.entry.now) prefix.now) }
         ensures taken { OnOk result
             (IsAcceptedPrefix (platform_store self.entry.now).namespace prefix.now) }
-        ensures refused { IfErr result (IsNoPlatformListing F.honest F.means
-            (platform_store self.entry.now)
+        ensures refused { IfErr result (IsNoPlatformListing F.Reader.ReadAt
+            F.honest F.means F.faults (platform_store self.entry.now)
             (IsRefusedPrefix (platform_store self.entry.now).namespace prefix.now)) }
     {
         let Platform { store, packed } = self;

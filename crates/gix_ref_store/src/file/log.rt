@@ -145,7 +145,7 @@ pub struct Platform<'a, 's, F> {
 impl<F: Files> Platform<'_, '_, F> {
     ghost use Rattle.std.specs.Prelude.{◌≡◌, IfOk, IfErr, OnOk, false};
     ghost use Rattle.gix_ref_name.specs.Names.{full_ref_bytes};
-    ghost use Rattle.gix_ref_store.specs.Reflogs.{reflog_at, is_log_prohibited, ReadsForward, ReadsBackward, IsNoReflog, EndsAtErrors};
+    ghost use Rattle.gix_ref_store.specs.Reflogs.{reflog_at, is_log_prohibited, ReadsForward, ReadsBackward, LeavesNoReflog, EndsAtErrors};
 
     /// The lines of the log, oldest first; `None` where the reference has no log. As `Store::reflog_iter`, with its errors, and as
     /// gix-ref's `Platform::all`.
@@ -159,8 +159,8 @@ impl<F: Files> Platform<'_, '_, F> {
             (ReadsForward (reflog_at F.means self.old.store.now (full_ref_bytes self.old.name))) }
         ensures allowed { OnOk result
             (is_log_prohibited self.old.store.now (full_ref_bytes self.old.name) ≡ false) }
-        ensures failed { IfErr result
-            (IsNoReflog self.old.store.now (full_ref_bytes self.old.name)) }
+        ensures failed { IfErr result (LeavesNoReflog F.honest F.means F.faults
+            self.old.store.now (full_ref_bytes self.old.name)) }
     {
         let Platform { store, name, buf } = self;
         store.reflog_iter(alloc, *name, buf)
@@ -183,8 +183,8 @@ impl<F: Files> Platform<'_, '_, F> {
         ensures ends { IfOk result (EndsAtErrors F.Reader.ReadAt) }
         ensures allowed { OnOk result
             (is_log_prohibited self.old.store.now (full_ref_bytes self.old.name) ≡ false) }
-        ensures failed { IfErr result
-            (IsNoReflog self.old.store.now (full_ref_bytes self.old.name)) }
+        ensures failed { IfErr result (LeavesNoReflog F.honest F.means F.faults
+            self.old.store.now (full_ref_bytes self.old.name)) }
     {
         let Platform { store, name, buf } = self;
         buf.clear();

@@ -1,8 +1,8 @@
 use Rattle.std.proofs.Common.{◌≡◌, ◌∙◌, Some, MatchResult, subst}
 use Rattle.gix_ref_name.specs.Names.{partial_ref_bytes, full_bytes}
-use Rattle.gix_ref_lookup.proofs.Opening.{ok_of, err_of, on_ok_of}
-use Rattle.gix_ref_store.specs.Lookup.{FindsBy, MissesBy, MissesIn, SeesIn}
-use Rattle.gix_ref_follow.proofs.Steps.{err_named, ok_named, on_step}
+use Rattle.gix_ref_lookup.proofs.Opening.{err_of, on_ok_of}
+use Rattle.gix_ref_store.specs.Lookup.{FindsBy, MissesBy, MissesIn, SeesExisting}
+use Rattle.gix_ref_follow.proofs.Steps.{err_named, on_step}
 use Rattle.gix_ref_store.specs.Store.{files_of}
 use Rattle.gix_ref_follow.proofs.chain.find_next.Goals as goal
 
@@ -15,8 +15,8 @@ returns-in-Symbolic-clause-found g c h records are =
 pub returns-in-Symbolic-clause-hit : goal.returns-in-Symbolic-clause-hit
 returns-in-Symbolic-clause-hit g c h honest =
     rw c.in-Symbolic.is
-    (ok_named (λ name next. SeesIn {R = g.row.F-Reader.Denot} {G = g.F.Reader.ReadAt} g.F.Files.means c.args.asks_records c.args.store.now c.args.asked.now name (Some next))
-    (partial_ref_bytes c.as_partial_name.result) (full_bytes c.in-Symbolic.name) c.find_existing_among.result (c.as_partial_name.ensures ∙ c.as_ref.ensures) (ok_of _ _ c.find_existing_among.result (c.find_existing_among.ensures.seen h honest)))
+    (subst (λ name. SeesExisting {R = g.row.F-Reader.Denot} {G = g.F.Reader.ReadAt} g.F.Files.means c.args.asks_records c.args.store.now c.args.asked.now name c.find_existing_among.result)
+    (c.as_partial_name.ensures ∙ c.as_ref.ensures) (c.find_existing_among.ensures.seen h honest))
 
 pub returns-in-Symbolic-clause-failed : goal.returns-in-Symbolic-clause-failed
 returns-in-Symbolic-clause-failed g c =

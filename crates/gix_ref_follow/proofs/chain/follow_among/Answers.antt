@@ -1,11 +1,12 @@
-use Rattle.std.proofs.Common.{◌≡◌, ◌-◌, ◌+◌, suc, List, Err, arith, sym, ◌∙◌, ap, subst}
+use Rattle.std.proofs.Common.{◌≡◌, ◌-◌, ◌+◌, ⊎_elim, suc, List, Err, true, refl, arith, sym, ◌∙◌, ap, subst}
 use Rattle.gix_ref_target.specs.Targets.{target_value}
 use Rattle.gix_ref_target.specs.PackedRecords.{Record}
 use Rattle.gix_ref_store.specs.Lookup.{AreAskedIn}
 use Rattle.gix_ref_packed_text.specs.declared.raw.Reference.{Reference}
-use Rattle.gix_ref_follow.specs.Following.{HitsByName, IsStep, at_of, follow}
+use Rattle.gix_ref_follow.specs.Following.{HitsByName, IsStep, Leads, at_of, follow, is_one_of}
+use Rattle.gix_ref_name.specs.Names.{full_bytes}
 use Rattle.gix_ref_follow.specs.Followed.{bytes_of_names, finds_in, HitsNext, RefusesStep, Follows, IsNotFollowed}
-use Rattle.gix_ref_follow.proofs.Steps.{id_of, follow_object, follow_none, follow_on, follows_refused, leads_more}
+use Rattle.gix_ref_follow.proofs.Steps.{id_of, follow_object, follow_none, follow_on, follows_refused, leads_more, one_of_more}
 use Rattle.gix_ref_follow.proofs.Stores.{asked_on, still_on, hits_on, not_followed_on, looks_up, same_finds}
 use Rattle.gix_ref_follow.proofs.chain.follow_among.Goals as goal
 
@@ -52,8 +53,16 @@ returns-in-Err-clause-failed g c =
     let asks = c.args.asks_records in
     let new = c.take_step.new.store in
     let error = c.in-Err.error in
-    subst (λ (r : Reference). IsNotFollowed {R = g.row.F-Reader.Denot} {G = g.F.Reader.ReadAt} honest means faults asks first new c.args.asked.now r error) (sym e.kept)
-    (not_followed_on {R = g.row.F-Reader.Denot} {G = g.F.Reader.ReadAt} honest means asks first c.loop.store c.args.asked.now c.loop.asked x.unchanged x.asked faults new c.loop.reference error x.no_fault e.failed)
+    subst (λ (r : Reference). IsNotFollowed {R = g.row.F-Reader.Denot} {G = g.F.Reader.ReadAt} honest means faults asks first new c.args.asked.now c.args.reference.now r error) (sym e.kept)
+    (not_followed_on {R = g.row.F-Reader.Denot} {G = g.F.Reader.ReadAt} honest means asks first c.loop.store c.args.asked.now c.loop.asked x.unchanged x.asked faults new c.args.reference.now c.loop.reference (bytes_of_names c.loop.reached.items)
+    error x.no_fault x.passed e.failed)
+
+pub returns-clause-failed : goal.returns-clause-failed
+returns-clause-failed g c =
+    let five : c.loop.counter ≡ 5 = omega (arith, c.loop-test.false) in (
+      refl,
+      λ h readers. subst (λ n. Leads (HitsNext {R = g.row.F-Reader.Denot} {G = g.F.Reader.ReadAt} g.F.Files.means c.args.asks_records c.args.store.now c.args.asked.now) n c.args.reference.now c.loop.reference) five (c.loop.invariant.hits h readers),
+    )
 
 pub returns-clause-followed : goal.returns-clause-followed
 returns-clause-followed g c h records are =
@@ -90,6 +99,12 @@ loop-preserved g c =
       leads = λ h records are. leads_more (IsStep (finds_in means asks first records)) i (at_of c.args.reference.now) at next (x.leads h records are) (step h records are);
       hits = λ h readers. leads_more (HitsNext {R = g.row.F-Reader.Denot} {G = g.F.Reader.ReadAt} means asks first c.args.asked.now) i c.args.reference.now c.loop.reference c.take_step.new.reference (x.hits h readers)
           (hits_on {R = g.row.F-Reader.Denot} {G = g.F.Reader.ReadAt} honest means asks first mid c.args.asked.now c.loop.asked x.unchanged x.asked h c.loop.reference c.take_step.new.reference (e.hit h ((x.asked h).readers readers)));
+      passed = λ h readers name one.
+          let hit = hits_on {R = g.row.F-Reader.Denot} {G = g.F.Reader.ReadAt} honest means asks first mid c.args.asked.now c.loop.asked x.unchanged x.asked h c.loop.reference c.take_step.new.reference (e.hit h ((x.asked h).readers readers)) in
+          ⊎_elim
+          (λ (before : is_one_of name reached ≡ true). x.passed h readers name before)
+          (λ (here : name ≡ full_bytes c.take_step.new.reference.name). (c.take_step.new.reference, i, (c.loop.reference, x.hits h readers, hit), sym here))
+          (one_of_more name (full_bytes c.take_step.new.reference.name) reached (subst (λ names. is_one_of name names ≡ true) e.reached one));
       asked = λ h. still_on {R = g.row.F-Reader.Denot} {G = g.F.Reader.ReadAt} honest means asks first mid c.args.asked.now c.loop.asked x.unchanged x.asked c.take_step.new.asked h (e.asked h);
       no_fault = e.no_fault ∙ x.no_fault;
       unchanged = looks_up honest means first mid new x.unchanged c.take_step.ensures.unchanged;

@@ -1,7 +1,7 @@
 use Rattle.std.proofs.Common.{List, Some, sym, subst}
 use Rattle.gix_ref_listing.specs.Listings.{Listed, merged_listing}
 use Rattle.gix_ref_listing.specs.Steps.{GivesItem}
-use Rattle.gix_ref_listing.proofs.TakenItems.{counts_none, gives_taken}
+use Rattle.gix_ref_listing.proofs.TakenItems.{counts_none, gives_found, gives_taken}
 use Rattle.gix_ref_theory.specs.OnRealTrees.{contents}
 use Rattle.gix_ref_listing.proofs.OwedLemmas.{item_pays}
 use Rattle.gix_ref_listing.proofs.item.take_item.Goals as goal
@@ -17,6 +17,7 @@ returns-in-Some-clause-next g c =
           (gives_taken F.honest F.means F.faults c.args.settings before now (merged_listing c.args.merge.now.found.entries yet.0) c.in-Some.taken c.item.result c.take.new.self (c.in-Some.ensures.takes yet.0 yet.1) c.item.ensures.item);
       pays = λ text names owes.
           item_pays c.args.settings text F.honest (contents F.means before) (F.faults before) (F.faults now) names c.in-Some.taken c.item.result c.take.new.self c.item.ensures.item (c.in-Some.ensures.pays text names owes);
+      found = gives_found F.honest F.means F.faults c.args.settings before now c.args.merge.now.found.entries c.take.new.self.found.entries c.in-Some.taken c.item.result c.in-Some.ensures.found c.item.ensures.item;
       rises = c.item.ensures.looks.no_fewer;
       counts = counts_none (F.faults before) (F.faults now) c.item.result c.item.ensures.no_fault;
       leaves = c.item.ensures.looks.leaves;

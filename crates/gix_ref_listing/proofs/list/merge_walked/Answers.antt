@@ -27,11 +27,13 @@ returns-clause-lists c view before now walk records held =
     }
 
 pub returns-clause-owes : goal.returns-clause-owes
-returns-clause-owes c view before now walk text given =
+returns-clause-owes c view before now walk =
     let settings = c.args.settings in
     let prefix = c.args.names.prefix.items in
-    let asked = subst (λ (p : List ℕ). IsTextFor (key_in settings p) c.args.packed text) (sym c.deref.ensures.value) given in
-    owes_to_plain settings text [] record { found = c.args.names.found; packed = c.of-packed.result } (record {
-      found = under_names (plain settings) view prefix c.args.names.found.entries walk.there;
-      packed = c.of-packed.ensures.owes text [] (c.in_ok-records.ensures.owes settings text asked);
-    })
+    let named = under_names (plain settings) view prefix c.args.names.found.entries walk.there in (
+      record { named = named; finds = walk.finds },
+      λ text given.
+          let asked = subst (λ (p : List ℕ). IsTextFor (key_in settings p) c.args.packed text) (sym c.deref.ensures.value) given in
+          owes_to_plain settings text [] record { found = c.args.names.found; packed = c.of-packed.result }
+          (record { found = named; packed = c.of-packed.ensures.owes text [] (c.in_ok-records.ensures.owes settings text asked) }),
+    )

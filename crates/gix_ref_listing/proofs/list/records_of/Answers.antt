@@ -28,4 +28,5 @@ returns-in_ok-key-in-Some-clause-owes c settings text given =
     let it = c.iter_prefixed.result in
     let asked : Text = record { kind = buffer_kind buffer; bytes = buffer_text buffer; line = buffer_line buffer; key = namespace_text c.args.namespace.now ++ c.args.prefix.now } in
     subst (λ (t : Text). OwesOthers settings t [] (Some it)) (sym of.0)
-    (owes_all settings asked _ key it (c.iter_prefixed.ensures.owes of.1) (faults_in asked it (subst (λ (k : List ℕ). ItemsFrom buffer k it) key c.iter_prefixed.ensures.items)))
+    (owes_all settings asked _ key it (c.iter_prefixed.ensures.owes of.1)
+    (faults_in asked it (λ rs records rise. subst (λ (k : List ℕ). IsYet it (records_prefixed k rs)) key (c.iter_prefixed.ensures.yet rs records rise)) (subst (λ (k : List ℕ). ItemsFrom buffer k it) key c.iter_prefixed.ensures.items)))

@@ -48,7 +48,7 @@ returns-in-Ok-clause-asked g c h =
     let a_file = subst (λ (p : Path). is_file (tree p) ≡ true) at o.1 in
     let opened = subst (λ (p : Path). OpenedFile kind (bytes_of (tree p)) file) at o.2 in
     let key = c.deref-in-Ok-Some.ensures.value ∙ (c.in_ok-key.ensures ∙ ap (λ n. n ++ c.args.prefix.now) c.text_of.ensures.text) in
-    asked_of kind (tree (meaning_in c.args.settings).packed_path) file c.in-Ok.buffer _ _ a_file opened key (c.in-Ok.ensures.kind o.0) (c.in-Ok.ensures.asked o.0)
+    asked_of kind (tree (meaning_in c.args.settings).packed_path) file c.in-Ok.buffer _ _ a_file opened key (c.in-Ok.ensures.part o.0) (c.in-Ok.ensures.asked o.0)
 
 pub returns-in-Ok-None-clause-asked : goal.returns-in-Ok-None-clause-asked
 returns-in-Ok-None-clause-asked g c h =

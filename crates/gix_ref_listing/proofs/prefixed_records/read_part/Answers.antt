@@ -10,8 +10,8 @@ returns-in-Ok-clause-holds g c h records holds =
 pub returns-in-Err-clause-failed : goal.returns-in-Err-clause-failed
 returns-in-Err-clause-failed g c h count = rw c.of_part.ensures (part_fails g.R.ReadAt.faults count c.in-Err.error (c.in-Err.ensures.refused h) c.in-Err.ensures.failed)
 
-pub returns-in-Ok-clause-kind : goal.returns-in-Ok-clause-kind
-returns-in-Ok-clause-kind g c h = (c.in-Ok.ensures.holds h).kind_is
+pub returns-in-Ok-clause-part : goal.returns-in-Ok-clause-part
+returns-in-Ok-clause-part g c h = c.in-Ok.ensures.holds h
 
 pub returns-in-Ok-clause-asked : goal.returns-in-Ok-clause-asked
 returns-in-Ok-clause-asked g c h ascend = c.in-Ok.ensures.asked h ascend

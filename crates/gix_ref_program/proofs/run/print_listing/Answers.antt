@@ -1,13 +1,13 @@
 use Rattle.std.proofs.Common.{◌≡◌, ◌∙◌, List, ℕ, sym, ap, subst}
 use Rattle.gix_ref_files.proofs.Meeting.{fewer_same}
 use Rattle.std.specs.Option.{option_map}
-use Rattle.gix_ref_store.specs.Listings.{AreHeldFor, walked_prefix}
+use Rattle.gix_ref_store.specs.Listings.{AreHeldFor}
 use Rattle.gix_ref_store.specs.Store.{files_of}
 use Rattle.gix_ref_store.proofs.Walked.{read_for, records_on, refused_before, walked_on}
 use Rattle.gix_ref_program.specs.Runs.{ListRan, ListRanAmong, Prints, prefix_asked}
 use Rattle.gix_ref_program.specs.Runs.Ran.{Said}
 use Rattle.gix_ref_program.specs.declared.outcome.Outcome.{Outcome}
-use Rattle.gix_ref_program.proofs.Listing.{listed_from, no_listing}
+use Rattle.gix_ref_program.proofs.Listing.{follows_walked, listed_from, no_listing}
 use Rattle.gix_ref_program.proofs.Printing.{said, prints_more}
 use Rattle.gix_ref_program.proofs.run.print_listing.Goals.{in-Some, in-None}
 use Rattle.gix_ref_program.proofs.run.print_listing.Goals as goal
@@ -29,14 +29,14 @@ returns-in-Ok-open_packed_prefixed-clause-prints g c =
       | in-Some w ↦ rw w.in-Some.is (sym (ap (λ p. p.now) w.prefix-is))
       | in-None w ↦ rw w.in-None.is (sym (ap (λ p. p.now) w.prefix-is ∙ w.prefix_of_all-prefix.ensures))
     ] in
-    let Are = AreHeldFor now (walked_prefix names) c.as_ref.result in
+    let walked = λ (h : F.honest). walked_on F.honest F.means F.faults start mid now names (c.in-Ok.ensures.walks h) opened.ensures.unchanged (fewer_same _ _ opened.ensures.no_fault) in
     subst (λ (p : List ℕ). Prints (ListRan F.honest F.means F.faults G start new p) before after c.print_among.result) (sym asked)
-    (prints_more (ListRanAmong F.honest F.means F.faults now new names Are) (ListRan F.honest F.means F.faults G start new prefix) before after c.print_among.result
-    (listed_from F.honest F.means F.faults G start now new prefix names Are c.in-Ok.ensures.judged c.in-Ok.ensures.asked
-    (λ h. walked_on F.honest F.means F.faults start mid now names (c.in-Ok.ensures.walks h) opened.ensures.unchanged (fewer_same _ _ opened.ensures.no_fault))
+    (prints_more (ListRanAmong F.honest F.means F.faults now new names c.as_ref.result) (ListRan F.honest F.means F.faults G start new prefix) before after c.print_among.result
+    (listed_from F.honest F.means F.faults G start now new prefix names c.as_ref.result c.in-Ok.ensures.judged c.in-Ok.ensures.asked walked
     (λ h records are.
     subst (λ (p : List ℕ). AreHeldFor now p c.as_ref.result records) (sym c.in-Ok.ensures.asked)
-    (read_for F.honest F.means mid now prefix opened.packed c.as_ref.result records opened.ensures.unchanged c.as_ref.ensures.value (opened.ensures.holds h records (records_on F.honest F.means start mid records h c.in-Ok.ensures.unchanged are)))))
+    (read_for F.honest F.means mid now prefix opened.packed c.as_ref.result records opened.ensures.unchanged c.as_ref.ensures.value (opened.ensures.holds h records (records_on F.honest F.means start mid records h c.in-Ok.ensures.unchanged are))))
+    (λ h. follows_walked F.honest F.means F.faults h start mid now prefix names opened.packed c.as_ref.result c.in-Ok.ensures.unchanged opened.ensures.unchanged c.in-Ok.ensures.asked c.as_ref.ensures.value (opened.ensures.asked h) (walked h)))
     c.print_among.ensures.prints)
 
 pub returns-in-Err-clause-prints : goal.returns-in-Err-clause-prints

@@ -23,8 +23,11 @@ returns-in-Ok-None-clause-outcome g c =
     let old = c.args.store.now in
     let refused = c.refused-in-Ok-None.ensures in
     subst (λ (o : Outcome). ShowOutcome F.honest F.means F.faults g.F.Reader.ReadAt old c.try_find.new.self c.args.name.now o) (sym refused.1) (
-      λ h (records : List Record) (are : AreRecordsIn F.means old records).
-          subst (λ (p : List ℕ). FindsAmong F.means old records p None) c.in-Ok.ensures.0 (rw c.in-Ok-None.field-0-is at (c.in-Ok-None.ensures.found h records are)),
+      λ h. (
+        subst (λ (p : List ℕ). SeesIn {R = g.row.F-Reader.Denot} {G = g.F.Reader.ReadAt} F.means true old Unopened p None) c.in-Ok.ensures.0 (rw c.in-Ok-None.field-0-is at (c.in-Ok-None.ensures.seen h)),
+        λ (records : List Record) (are : AreRecordsIn F.means old records).
+            subst (λ (p : List ℕ). FindsAmong F.means old records p None) c.in-Ok.ensures.0 (rw c.in-Ok-None.field-0-is at (c.in-Ok-None.ensures.found h records are)),
+      ),
       refused.2,
     )
 

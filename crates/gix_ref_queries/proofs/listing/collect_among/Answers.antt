@@ -1,5 +1,5 @@
 use Rattle.std.proofs.Common.{◌∙◌, refl, sym, subst}
-use Rattle.gix_ref_store.specs.Listings.{AreHeldFor, store_listed, walked_prefix}
+use Rattle.gix_ref_store.specs.Listings.{store_listed}
 use Rattle.gix_ref_store.specs.declared.file.store.Store.{Store}
 use Rattle.gix_ref_queries.specs.Patterns.{texts}
 use Rattle.gix_ref_queries.specs.Rows.{FindsAmongNames}
@@ -11,8 +11,8 @@ returns-in-Ok-clause-finds g c =
     let F = g.F.Files in
     let store = c.args.store.now in
     let names = c.args.names in
-    let Are = AreHeldFor store (walked_prefix names) c.args.packed in
+    let packed = c.args.packed in
     let patterns = texts c.args.patterns.now in
     let name = sym (c.into_store.ensures.same_reference ∙ (c.collect-found.ensures.same_reference ∙ c.in-Ok.ensures.same_reference)) in
-    subst (λ (x : Store g.row.F.Denot). FindsAmongNames F.honest F.means F.faults store x names Are patterns c.collect-found.result) (sym (c.store-1.given.1 name ∙ c.into_store.ensures.same))
-    (found_among F.honest F.means F.faults store (store_listed c.collect-found.new.items) names Are patterns c.in-Ok.items c.collect-found.new.items c.collect-found.result c.in-Ok.ensures.lists c.collect-found.ensures.rises refl c.collect-found.ensures.collects)
+    subst (λ (x : Store g.row.F.Denot). FindsAmongNames F.honest F.means F.faults store x names packed patterns c.collect-found.result) (sym (c.store-1.given.1 name ∙ c.into_store.ensures.same))
+    (found_among F.honest F.means F.faults store (store_listed c.collect-found.new.items) names packed patterns c.in-Ok.items c.collect-found.new.items c.collect-found.result c.in-Ok.ensures.lists c.in-Ok.ensures.complete c.collect-found.ensures.rises refl c.collect-found.ensures.collects)

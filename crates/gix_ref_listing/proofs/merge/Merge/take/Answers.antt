@@ -1,5 +1,5 @@
 use Rattle.std.proofs.Common.{refl, sym, ◌∙◌}
-use Rattle.gix_ref_listing.proofs.MergeLemmas.{less_takes, equal_takes, none_left}
+use Rattle.gix_ref_listing.proofs.MergeLemmas.{first_is_found, less_takes, equal_takes, none_left}
 use Rattle.gix_ref_listing.proofs.OwedLemmas.{less_pays, equal_pays}
 use Rattle.gix_ref_listing.proofs.merge.Merge.take.Goals as goal
 
@@ -23,3 +23,9 @@ pub returns-in-Equal-clause-pays : goal.returns-in-Equal-clause-pays
 returns-in-Equal-clause-pays c text names owes =
     equal_pays c.args.settings text names c.args.self.now c.take_found-in-Equal.new.self c.take.new.self c.take.result c.take_found-in-Equal.result (sym c.order.ensures ∙ c.in-Equal.is)
     c.take.ensures.first (c.take.ensures.pays text names owes.packed) c.take_found-in-Equal.ensures.takes c.take_found-in-Equal.ensures.packed owes
+
+pub returns-in-Less-clause-found : goal.returns-in-Less-clause-found
+returns-in-Less-clause-found c = first_is_found c.args.self.now.found.entries c.take_found.new.self.found.entries c.take_found.result c.take_found.ensures.takes
+
+pub returns-in-Equal-clause-found : goal.returns-in-Equal-clause-found
+returns-in-Equal-clause-found c = first_is_found c.args.self.now.found.entries c.take_found-in-Equal.new.self.found.entries c.take_found-in-Equal.result c.take_found-in-Equal.ensures.takes

@@ -19,7 +19,7 @@ pub returns-in-InFile-clause-asked : goal.returns-in-InFile-clause-asked
 returns-in-InFile-clause-asked g c = λ honest. rw c.in-InFile.is (c.read_prefixed.ensures.asked honest)
 
 pub returns-in-InMemory-clause-asked : goal.returns-in-InMemory-clause-asked
-returns-in-InMemory-clause-asked g c = λ honest. rw c.in-InMemory.is (λ ascend. (ascend, λ r asked. asked))
+returns-in-InMemory-clause-asked g c = λ honest. rw c.in-InMemory.is (λ ascend. (ascend, λ name asked. asked))
 
 -- all records are held
 sorted_holds : (kind : Kind) (text : List ℕ) (line : ℕ) (prefix : List ℕ) (r : Result Buffer ReadError) → IfOk r (λ b. buffer_text b ≡ text) → IfOk r (λ b. buffer_kind b ≡ kind) → IfOk r (λ b. buffer_line b ≡ line) → IfOk r (HoldsPrefix kind text line prefix)
@@ -32,7 +32,7 @@ returns-in-Unsorted-clause-holds g c = λ honest. rw c.in-Unsorted.is
     sorted_holds (buffer_kind (unsorted_records u)) (unsorted_text u) (buffer_line (unsorted_records u)) c.args.prefix.now c.sorted.result c.sorted.ensures.text c.sorted.ensures.kind c.sorted.ensures.line)
 
 sorted_asked : (kind : Kind) (text prefix : List ℕ) (r : Result Buffer ReadError) → NamesAscend kind text → IfOk r (λ b. buffer_text b ≡ text) → IfOk r (BufferHoldsAsked kind text prefix)
-sorted_asked kind text prefix (Ok b) ascend is = subst (HoldsAsked kind text prefix) (sym is) (ascend, λ r asked. asked)
+sorted_asked kind text prefix (Ok b) ascend is = subst (HoldsAsked kind text prefix) (sym is) (ascend, λ name asked. asked)
 sorted_asked kind text prefix (Err e) ascend is = tt
 
 pub returns-in-Unsorted-clause-asked : goal.returns-in-Unsorted-clause-asked

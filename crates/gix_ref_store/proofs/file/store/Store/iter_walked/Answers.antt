@@ -2,12 +2,12 @@ use Rattle.std.proofs.Common.{refl, sym, ap, subst}
 use Rattle.gix_ref_files.proofs.Moments.{starts, passes_starts}
 use Rattle.gix_ref_theory.specs.OnRealTrees.{view_of}
 use Rattle.gix_ref_lookup.specs.declared.settings.Settings.{Settings}
-use Rattle.gix_ref_listing.specs.WholeListings.{IsWalkOf, ListsAll}
+use Rattle.gix_ref_listing.specs.WholeListings.{HasLoose, IsWalkOf, ListsAll}
 use Rattle.gix_ref_store.specs.Listings.{walked_prefix}
 use Rattle.gix_ref_store.specs.Lookup.{settings_of, view_in}
 use Rattle.gix_ref_store.specs.Store.{files_of}
 use Rattle.gix_ref_store.proofs.ListingRuns.{all_there, each_run, same_settings}
-use Rattle.gix_ref_store.proofs.CompleteListings.{follows_text}
+use Rattle.gix_ref_store.proofs.CompleteListings.{follows_text, no_loose_lacks}
 use Rattle.gix_ref_store.proofs.file.store.Store.iter_walked.Goals as goal
 
 pub returns-in-Ok : goal.returns-in-Ok
@@ -39,13 +39,16 @@ returns-in-Ok g c = (
           names = found.names;
           runs = each_run F.honest F.means F.faults start _ found.listed h (sym same) (ap view_of (walked.looks_up.leaves h).tree) found.yet (all_there (settings_of start) view records prefix found.listed found.is.only);
         };
-    complete = λ h start text walked of.
+    complete = λ h start walked.
         let F = g.F.Files in
         let store = c.args.self.now in
         let same = same_settings start store walked.looks_up.same in
         let before = F.faults (files_of start) in
         let now = F.faults (files_of store) in
-        follows_text F.honest F.means F.faults (settings_of store) text _ refl
-        (c.in-Ok.ensures.owes (view_in F.means start) before now (subst (λ (x : Settings). IsWalkOf x (view_in F.means start) before now c.args.names) same walked.walk) text of);
+        let owes = c.in-Ok.ensures.owes (view_in F.means start) before now (subst (λ (x : Settings). IsWalkOf x (view_in F.means start) before now c.args.names) same walked.walk) in (
+          no_loose_lacks F.honest F.means F.faults start (walked_prefix c.args.names) _
+              (subst (λ (x : Settings). HasLoose x (view_in F.means start) (walked_prefix c.args.names) c.in-Ok.merge) (sym same) owes.0),
+          λ text of. follows_text F.honest F.means F.faults (settings_of store) text _ refl (owes.1 text of),
+        );
   },
 )

@@ -2,7 +2,7 @@ use Rattle.std.proofs.Common.{refl, ap}
 use Rattle.gix_ref_theory.specs.OnRealTrees.{view_of}
 use Rattle.gix_ref_store.specs.Lookup.{settings_of, view_in}
 use Rattle.gix_ref_store.proofs.ListingRuns.{all_there, each_run}
-use Rattle.gix_ref_store.proofs.CompleteListings.{follows_text}
+use Rattle.gix_ref_store.proofs.CompleteListings.{follows_text, no_loose_lacks}
 use Rattle.gix_ref_store.proofs.file.store.Store.list.Goals as goal
 
 pub returns-in-Ok : goal.returns-in-Ok
@@ -26,7 +26,10 @@ returns-in-Ok g c = (
           runs = each_run g.F.Files.honest g.F.Files.means g.F.Files.faults c.args.self.now _ found.listed h refl (ap view_of (c.in-Ok.ensures.looks.leaves h).tree) found.yet
               (all_there (settings_of c.args.self.now) (view_in g.F.Files.means c.args.self.now) records c.args.prefix.now found.listed found.is.only);
         };
-    complete = λ h text of.
-        follows_text g.F.Files.honest g.F.Files.means g.F.Files.faults (settings_of c.args.self.now) text _ refl (c.in-Ok.ensures.owes h text of);
+    complete = λ h.
+        let F = g.F.Files in (
+          no_loose_lacks F.honest F.means F.faults c.args.self.now c.args.prefix.now _ (c.in-Ok.ensures.owes h).0,
+          λ text of. follows_text F.honest F.means F.faults (settings_of c.args.self.now) text _ refl ((c.in-Ok.ensures.owes h).1 text of),
+        );
   },
 )
