@@ -3,17 +3,19 @@ use Rattle.std.proofs.Common.{◌≡◌, ◌≢◌, inl, inr, ℕ, ◌+◌, ◌-
 use Rattle.std.specs.Prelude.{if◌then◌else◌, ◌==◌}
 use Rattle.std.proofs.lemmas.Bool.{cond-true, cond-false, eqb-true}
 use Rattle.std.proofs.lemmas.List.{take_more, drop_more, get_or-map, take-append-drop as take-drop, length-map, take_all}
-use Rattle.std.proofs.Math.Seq.{take-length}
-use Rattle.gix_ref_files.specs.Tree.{Path}
+use Rattle.std.proofs.Math.Seq.{take-length, take-nil}
+use Rattle.gix_ref_files.specs.Tree.{Path, is_file}
 use Rattle.gix_ref_files.specs.Disk.{Disk}
 use Rattle.gix_ref_files.specs.Files.{Meaning, disk_of, Passes}
 use Rattle.gix_ref_files.specs.Settled.{Sync, synced, synced_by, folders_up}
 use Rattle.gix_ref_files.specs.Settled.Sync.{OfFile, OfFolder}
 use Rattle.gix_ref_files.specs.Steps.{Step}
 use Rattle.gix_ref_files.specs.Steps.Step.{Create, Append, Line, Rename, RemoveFile, MakeFolders, RemoveFolder, End}
-use Rattle.gix_ref_files.specs.DiskSteps.{Synced, needed, BeginsOn, IsReachedBy, IsSyncedAfter, IsEndedAt, IsSomeSynced, Settling, synced_step, synced_steps}
+use Rattle.gix_ref_files.specs.DiskSteps.{Synced, needed, BeginsOn, IsReachedBy, IsSyncedAfter, EndsOn, IsEndedAt, IsSomeSynced, Settling, synced_step, synced_steps}
 use Rattle.gix_ref_files.specs.DiskSteps.Synced.{With}
 use Rattle.gix_ref_files.specs.declared.steps.Planned.{Planned}
+use Rattle.gix_ref_files.specs.declared.steps.Cause.{Cause}
+use Rattle.gix_ref_files.specs.declared.steps.Cause.TheVariants as causes
 use Rattle.gix_ref_files.proofs.Moments.{passes_weaken, passes_joins}
 
 -- the first sync is done, or not
@@ -83,10 +85,30 @@ reached_at plan i planned D mid E lt is after reached =
     (reached_alone (synced_step planned) (drop (i + 1) (synced_steps plan)) mid E reached))
 
 -- and the run ended here
-pub ended_at : {A : Type 0} → (plan : List (Planned A)) (i : ℕ) (planned : Planned A) (D mid E : Disk) → i < length plan → planned ≡ get_or plan i planned →
-    IsSyncedAfter (take i (synced_steps plan)) D mid → IsReachedBy (synced_step planned ∷ []) mid E → IsEndedAt (synced_steps plan) i D E
-ended_at plan i planned D mid E lt is after reached =
-    (mid, after, subst (λ (l : List Synced). IsReachedBy (take 1 l) mid E) (sym (rest_of plan i planned lt is)) reached)
+pub ended_at : {A : Type 0} → (plan : List (Planned A)) (i : ℕ) (planned : Planned A) (cause : Cause) (D mid E : Disk) → i < length plan → planned ≡ get_or plan i planned →
+    IsSyncedAfter (take i (synced_steps plan)) D mid → EndsOn (synced_step planned) cause mid E → IsEndedAt (synced_steps plan) i cause D E
+ended_at plan i planned cause D mid E lt is after ends = (mid, after, synced_step planned, drop (i + 1) (synced_steps plan), rest_of plan i planned lt is, ends)
+
+-- a step without syncs that ends a run does so with its syncs
+pub ends_with : (step : Step) (ss : List Sync) (cause : Cause) (D E : Disk) → EndsOn (With step []) cause D E → EndsOn (With step ss) cause D E
+ends_with step ss (causes.File error) D E ends = ends
+ends_with step ss (causes.Sync error) D E (mid, does, (n, e)) = (mid, does, (0, e ∙ ap (λ (l : List Sync). synced_by l mid) (ap (λ (l : List Sync). take n l) (none step) ∙ take-nil n)))
+  where
+    either : (b : Bool) (l : List Sync) → (if b then l else l) ≡ l
+    either true l = refl
+    either false l = refl
+
+    none : (step : Step) → needed step D [] ≡ []
+    none (Create p) = refl
+    none (Append p bytes) = refl
+    none (Line p bytes) = refl
+    none (Rename from to) = refl
+    none (RemoveFile p) = either (is_file (D.tree p)) []
+    none (MakeFolders p) = refl
+    none (RemoveFolder p) = refl
+    none End = refl
+ends_with step ss causes.Unexpected D E ends = ends
+ends_with step ss causes.Asked D E ends = ends
 
 -- the whole plan is its front up to its end
 pub whole_front : {A : Type 0} → (plan : List (Planned A)) (n : ℕ) → length plan ≤ n → take n (synced_steps plan) ≡ synced_steps plan

@@ -14,6 +14,8 @@ use Rattle.gix_ref_files.specs.declared.steps.Action.TheVariants as actions
 use Rattle.gix_ref_files.specs.declared.steps.Settle.{Settle}
 use Rattle.gix_ref_files.specs.declared.steps.Settle.TheVariants as settles
 use Rattle.gix_ref_files.specs.declared.steps.Planned.{Planned}
+use Rattle.gix_ref_files.specs.declared.steps.Cause.{Cause}
+use Rattle.gix_ref_files.specs.declared.steps.Cause.TheVariants as causes
 
 -- The step is done: it leads from one disk to another. To remove what is not there is done as it is.
 abbrev pub DoesOn : Step → Disk → Disk → Type 0
@@ -72,15 +74,25 @@ IsSyncedAfter [] D E = E ≡ D
 IsSyncedAfter (With step syncs ∷ plan) D E = (mid : Disk) × DoesOn step D mid
     × IsSyncedAfter plan (synced_by (needed step D syncs) mid) E
 
--- The run ended at this place: the steps before it are done, each with its syncs; it is perhaps begun, or done with some of its
--- syncs; and none after it is begun.
-abbrev pub IsEndedAt : List Synced → ℕ → Disk → Disk → Type 0
-IsEndedAt plan at D E = (mid : Disk) × IsSyncedAfter (take at plan) D mid
-    × IsReachedBy (take 1 (drop at plan)) mid E
-
 -- some of the syncs were done
 abbrev pub IsSomeSynced : List Sync → Disk → Disk → Type 0
 IsSomeSynced syncs D E = (n : ℕ) × (E ≡ synced_by (take n syncs) D)
+
+-- A step with its syncs ends the run for this cause, and leaves the disk E. Where its call failed,
+-- it is perhaps begun; where a sync failed, it is done with some of its syncs; else E is D.
+abbrev pub EndsOn : Synced → Cause → Disk → Disk → Type 0
+EndsOn (With step syncs) (causes.File error) D E = BeginsOn step D E
+EndsOn (With step syncs) (causes.Sync error) D E = (mid : Disk) × DoesOn step D mid
+    × IsSomeSynced (needed step D syncs) mid E
+EndsOn (With step syncs) causes.Unexpected D E = E ≡ D
+EndsOn (With step syncs) causes.Asked D E = E ≡ D
+
+-- The run ended at this place for this cause: the steps before it are done, each with its syncs;
+-- the step there ends the run; and none after it is begun.
+abbrev pub IsEndedAt : List Synced → ℕ → Cause → Disk → Disk → Type 0
+IsEndedAt plan at cause D E = (mid : Disk) × IsSyncedAfter (take at plan) D mid
+    × (step : Synced) × (rest : List Synced) × (drop at plan ≡ step ∷ rest)
+    × EndsOn step cause mid E
 
 -- a sync was done, or not
 abbrev pub Settling : Sync → Disk → Disk → Type 0

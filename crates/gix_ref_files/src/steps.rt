@@ -8,7 +8,7 @@ ghost use Rattle.gix_ref_files.specs.Settled.{synced, synced_by, sync_of_folder,
 ghost use Rattle.gix_ref_files.specs.Settled.Sync.{OfFile, OfFolder};
 ghost use Rattle.gix_ref_files.specs.Steps.{Does, EndsBy, IsAfter, IsLeftBy, EndsAt, step_of, steps_of, cause_of_sync, IsCounted, IsCountedSync, MayBeSynced};
 ghost use Rattle.gix_ref_files.specs.Steps.Step.{Line};
-ghost use Rattle.gix_ref_files.specs.DiskSteps.{DoesOn, BeginsOn, With, IsReachedBy, IsSyncedAfter, IsEndedAt, IsSomeSynced, Settling, folder_syncs, path_syncs, syncs_of, synced_steps, needs, CanSync, CanSettle};
+ghost use Rattle.gix_ref_files.specs.DiskSteps.{DoesOn, BeginsOn, With, IsReachedBy, IsSyncedAfter, EndsOn, IsEndedAt, IsSomeSynced, Settling, folder_syncs, path_syncs, syncs_of, synced_steps, needs, CanSync, CanSettle};
 ghost use Rattle.gix_ref_files.specs.declared.steps.Cause.TheVariants.{File};
 
 use crate::files::{Create, FileError, Files, Rename};
@@ -200,6 +200,8 @@ fn change<F: Files>(files: &mut F, action: &Action<'_>) -> Result<bool, Cause>
         IfOk result (λ more. IsTrue more → CanSettle action.now (F.means files.new).tree) }
     ensures ended { F.honest → IfErr result (λ cause. EndsBy (step_of action.now) cause
         (F.means files.old).tree (F.means files.new).tree) }
+    ensures ended_on { F.honest → IfErr result (λ cause. EndsOn (With (step_of action.now) [])
+        cause (disk_of (F.means files.old)) (disk_of (F.means files.new))) }
     ensures passes { F.honest → OnEveryDisk F.means files.old files.new
         (BeginsOn (step_of action.now)) }
     ensures count { MatchResult result (λ _. F.faults files.new ≡ F.faults files.old)
@@ -419,6 +421,9 @@ fn run_step<F: Files>(files: &mut F, action: &Action<'_>, settle: Settle) -> Res
         (disk_of (F.means files.old)) (disk_of (F.means files.new))) }
     ensures ended { F.honest → IfErr result (λ cause. EndsBy (step_of action.now) cause
         (F.means files.old).tree (F.means files.new).tree) }
+    ensures ended_on { F.honest → IfErr result (λ cause.
+        EndsOn (With (step_of action.now) (syncs_of action.now settle)) cause
+        (disk_of (F.means files.old)) (disk_of (F.means files.new))) }
     ensures passes { F.honest → OnEveryDisk F.means files.old files.new
         (IsReachedBy (With (step_of action.now) (syncs_of action.now settle) ∷ [])) }
     ensures count { MatchResult result (λ _. F.faults files.new ≡ F.faults files.old)
@@ -446,7 +451,7 @@ pub fn run_steps<F: Files, E>(files: &mut F, plan: &[Planned<'_, E>]) -> Result<
     ensures ended { F.honest → IfErr result (λ end. EndsAt (steps_of plan.now) end.at end.cause
         (F.means files.old).tree (F.means files.new).tree) }
     ensures ended_on { F.honest → IfErr result (λ end. IsEndedAt (synced_steps plan.now) end.at
-        (disk_of (F.means files.old)) (disk_of (F.means files.new))) }
+        end.cause (disk_of (F.means files.old)) (disk_of (F.means files.new))) }
 
     // A stop at any moment leaves the tree after some of the steps, with perhaps a beginning of the next.
     ensures leaves { F.honest → AtEveryStop F.means files.old files.new

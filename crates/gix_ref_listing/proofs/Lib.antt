@@ -1,8 +1,6 @@
 pub mod AllowedNames
 pub mod CleanFolders
-pub mod FaultRuns
 pub mod FolderWalks
-pub mod FrontFaults
 pub mod GoneFiles
 pub mod Listing
 pub mod MergeLemmas

@@ -1,31 +1,26 @@
 -- What a listing owes over any text of `packed-refs`, one step after the other.
-use Rattle.std.proofs.Common.{◌≡◌, ◌⊎◌, inl, inr, ⊎_elim, ℕ, zero, suc, List, [], ◌∷◌, refl, sym, ◌∙◌, ap, subst, arith, Option, Some, None, Result, Ok, Err, slice_index_or, Vec, Global}
+use Rattle.std.proofs.Common.{◌≡◌, ◌⊎◌, inl, inr, ⊎_elim, ℕ, zero, suc, List, [], ◌∷◌, length, refl, sym, ◌∙◌, ap, subst, arith, Option, Some, None, Result, Ok, Err, slice_index_or, Vec, Global}
 use Rattle.std.specs.List.{All, Contains}
 use Rattle.std.specs.declared.cmp.Ordering.TheVariants.{Less, Equal, Greater}
 use Rattle.gix_ref_name.specs.Names.{full_bytes, full_ref_bytes}
-use Rattle.gix_ref_target.specs.PackedRecords.{Record}
 use Rattle.gix_ref_packed_text.specs.Views.{record_of}
 use Rattle.gix_ref_packed_text.specs.declared.packed.reference.Reference.{Reference as PackedReference}
-use Rattle.gix_ref_hash.specs.declared.hash.Kind.{Kind}
-use Rattle.gix_ref_packed.specs.YetToGive.{Owes}
+use Rattle.gix_ref_packed.specs.YetToGive.{IsItemOf, Owes}
 use Rattle.gix_ref_packed.specs.Items.{ItemStep}
-use Rattle.gix_ref_theory.specs.Readings.{Store}
-use Rattle.gix_ref_lookup.specs.Lookups.{meaning_in}
-use Rattle.gix_ref_listing.specs.Items.{IsOfLine, IsRecordFault}
-use Rattle.gix_ref_listing.specs.declared.error.Error.TheVariants as failing
-use Rattle.gix_ref_listing.specs.declared.found.Found.{Found}
 use Rattle.gix_ref_packed.specs.declared.packed.iter.Iter.{Iter}
 use Rattle.gix_ref_packed.specs.declared.packed.iter.error.Error.{Error as LineError}
 use Rattle.gix_ref_packed.proofs.OwedRecords.{next_pays}
+use Rattle.gix_ref_packed.proofs.TextItems.{next_is_of}
 use Rattle.gix_ref_lookup.specs.declared.settings.Settings.{Settings}
-use Rattle.gix_ref_listing.specs.OwnRecords.{own_name}
+use Rattle.gix_ref_listing.specs.OwnRecords.{own_name, own_of}
 use Rattle.gix_ref_files.specs.Files.{FaultCounts}
 use Rattle.gix_ref_name.specs.declared.name.FullName.{FullName}
 use Rattle.gix_ref_theory.specs.Views.{View}
 use Rattle.gix_ref_packed_text.specs.declared.raw.Reference.{Reference}
 use Rattle.gix_ref_listing.specs.GoneFiles.{IsFoundOrGone, IsTakenItem}
-use Rattle.gix_ref_listing.specs.Listings.{order_of, TakesFirst}
-use Rattle.gix_ref_listing.specs.OwedNames.{Text, AreAllGiven, FaultsAreIn, IsFaultIn, IsFaultOf, OwesOthers, OwesAfter, OwesOwn, PaysOwn, IsUnderItsName, OwesNames, PaysTaken, PaysItem}
+use Rattle.gix_ref_listing.specs.Listings.{order_of, TakesFirst, TakesFound}
+use Rattle.gix_ref_listing.specs.OwedNames.{AreAllGiven, Given, OwesKeys, OwesOthers, OwesAfter, OwesOwn, PaysOwn, IsUnderItsName, OwesNames, PaysTaken, PaysItem, with_name}
+use Rattle.gix_ref_listing.specs.PackedTexts.{Text, Ascends, IsLineOf, IsRecordOf, IsRest}
 use Rattle.gix_ref_listing.specs.LooseListings.{IsFoundIn}
 use Rattle.gix_ref_listing.specs.Walks.{FoundEntry, Holds}
 use Rattle.gix_ref_listing.specs.declared.error.Error.{Error}
@@ -60,76 +55,105 @@ held_named honest settings view before now (key, File n path) name r under holds
 held_named honest settings view before now (key, Unlisted path error) name r under holds (inl found) = absurd found
 held_named honest settings view before now (key, Unlisted path error) name r under holds (inr gone) = absurd gone
 
-module _ (settings : Settings) (text : Text) where
-  -- the text ended: all was given
-  pub ended : (names : List (List ℕ)) (it t : Iter) → ItemStep it None t → OwesOthers settings text names (Some it) → AreAllGiven settings text names
-  ended names it t step (given, named, owes, faults) = λ name due.
-      named due.of (next_pays text.kind text.bytes text.key given it t None owes step due.of due.asked) name due.own
+-- with more names given, or after a fault, no more is owed
+abbrev Wider : Given → Given → Type 0
+Wider given None = Unit {0}
+Wider None (Some more) = ⊥
+Wider (Some names) (Some more) = (name : List ℕ) → Contains names name → Contains more name
 
-  -- the faults after a record
-  later_faults : (it t : Iter) (x : PackedReference) → ItemStep it (Some (Ok x)) t → FaultsAreIn text it → FaultsAreIn text t
-  later_faults it t x step faults items u v e gave last = faults (Ok x ∷ items) u v e (t, step, gave) last
+wider_with : (name : List ℕ) (given : Given) → Wider given (with_name name given)
+wider_with name None = tt
+wider_with name (Some names) = λ other has. is_behind name other names has
+
+both_wider : (name : List ℕ) (given more : Given) → Wider given more → Wider (with_name name given) (with_name name more)
+both_wider name given None wider = tt
+both_wider name None (Some more) wider = absurd wider
+both_wider name (Some names) (Some more) wider = λ other has. ⊎_elim
+    (λ (same : other ≡ name). subst (Contains (name ∷ more)) (sym same) (is_first name more))
+    (λ (later : Contains names other). is_behind name other more (wider other later))
+    (first_or_behind name other names has)
+
+-- a list is not its own rest
+not_its_rest : {A : Type 0} (x : A) (xs : List A) → xs ≡ x ∷ xs → ⊥
+not_its_rest x xs same = let len : length xs ≡ length (x ∷ xs) = ap length same in omega arith
+
+module _ (settings : Settings) (text : Text) where
+  -- ---- records of the text
+
+  -- one item of an iterator over its rest
+  of_text : (it t : Iter) (item : Result PackedReference LineError) → ItemStep it (Some item) t → IsRest text it → IsItemOf text.kind text.bytes text.line (Some text.key) item × IsRest text t
+  of_text it t item step rest = next_is_of text.kind text.bytes text.line (Some text.key) it t item rest step
+
+  -- the text ended: all was given
+  pub ended : (given : Given) (it t : Iter) → ItemStep it None t → OwesOthers settings text given (Some it) → AreAllGiven settings text given
+  ended None it t step owes = tt
+  ended (Some names) it t step (rest, owes) = λ up name due.
+      let of = owes up in of.1 due.of (next_pays text.kind text.bytes text.key of.0 it t None of.2 step due.of due.asked) name due.own
 
   -- the next is a fault
-  pub met : (names : List (List ℕ)) (it t : Iter) (e : LineError) → ItemStep it (Some (Err e)) t → OwesOthers settings text names (Some it) → IsFaultIn text e
-  met names it t e step (given, named, owes, faults) = faults [] it t e refl step
+  pub met : (given : Given) (it t : Iter) (e : LineError) → ItemStep it (Some (Err e)) t → OwesOthers settings text given (Some it) → IsLineOf text e × OwesOthers settings text None (Some t)
+  met given it t e step (rest, owes) = let of = of_text it t (Err e) step rest in (of.0, (of.1, tt))
+
+  passed_keys : (given : Given) (it t : Iter) (x : PackedReference) → ItemStep it (Some (Ok x)) t → own_name settings (record_of x).name ≡ None → OwesKeys settings text given it → OwesKeys settings text given t
+  passed_keys None it t x step none owes = tt
+  passed_keys (Some names) it t x step none owes = λ up.
+      let of = owes up in (
+        (record_of x).name ∷ of.0,
+        λ key has name own. ⊎_elim
+            (λ (same : key ≡ (record_of x).name). let bad : Some name ≡ None = sym own ∙ (ap (own_name settings) same ∙ none) in absurd (cc))
+            (λ (later : Contains of.0 key). of.1 key later name own)
+            (first_or_behind (record_of x).name key of.0 has),
+        next_pays text.kind text.bytes text.key of.0 it t (Some (Ok x)) of.2 step,
+      )
 
   -- a record without a name of its own was passed over
-  pub passed : (names : List (List ℕ)) (it t : Iter) (x : PackedReference) → ItemStep it (Some (Ok x)) t → own_name settings (record_of x).name ≡ None → OwesOthers settings text names (Some it) → OwesOthers settings text names (Some t)
-  passed names it t x step none (given, named, owes, faults) = (
-    (record_of x).name ∷ given,
-    λ key has name own. ⊎_elim
-        (λ (same : key ≡ (record_of x).name). let bad : Some name ≡ None = sym own ∙ (ap (own_name settings) same ∙ none) in absurd (cc))
-        (λ (later : Contains given key). named key later name own)
-        (first_or_behind (record_of x).name key given has),
-    next_pays text.kind text.bytes text.key given it t (Some (Ok x)) owes step,
-    later_faults it t x step faults,
-  )
+  pub passed : (given : Given) (it t : Iter) (x : PackedReference) → ItemStep it (Some (Ok x)) t → own_name settings (record_of x).name ≡ None → OwesOthers settings text given (Some it) → OwesOthers settings text given (Some t)
+  passed given it t x step none (rest, owes) = ((of_text it t (Ok x) step rest).1, passed_keys given it t x step none owes)
 
-  -- a record was taken
-  pub taken : (names : List (List ℕ)) (it t : Iter) (x : PackedReference) (n : List ℕ) → ItemStep it (Some (Ok x)) t → own_name settings (record_of x).name ≡ Some n → OwesOthers settings text names (Some it) → OwesOthers settings text (n ∷ names) (Some t)
-  taken names it t x n step is (given, named, owes, faults) = (
-    (record_of x).name ∷ given,
-    λ key has name own. ⊎_elim
-        (λ (same : key ≡ (record_of x).name).
-        let both : Some name ≡ Some n = sym own ∙ (ap (own_name settings) same ∙ is) in
-        let it : n ≡ name = sym (the_same name n both) in subst (λ (m : List ℕ). Contains (n ∷ names) m) it (is_first n names))
-        (λ (later : Contains given key). is_behind n name names (named key later name own))
-        (first_or_behind (record_of x).name key given has),
-    next_pays text.kind text.bytes text.key given it t (Some (Ok x)) owes step,
-    later_faults it t x step faults,
-  )
+  taken_keys : (given : Given) (it t : Iter) (x : PackedReference) (n : List ℕ) → ItemStep it (Some (Ok x)) t → own_name settings (record_of x).name ≡ Some n → OwesKeys settings text given it → OwesKeys settings text (with_name n given) t
+  taken_keys None it t x n step is owes = tt
+  taken_keys (Some names) it t x n step is owes = λ up.
+      let of = owes up in (
+        (record_of x).name ∷ of.0,
+        λ key has name own. ⊎_elim
+            (λ (same : key ≡ (record_of x).name).
+            let both : Some name ≡ Some n = sym own ∙ (ap (own_name settings) same ∙ is) in
+            let it : n ≡ name = sym (the_same name n both) in subst (λ (m : List ℕ). Contains (n ∷ names) m) it (is_first n names))
+            (λ (later : Contains of.0 key). is_behind n name names (of.1 key later name own))
+            (first_or_behind (record_of x).name key of.0 has),
+        next_pays text.kind text.bytes text.key of.0 it t (Some (Ok x)) of.2 step,
+      )
     where
       the_same : (a b : List ℕ) → Some a ≡ Some b → a ≡ b
       the_same a b same = cc
 
+  -- a record was taken
+  pub taken : (given : Given) (it t : Iter) (x : PackedReference) (n : List ℕ) → ItemStep it (Some (Ok x)) t → own_name settings (record_of x).name ≡ Some n → OwesOthers settings text given (Some it) →
+      IsRecordOf settings text (record { name = n; of = record_of x }) × OwesOthers settings text (with_name n given) (Some t)
+  taken given it t x n step is (rest, owes) =
+      let of = of_text it t (Ok x) step rest in
+      (record { begins = of.0.0; asked = of.0.1; named = is }, (of.1, taken_keys given it t x n step is owes))
+
   -- with more names given it owes no more
-  pub given_wider : (names more : List (List ℕ)) → ((n : List ℕ) → Contains names n → Contains more n) → AreAllGiven settings text names → AreAllGiven settings text more
-  given_wider names more wider given = λ name due. wider name (given name due)
+  given_wider : (given more : Given) → Wider given more → AreAllGiven settings text given → AreAllGiven settings text more
+  given_wider given None wider all = tt
+  given_wider None (Some more) wider all = absurd wider
+  given_wider (Some names) (Some more) wider all = λ up name due. wider name (all up name due)
 
-  pub others_wider : (names more : List (List ℕ)) → ((n : List ℕ) → Contains names n → Contains more n) → (records : Option Iter) → OwesOthers settings text names records → OwesOthers settings text more records
-  others_wider names more wider None owes = given_wider names more wider owes
-  others_wider names more wider (Some it) (given, named, owes, faults) = (given, λ key has name own. wider name (named key has name own), owes, faults)
+  keys_wider : (given more : Given) → Wider given more → (it : Iter) → OwesKeys settings text given it → OwesKeys settings text more it
+  keys_wider given None wider it owes = tt
+  keys_wider None (Some more) wider it owes = absurd wider
+  keys_wider (Some names) (Some more) wider it owes = λ up. let of = owes up in (of.0, λ key has name own. wider name (of.1 key has name own), of.2)
 
-  one_wider : (x : List ℕ) (names more : List (List ℕ)) → ((n : List ℕ) → Contains names n → Contains more n) → (n : List ℕ) → Contains (x ∷ names) n → Contains (x ∷ more) n
-  one_wider x names more wider n has = ⊎_elim
-      (λ (same : n ≡ x). subst (Contains (x ∷ more)) (sym same) (is_first x more))
-      (λ (later : Contains names n). is_behind x n more (wider n later))
-      (first_or_behind x n names has)
+  others_wider : (given more : Given) → Wider given more → (records : Option Iter) → OwesOthers settings text given records → OwesOthers settings text more records
+  others_wider given more wider None owes = given_wider given more wider owes
+  others_wider given more wider (Some it) (rest, owes) = (rest, keys_wider given more wider it owes)
 
-  pub after_wider : (names more : List (List ℕ)) → ((n : List ℕ) → Contains names n → Contains more n) → (first : Option (Result OwnRecord LineError)) (records : Option Iter) →
-      OwesAfter settings text names first records → OwesAfter settings text more first records
-  after_wider names more wider None records owes = given_wider names more wider owes
-  after_wider names more wider (Some (Ok own)) records owes =
-      others_wider (full_ref_bytes own.name ∷ names) (full_ref_bytes own.name ∷ more) (one_wider (full_ref_bytes own.name) names more wider) records owes
-  after_wider names more wider (Some (Err e)) records owes = owes
-
-  -- the record that was read ahead was taken, and the next one is
-  pub pays_first : (names : List (List ℕ)) (first : Result OwnRecord LineError) (records : Option Iter) (new : OwnRecords) →
-      ((given : List (List ℕ)) → OwesOthers settings text given records → OwesOwn settings text given new) →
-      OwesAfter settings text names (Some first) records → PaysOwn settings text names (Some first) new
-  pays_first names (Ok own) records new loaded owes = loaded (full_ref_bytes own.name ∷ names) owes
-  pays_first names (Err e) records new loaded owes = owes
+  after_wider : (given more : Given) → Wider given more → (first : Option (Result OwnRecord LineError)) (records : Option Iter) → OwesAfter settings text given first records → OwesAfter settings text more first records
+  after_wider given more wider None records owes = given_wider given more wider owes
+  after_wider given more wider (Some (Ok own)) records (of, owes) =
+      (of, others_wider (with_name (full_ref_bytes own.name) given) (with_name (full_ref_bytes own.name) more) (both_wider (full_ref_bytes own.name) given more wider) records owes)
+  after_wider given more wider (Some (Err e)) records owes = owes
 
   -- ---- with what a walk found
 
@@ -139,18 +163,24 @@ module _ (settings : Settings) (text : Text) where
       let whole : All IsUnderItsName (e ∷ left) = subst (All IsUnderItsName) is all in
       (whole 0 e (omega arith), λ k d below. whole (suc k) d (omega (arith, below)))
 
-  more_given : (n : List ℕ) (names : List (List ℕ)) (o : OwnRecords) → OwesOwn settings text names o → OwesOwn settings text (n ∷ names) o
-  more_given n names o owes = after_wider names (n ∷ names) (λ m has. is_behind n m names has) o.first o.records owes
+  own_wider : (given more : Given) → Wider given more → (o : OwnRecords) → OwesOwn settings text given o → OwesOwn settings text more o
+  own_wider given more wider o owes = after_wider given more wider o.first o.records owes
+
+  names_wider : (given more : Given) → Wider given more → (m : Merge) → OwesNames settings text given m → OwesNames settings text more m
+  names_wider given more wider m owes = record { found = owes.found; packed = own_wider given more wider m.packed owes.packed }
 
   -- it comes before the next record
-  pub less_pays : (names : List (List ℕ)) (old new : Merge) (taken_now : Option Taken) → order_of old.found.entries old.packed.first ≡ Less → TakesFirst old.found.entries taken_now new.found.entries → new.packed ≡ old.packed →
-      OwesNames settings text names old → PaysTaken settings text names taken_now new
-  less_pays names old new None order (none, left) same owes = let bad : Greater ≡ Less = sym (ap (λ x. order_of x old.packed.first) none) ∙ order in absurd (cc)
-  less_pays names old new (Some (taking.Packed item)) order takes same owes = absurd takes
-  less_pays names old new (Some (taking.Walked (Unlisted path error))) order takes same owes = tt
-  less_pays names old new (Some (taking.Walked (File n path))) order (e, is_one, is) same owes = record {
+  pub less_pays : (given : Given) (old new : Merge) (taken_now : Option Taken) → order_of old.found.entries old.packed.first ≡ Less → TakesFirst old.found.entries taken_now new.found.entries → new.packed ≡ old.packed →
+      OwesNames settings text given old → PaysTaken settings text given taken_now new
+  less_pays given old new None order (none, left) same owes = let bad : Greater ≡ Less = sym (ap (λ x. order_of x old.packed.first) none) ∙ order in absurd (cc)
+  less_pays given old new (Some (taking.Packed item)) order takes same owes = absurd takes
+  less_pays given old new (Some (taking.Walked (Unlisted path error))) order (e, is_one, is) same owes = record {
     found = (found_behind old.found.entries new.found.entries e is owes.found).1;
-    packed = subst (OwesOwn settings text (full_bytes n ∷ names)) (sym same) (more_given (full_bytes n) names old.packed owes.packed);
+    packed = subst (OwesOwn settings text None) (sym same) (own_wider given None tt old.packed owes.packed);
+  }
+  less_pays given old new (Some (taking.Walked (File n path))) order (e, is_one, is) same owes = record {
+    found = (found_behind old.found.entries new.found.entries e is owes.found).1;
+    packed = subst (OwesOwn settings text (with_name (full_bytes n) given)) (sym same) (own_wider given (with_name (full_bytes n) given) (wider_with (full_bytes n) given) old.packed owes.packed);
   }
 
   -- it has the name of the next record
@@ -166,72 +196,58 @@ module _ (settings : Settings) (text : Text) where
       the_name a b p q same = cc
   under_name (key, Unlisted p error) n path is under = absurd (cc)
 
-  pub equal_pays : (names : List (List ℕ)) (old new : Merge) (mid : OwnRecords) (item : Option (Result OwnRecord LineError)) (taken_now : Option Taken) → order_of old.found.entries old.packed.first ≡ Equal → item ≡ old.packed.first →
-      PaysOwn settings text names item mid → TakesFirst old.found.entries taken_now new.found.entries → new.packed ≡ mid → OwesNames settings text names old → PaysTaken settings text names taken_now new
-  equal_pays names old new mid item None order first pays (none, left) same owes = let bad : Greater ≡ Equal = sym (ap (λ x. order_of x old.packed.first) none) ∙ order in absurd (cc)
-  equal_pays names old new mid item (Some (taking.Packed other)) order first pays takes same owes = absurd takes
-  equal_pays names old new mid item (Some (taking.Walked (Unlisted path error))) order first pays takes same owes = tt
-  equal_pays names old new mid item (Some (taking.Walked (File n path))) order first pays (e, is_one, is) same owes =
-      let behind = found_behind old.found.entries new.found.entries e is owes.found in
+  -- so the record was passed over
+  passes_same : (given : Given) (old new : Merge) (mid : OwnRecords) (item : Option (Result OwnRecord LineError)) (e : FoundEntry) → old.found.entries ≡ e ∷ new.found.entries → order_of old.found.entries old.packed.first ≡ Equal → item ≡ old.packed.first →
+      PaysOwn settings text given item mid → (own : OwnRecord) × (e.0.items ≡ full_ref_bytes own.name) × OwesOwn settings text (with_name (full_ref_bytes own.name) given) mid
+  passes_same given old new mid item e is order first pays =
       let named = same_name e new.found.entries old.packed.first (subst (λ (x : List FoundEntry). order_of x old.packed.first ≡ Equal) is order) in
-      let name : full_ref_bytes named.0.name ≡ full_bytes n = sym (under_name e n path is_one behind.0 ∙ named.2) in
-      let paid : OwesOwn settings text (full_ref_bytes named.0.name ∷ names) mid = subst (λ (i : Option (Result OwnRecord LineError)). PaysOwn settings text names i mid) (first ∙ named.1) pays in record {
+      (named.0, named.2, (subst (λ (i : Option (Result OwnRecord LineError)). PaysOwn settings text given i mid) (first ∙ named.1) pays).1)
+
+  pub equal_pays : (given : Given) (old new : Merge) (mid : OwnRecords) (item : Option (Result OwnRecord LineError)) (taken_now : Option Taken) → order_of old.found.entries old.packed.first ≡ Equal → item ≡ old.packed.first →
+      PaysOwn settings text given item mid → TakesFirst old.found.entries taken_now new.found.entries → new.packed ≡ mid → OwesNames settings text given old → PaysTaken settings text given taken_now new
+  equal_pays given old new mid item None order first pays (none, left) same owes = let bad : Greater ≡ Equal = sym (ap (λ x. order_of x old.packed.first) none) ∙ order in absurd (cc)
+  equal_pays given old new mid item (Some (taking.Packed other)) order first pays takes same owes = absurd takes
+  equal_pays given old new mid item (Some (taking.Walked (Unlisted path error))) order first pays (e, is_one, is) same owes =
+      let behind = found_behind old.found.entries new.found.entries e is owes.found in
+      let next = passes_same given old new mid item e is order first pays in record {
         found = behind.1;
-        packed = subst (OwesOwn settings text (full_bytes n ∷ names)) (sym same) (subst (λ (m : List ℕ). OwesOwn settings text (m ∷ names) mid) name paid);
+        packed = subst (OwesOwn settings text None) (sym same) (own_wider (with_name (full_ref_bytes next.0.name) given) None tt mid next.2);
+      }
+  equal_pays given old new mid item (Some (taking.Walked (File n path))) order first pays (e, is_one, is) same owes =
+      let behind = found_behind old.found.entries new.found.entries e is owes.found in
+      let next = passes_same given old new mid item e is order first pays in
+      let name : full_ref_bytes next.0.name ≡ full_bytes n = sym (under_name e n path is_one behind.0 ∙ next.1) in record {
+        found = behind.1;
+        packed = subst (OwesOwn settings text (with_name (full_bytes n) given)) (sym same) (subst (λ (m : List ℕ). OwesOwn settings text (with_name m given) mid) name next.2);
       }
 
   -- the next record comes before it
-  pub greater_pays : (names : List (List ℕ)) (old : Merge) (mid : OwnRecords) (item : Result OwnRecord LineError) → PaysOwn settings text names (Some item) mid → OwesNames settings text names old →
-      PaysTaken settings text names (Some (taking.Packed item)) (record { found = old.found; packed = mid })
-  greater_pays names old mid (Ok own) pays owes = record { found = owes.found; packed = pays }
-  greater_pays names old mid (Err error) pays owes = pays
+  pub greater_pays : (given : Given) (old : Merge) (mid : OwnRecords) (item : Result OwnRecord LineError) → PaysOwn settings text given (Some item) mid → OwesNames settings text given old →
+      PaysTaken settings text given (Some (taking.Packed item)) (record { found = old.found; packed = mid })
+  greater_pays given old mid (Ok own) (of, pays) owes = (of, record { found = owes.found; packed = pays })
+  greater_pays given old mid (Err error) (of, pays) owes = (of, record { found = owes.found; packed = pays })
 
   -- ---- as items
 
-  -- the fault of a file or of a folder is about no line
-  no_line : (honest : Type 0) (view : View) (before now : FaultCounts) (found : Found) (error : Error) → IsFoundOrGone honest settings view before now found (Err error) → IsFaultOf text error
-  no_line honest view before now found (failing.Traversal source path) is = tt
-  no_line honest view before now found (failing.ReadFileContents source path) is = tt
-  no_line honest view before now found (failing.ReferenceCreation source path) is = tt
-  no_line honest view before now found failing.Memory is = tt
-  no_line honest view before now (File n path) (failing.PackedReference line number) (inl unread) = absurd unread
-  no_line honest view before now (File n path) (failing.PackedReference line number) (inr (gone, inl unread)) = absurd unread
-  no_line honest view before now (File n path) (failing.PackedReference line number) (inr (gone, inr (none, allowed, inl unread))) = absurd unread
-  no_line honest view before now (File n path) (failing.PackedReference line number) (inr (gone, inr (none, allowed, inr (has, gone_now)))) = absurd gone_now
-  no_line honest view before now (Unlisted path source) (failing.PackedReference line number) (inl is) = absurd (cc)
-  no_line honest view before now (Unlisted path source) (failing.PackedReference line number) (inr gone) = absurd gone
-
-  -- nor is that of a record
-  record_no_line : (s : Store) (name : List ℕ) (error : Error) → IsRecordFault s name error → IsFaultOf text error
-  record_no_line s name (failing.Traversal source path) is = tt
-  record_no_line s name (failing.ReadFileContents source path) is = tt
-  record_no_line s name (failing.ReferenceCreation source path) is = tt
-  record_no_line s name failing.Memory is = tt
-  record_no_line s name (failing.PackedReference line number) is = absurd is
-
-  -- that of a line is about it
-  of_line : (line : LineError) (error : Error) → IsFaultIn text line → IsOfLine line error → IsFaultOf text error
-  of_line line (failing.Traversal source path) at is = tt
-  of_line line (failing.ReadFileContents source path) at is = tt
-  of_line line (failing.ReferenceCreation source path) at is = tt
-  of_line line failing.Memory at is = tt
-  of_line line (failing.PackedReference bytes number) at is = (line, at, is)
-
-  pub item_pays : (honest : Type 0) (view : View) (before now : FaultCounts) (names : List (List ℕ)) (taken_now : Taken) (item : Result Reference Error) (t : Merge) → IsTakenItem honest settings view before now taken_now item →
-      PaysTaken settings text names (Some taken_now) t → PaysItem settings text names (Some item) t
-  item_pays honest view before now names (taking.Walked found) (Err error) t is pays = no_line honest view before now found error is
-  item_pays honest view before now names (taking.Packed (Ok own)) (Err error) t is pays = record_no_line (meaning_in settings) (full_ref_bytes own.name) error is
-  item_pays honest view before now names (taking.Packed (Err line)) (Err error) t is pays = of_line line error pays is
-  item_pays honest view before now names (taking.Walked (File n path)) (Ok r) t is pays =
-      subst (λ (m : List ℕ). OwesNames settings text (m ∷ names) t) (ap full_bytes (sym (file_named honest settings view before now n path r is))) pays
-  item_pays honest view before now names (taking.Walked (Unlisted path error)) (Ok r) t (inl found) pays = absurd found
-  item_pays honest view before now names (taking.Walked (Unlisted path error)) (Ok r) t (inr gone) pays = absurd gone
-  item_pays honest view before now names (taking.Packed (Ok own)) (Ok r) t is pays = subst (λ (m : List ℕ). OwesNames settings text (m ∷ names) t) (sym is.0.0) pays
-  item_pays honest view before now names (taking.Packed (Err error)) (Ok r) t is pays = absurd is
+  pub item_pays : (honest : Type 0) (view : View) (before now : FaultCounts) (given : Given) (found : List FoundEntry) (taken_now : Taken) (item : Result Reference Error) (t : Merge) → IsTakenItem honest settings view before now taken_now item →
+      TakesFound found (Some taken_now) t.found.entries → PaysTaken settings text given (Some taken_now) t → PaysItem settings text given found (Some item) t
+  item_pays honest view before now given found (taking.Walked (Unlisted path error)) (Ok r) t (inl bad) takes pays = absurd bad
+  item_pays honest view before now given found (taking.Walked (Unlisted path error)) (Ok r) t (inr gone) takes pays = absurd gone
+  item_pays honest view before now given found (taking.Walked (Unlisted path source)) (Err error) t is (e, is_one, whole) pays = (pays, λ same. absurd (not_its_rest e t.found.entries (same ∙ whole)))
+  item_pays honest view before now given found (taking.Walked (File n path)) (Ok r) t is (e, is_one, whole) pays = (
+    subst (λ (m : List ℕ). OwesNames settings text (with_name m given) t) (ap full_bytes (sym (file_named honest settings view before now n path r is))) pays,
+    λ same. absurd (not_its_rest e t.found.entries (same ∙ whole)),
+  )
+  item_pays honest view before now given found (taking.Walked (File n path)) (Err error) t is (e, is_one, whole) pays =
+      (names_wider (with_name (full_bytes n) given) None tt t pays, λ same. absurd (not_its_rest e t.found.entries (same ∙ whole)))
+  item_pays honest view before now given found (taking.Packed (Ok own)) (Ok r) t is takes (of, pays) = (subst (λ (m : List ℕ). OwesNames settings text (with_name m given) t) (sym is.0.0) pays, λ same. (own_of own, of, is))
+  item_pays honest view before now given found (taking.Packed (Ok own)) (Err error) t is takes (of, pays) = (names_wider (with_name (full_ref_bytes own.name) given) None tt t pays, λ same. inl (own_of own, of, is))
+  item_pays honest view before now given found (taking.Packed (Err line)) (Ok r) t is takes pays = absurd is
+  item_pays honest view before now given found (taking.Packed (Err line)) (Err error) t is takes (of, pays) = (pays, λ same. inr (line, of, is))
 
 -- an iterator of a key owes the records of the key, where none was given
-pub owes_all : (settings : Settings) (text : Text) (asked : List ℕ) → asked ≡ text.key → (it : Iter) → Owes text.kind text.bytes asked [] it → FaultsAreIn text it → OwesOthers settings text [] (Some it)
-owes_all settings text asked same it owes faults = ([], λ key has name own. absurd (omega (arith, has.1)), subst (λ (k : List ℕ). Owes text.kind text.bytes k [] it) same owes, faults)
+pub owes_all : (settings : Settings) (text : Text) (it : Iter) → IsRest text it → (Ascends text → Owes text.kind text.bytes text.key [] it) → OwesOthers settings text (Some []) (Some it)
+owes_all settings text it rest owes = (rest, λ up. ([], λ key has name own. absurd (omega (arith, has.1)), owes up))
 
 -- what a walk found is under its name
 pub under_names : (settings : Settings) (view : View) (prefix : List ℕ) (es : List FoundEntry) → All (IsFoundIn settings view prefix) es → All IsUnderItsName es

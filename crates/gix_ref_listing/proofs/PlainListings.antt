@@ -12,9 +12,10 @@ use Rattle.gix_ref_lookup.specs.Lookups.{meaning_in}
 use Rattle.gix_ref_lookup.specs.declared.settings.Settings.{Settings}
 use Rattle.gix_ref_listing.specs.PlainSettings.{plain}
 use Rattle.gix_ref_listing.specs.Walks.{FoundEntry}
-use Rattle.gix_ref_name.specs.Names.{full_bytes, full_ref_bytes}
+use Rattle.gix_ref_name.specs.Names.{full_ref_bytes}
 use Rattle.gix_ref_packed.specs.declared.packed.iter.Iter.{Iter}
-use Rattle.gix_ref_listing.specs.OwedNames.{Text, AreAllGiven, OwesOthers, OwesAfter, OwesNames, PaysItem}
+use Rattle.gix_ref_listing.specs.OwedNames.{AreAllGiven, Given, OwesOthers, OwesAfter, OwesNames, PaysItem, given_with, with_name}
+use Rattle.gix_ref_listing.specs.PackedTexts.{Text, IsRecordOf, IsTextItem}
 use Rattle.gix_ref_listing.specs.OwnRecords.{Own, own_of, own_name, own_records, with_own, AheadOf, AreAhead}
 use Rattle.gix_ref_listing.specs.Listings.{Listed, merged_listing, TakesRecord, IsNotLent}
 use Rattle.gix_ref_listing.specs.Listings.Listed.{Walked, InPacked}
@@ -55,50 +56,66 @@ module _ (s : Settings) where
 
   -- ---- what is owed over any text
 
-  given_to_plain : (text : Text) (names : List (List ℕ)) → AreAllGiven s text names → AreAllGiven (plain s) text names
-  given_to_plain text names given = λ name due. given name (record { of = due.of; asked = due.asked; own = same_name due.of ∙ due.own })
+  record_to_plain : (text : Text) (own : Own) → IsRecordOf s text own → IsRecordOf (plain s) text own
+  record_to_plain text own of = record { begins = of.begins; asked = of.asked; named = sym (same_name own.of.name) ∙ of.named }
 
-  given_of_plain : (text : Text) (names : List (List ℕ)) → AreAllGiven (plain s) text names → AreAllGiven s text names
-  given_of_plain text names given = λ name due. given name (record { of = due.of; asked = due.asked; own = sym (same_name due.of) ∙ due.own })
+  record_of_plain : (text : Text) (own : Own) → IsRecordOf (plain s) text own → IsRecordOf s text own
+  record_of_plain text own of = record { begins = of.begins; asked = of.asked; named = same_name own.of.name ∙ of.named }
 
-  others_to_plain : (text : Text) (names : List (List ℕ)) (records : Option Iter) → OwesOthers s text names records → OwesOthers (plain s) text names records
-  others_to_plain text names None owes = given_to_plain text names owes
-  others_to_plain text names (Some it) (given, named, owes, faults) = (given, λ key has name own. named key has name (same_name key ∙ own), owes, faults)
+  given_to_plain : (text : Text) (given : Given) → AreAllGiven s text given → AreAllGiven (plain s) text given
+  given_to_plain text None all = tt
+  given_to_plain text (Some names) all = λ up name due. all up name (record { of = due.of; asked = due.asked; own = same_name due.of ∙ due.own })
 
-  others_of_plain : (text : Text) (names : List (List ℕ)) (records : Option Iter) → OwesOthers (plain s) text names records → OwesOthers s text names records
-  others_of_plain text names None owes = given_of_plain text names owes
-  others_of_plain text names (Some it) (given, named, owes, faults) = (given, λ key has name own. named key has name (sym (same_name key) ∙ own), owes, faults)
+  given_of_plain : (text : Text) (given : Given) → AreAllGiven (plain s) text given → AreAllGiven s text given
+  given_of_plain text None all = tt
+  given_of_plain text (Some names) all = λ up name due. all up name (record { of = due.of; asked = due.asked; own = sym (same_name due.of) ∙ due.own })
 
-  own_to_plain : (text : Text) (names : List (List ℕ)) (first : Option (Result OwnRecord LineError)) (records : Option Iter) → OwesAfter s text names first records → OwesAfter (plain s) text names first records
-  own_to_plain text names None records owes = given_to_plain text names owes
-  own_to_plain text names (Some (Ok own)) records owes = others_to_plain text (full_ref_bytes own.name ∷ names) records owes
-  own_to_plain text names (Some (Err e)) records owes = owes
+  others_to_plain : (text : Text) (given : Given) (records : Option Iter) → OwesOthers s text given records → OwesOthers (plain s) text given records
+  others_to_plain text given None owes = given_to_plain text given owes
+  others_to_plain text None (Some it) (rest, owes) = (rest, tt)
+  others_to_plain text (Some names) (Some it) (rest, owes) = (rest, λ up. let of = owes up in (of.0, λ key has name own. of.1 key has name (same_name key ∙ own), of.2))
 
-  own_of_plain : (text : Text) (names : List (List ℕ)) (first : Option (Result OwnRecord LineError)) (records : Option Iter) → OwesAfter (plain s) text names first records → OwesAfter s text names first records
-  own_of_plain text names None records owes = given_of_plain text names owes
-  own_of_plain text names (Some (Ok own)) records owes = others_of_plain text (full_ref_bytes own.name ∷ names) records owes
-  own_of_plain text names (Some (Err e)) records owes = owes
+  others_of_plain : (text : Text) (given : Given) (records : Option Iter) → OwesOthers (plain s) text given records → OwesOthers s text given records
+  others_of_plain text given None owes = given_of_plain text given owes
+  others_of_plain text None (Some it) (rest, owes) = (rest, tt)
+  others_of_plain text (Some names) (Some it) (rest, owes) = (rest, λ up. let of = owes up in (of.0, λ key has name own. of.1 key has name (sym (same_name key) ∙ own), of.2))
 
-  pub owes_to_plain : (text : Text) (names : List (List ℕ)) (m : Merge) → OwesNames s text names m → OwesNames (plain s) text names m
-  owes_to_plain text names m owes = record { found = owes.found; packed = own_to_plain text names m.packed.first m.packed.records owes.packed }
+  own_to_plain : (text : Text) (given : Given) (first : Option (Result OwnRecord LineError)) (records : Option Iter) → OwesAfter s text given first records → OwesAfter (plain s) text given first records
+  own_to_plain text given None records owes = given_to_plain text given owes
+  own_to_plain text given (Some (Ok own)) records (of, owes) = (record_to_plain text (own_of own) of, others_to_plain text (with_name (full_ref_bytes own.name) given) records owes)
+  own_to_plain text given (Some (Err e)) records (of, owes) = (of, others_to_plain text None records owes)
 
-  pub owes_of_plain : (text : Text) (names : List (List ℕ)) (m : Merge) → OwesNames (plain s) text names m → OwesNames s text names m
-  owes_of_plain text names m owes = record { found = owes.found; packed = own_of_plain text names m.packed.first m.packed.records owes.packed }
+  own_of_plain : (text : Text) (given : Given) (first : Option (Result OwnRecord LineError)) (records : Option Iter) → OwesAfter (plain s) text given first records → OwesAfter s text given first records
+  own_of_plain text given None records owes = given_of_plain text given owes
+  own_of_plain text given (Some (Ok own)) records (of, owes) = (record_of_plain text (own_of own) of, others_of_plain text (with_name (full_ref_bytes own.name) given) records owes)
+  own_of_plain text given (Some (Err e)) records (of, owes) = (of, others_of_plain text None records owes)
 
-  pub pays_plain : (text : Text) (names : List (List ℕ)) (r : Option (Result Reference Error)) (t : Merge) → PaysItem s text names r t → PaysItem (plain s) text names r t
-  pays_plain text names None t pays = given_to_plain text names pays
-  pays_plain text names (Some (Ok r)) t pays = owes_to_plain text (full_bytes r.name ∷ names) t pays
-  pays_plain text names (Some (Err e)) t pays = pays
+  pub owes_to_plain : (text : Text) (given : Given) (m : Merge) → OwesNames s text given m → OwesNames (plain s) text given m
+  owes_to_plain text given m owes = record { found = owes.found; packed = own_to_plain text given m.packed.first m.packed.records owes.packed }
+
+  pub owes_of_plain : (text : Text) (given : Given) (m : Merge) → OwesNames (plain s) text given m → OwesNames s text given m
+  owes_of_plain text given m owes = record { found = owes.found; packed = own_of_plain text given m.packed.first m.packed.records owes.packed }
+
+  text_item_plain : (text : Text) (item : Result Reference Error) → IsTextItem s text item → IsTextItem (plain s) text item
+  text_item_plain text (Ok r) (own, of, is) = (own, record_to_plain text own of, is)
+  text_item_plain text (Err e) (inl (own, of, is)) = inl (own, record_to_plain text own of, is)
+  text_item_plain text (Err e) (inr of) = inr of
+
+  pub pays_plain : (text : Text) (given : Given) (found : List FoundEntry) (r : Option (Result Reference Error)) (t : Merge) → PaysItem s text given found r t → PaysItem (plain s) text given found r t
+  pays_plain text given found None t pays = given_to_plain text given pays
+  pays_plain text given found (Some item) t (pays, of) = (owes_to_plain text (given_with item given) t pays, λ same. text_item_plain text item (of same))
 
   -- a record that is lent
   pub lends_plain : (old new : Merge) (result : Option OwnRecord) →
       IfSome result (λ own. (owns : List Own) → AreAhead s old.packed owns → TakesRecord s (merged_listing old.found.entries owns) own new) →
-      IfSome result (λ own. (text : Text) (names : List (List ℕ)) → OwesNames s text names old → OwesNames s text (full_ref_bytes own.name ∷ names) new) → IfSome result (λ own. IsDrained old → ⊥) →
+      IfSome result (λ own. (text : Text) (given : Given) → OwesNames s text given old → IsRecordOf s text (own_of own) × OwesNames s text (with_name (full_ref_bytes own.name) given) new) → IfSome result (λ own. IsDrained old → ⊥) →
       new.found ≡ old.found → IfSome result (λ own. IsAllowed (meaning_in s) (full_ref_bytes own.name)) → IfSome result (GivesRecord (plain s) old new)
   lends_plain old new None takes pays goes_on same allowed = _
   lends_plain old new (Some own) takes pays goes_on same allowed = record {
     found = ap (λ f. f.entries) same;
-    pays = λ text names owes. owes_to_plain text (full_ref_bytes own.name ∷ names) new (pays text names (owes_of_plain text names old owes));
+    pays = λ text given owes.
+        let paid = pays text given (owes_of_plain text given old owes) in
+        (record_to_plain text (own_of own) paid.0, owes_to_plain text (with_name (full_ref_bytes own.name) given) new paid.1);
     gives = λ listed yet.
         let before = of_plain old listed yet in
         let took = takes before.0 before.1 in

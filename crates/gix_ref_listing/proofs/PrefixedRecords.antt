@@ -1,5 +1,5 @@
 -- What a buffer holds that was read for a prefix.
-use Rattle.std.proofs.Common.{◌≡◌, ℕ, List, [], ◌∷◌, false, Option, Some, None, refl, inr, true, subst, sym, ◌∙◌}
+use Rattle.std.proofs.Common.{◌≡◌, ℕ, List, [], ◌∷◌, false, Option, Some, None, refl, inr, true, subst, sym}
 use Rattle.std.specs.List.{All}
 use Rattle.std.specs.Prelude.{slice_index_or}
 use Rattle.gix_ref_hash.specs.declared.hash.Kind.{Kind}
@@ -19,7 +19,7 @@ use Rattle.gix_ref_packed.specs.declared.packed.sorted_file.ReadError.TheVariant
 use Rattle.gix_ref_packed_text.specs.RecordGrammar.{Below, Ascending, Rising}
 use Rattle.gix_ref_packed.specs.declared.packed.buffer.Buffer.{Buffer}
 use Rattle.gix_ref_packed_text.proofs.Halves.{not_both}
-use Rattle.gix_ref_packed.proofs.PrefixParts.{prefixed_hold}
+use Rattle.gix_ref_packed.proofs.PrefixBuffers.{prefixed_hold}
 use Rattle.gix_ref_lookup.specs.Lookups.{ArePackedRecords}
 use Rattle.gix_ref_listing.specs.PrefixedRecords.{WholeBuffersHold, HoldsAskedOf, of_part}
 use Rattle.gix_ref_listing.specs.WholeListings.{HoldsFor}

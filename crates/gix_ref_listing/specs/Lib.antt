@@ -5,6 +5,7 @@ pub mod Listings
 pub mod LooseListings
 pub mod OwedNames
 pub mod OwnRecords
+pub mod PackedTexts
 pub mod PlainSettings
 pub mod PrefixedRecords
 pub mod PristineStores

@@ -1,5 +1,5 @@
 -- One item of a listing after the other.
-use Rattle.std.specs.Prelude.{◌≡◌, ◌⊎◌, ℕ, List, [], ◌∷◌, Option, Some, None, Result, Ok, Err}
+use Rattle.std.specs.Prelude.{◌≡◌, ◌⊎◌, List, [], ◌∷◌, Option, Some, None, Result, Ok, Err}
 use Rattle.gix_ref_files.specs.Files.{Meaning, disk_of, Leaves, Passes, FaultCounts, NoFewer}
 use Rattle.gix_ref_files.specs.Calls.{Unchanged}
 use Rattle.gix_ref_files.specs.DiskCalls.{Untouched}
@@ -8,7 +8,8 @@ use Rattle.gix_ref_name.specs.Names.{full_ref_bytes}
 use Rattle.gix_ref_packed_text.specs.declared.raw.Reference.{Reference}
 use Rattle.gix_ref_lookup.specs.Lookups.{meaning_in}
 use Rattle.gix_ref_lookup.specs.declared.settings.Settings.{Settings}
-use Rattle.gix_ref_listing.specs.OwedNames.{Text, OwesNames, PaysItem}
+use Rattle.gix_ref_listing.specs.OwedNames.{Given, OwesNames, PaysItem, with_name}
+use Rattle.gix_ref_listing.specs.PackedTexts.{Text, IsRecordOf}
 use Rattle.gix_ref_listing.specs.OwnRecords.{Own, own_of, AreAhead}
 use Rattle.gix_ref_listing.specs.Listings.{Listed, merged_listing}
 use Rattle.gix_ref_listing.specs.Listings.Listed.{InPacked}
@@ -33,8 +34,9 @@ AreYet settings m listed = (owns : List Own) × AreAhead settings m.packed owns
 pub record GivesRecord (settings : Settings) (s t : Merge) (own : OwnRecord) : Type 0 where
   pub gives : (listed : List Listed) → AreYet settings s listed → (more : List Listed)
       × (listed ≡ InPacked (own_of own) ∷ more) × AreYet settings t more
-  pub pays : (text : Text) (names : List (List ℕ)) → OwesNames settings text names s →
-      OwesNames settings text (full_ref_bytes own.name ∷ names) t
+  pub pays : (text : Text) (given : Given) → OwesNames settings text given s →
+      IsRecordOf settings text (own_of own)
+      × OwesNames settings text (with_name (full_ref_bytes own.name) given) t
   pub found : t.found.entries ≡ s.found.entries
   pub allowed : IsAllowed (meaning_in settings) (full_ref_bytes own.name)
   pub goes_on : IsDrained s → ⊥
@@ -69,9 +71,9 @@ module _ {F : Type 0} (honest : Type 0) (means : F → Meaning) (faults : F → 
       (r : Option (Result Reference Error)) (t : Merge) : Type 0 where
     pub gives : (listed : List Listed) → AreYet settings s listed →
         GivesItem settings before now listed r t
-    -- over any text: each name that is due is given, or a fault
-    pub pays : (text : Text) (names : List (List ℕ)) → OwesNames settings text names s →
-        PaysItem settings text names r t
+    -- over any text: what is given was found or read from it, and each name that is due is given, or a fault
+    pub pays : (text : Text) (given : Given) → OwesNames settings text given s →
+        PaysItem settings text given s.found.entries r t
     pub found : GivesFound settings before now s.found.entries r t.found.entries
     pub rises : NoFewer (faults before) (faults now)
     pub counts : CountsNone (faults before) (faults now) r

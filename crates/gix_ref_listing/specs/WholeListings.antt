@@ -17,7 +17,8 @@ use Rattle.gix_ref_lookup.specs.Lookups.{meaning_in, Among}
 use Rattle.gix_ref_lookup.specs.StoreLayout.{namespace_text}
 use Rattle.gix_ref_lookup.specs.declared.settings.Settings.{Settings}
 use Rattle.gix_ref_listing.specs.Walks.{FindsEach, Holds, IsFile, IsFileOrMet}
-use Rattle.gix_ref_listing.specs.OwedNames.{Text, IsTextFor, IsUnderItsName, OwesNames}
+use Rattle.gix_ref_listing.specs.OwedNames.{OwesNames}
+use Rattle.gix_ref_listing.specs.PackedTexts.{Text, IsTextOf}
 use Rattle.gix_ref_listing.specs.PlainSettings.{plain}
 use Rattle.gix_ref_listing.specs.declared.prefix.Error.{Error}
 use Rattle.gix_ref_listing.specs.OwnRecords.{YetOf}
@@ -128,17 +129,22 @@ ListsHeld settings view prefix buffer before now result = (records : List Record
     AreHeldOf (key_in settings prefix) buffer records →
     IfOk result (ListsAll (plain settings) view records prefix before now)
 
--- What a walk found is yet to come: each loose reference of a prefix, unless a folder above it could not be listed.
-pub record HasLoose (settings : Settings) (view : View) (prefix : List ℕ) (m : Merge) : Type 0 where
-  pub named : All IsUnderItsName m.found.entries
+-- What a walk found is yet to come: each loose reference of a prefix, unless a folder above it could not be listed, by a fault that was
+-- counted; and no other.
+pub record HasLoose (settings : Settings) (view : View) (prefix : List ℕ)
+    (before now : FaultCounts) (m : Merge) : Type 0 where
+  pub there : All (IsFoundIn settings view prefix) m.found.entries
+  pub files : All (IsFileOrMet before now) m.found.entries
   pub finds : FindsEach (IsLooseListed settings view prefix) m.found.entries
 
--- and so whatever the text of the buffer is; where its names ascend, each name that is due is yet to come, or a fault is
+-- and so whatever the text of the buffer is; the rest is read from it, and where its names ascend, each name that is due is yet to
+-- come, or a fault is
 abbrev pub OwesHeld : Settings → View → (prefix : List ℕ) → Option (Bor Buffer) →
-    Result Merge Error → Type 0
-OwesHeld settings view prefix buffer result = IfOk result (HasLoose (plain settings) view prefix)
-    × ((text : Text) → IsTextFor (key_in settings prefix) buffer text →
-    IfOk result (OwesNames (plain settings) text []))
+    (before now : FaultCounts) → Result Merge Error → Type 0
+OwesHeld settings view prefix buffer before now result =
+    IfOk result (HasLoose (plain settings) view prefix before now)
+    × ((text : Text) → IsTextOf (key_in settings prefix) buffer text →
+    IfOk result (OwesNames (plain settings) text (Some [])))
 
 -- What a walk of the folders of a store found of a prefix while the count of faults went from `before` to `now`: each loose
 -- reference, unless a folder above it could not be listed, which is found with a fault that was counted; and nothing else.

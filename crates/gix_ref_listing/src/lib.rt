@@ -28,15 +28,15 @@
 //!   `prefixed_records::open_prefixed`, clauses `holds`, `asked`, `laws::whole_buffers_hold_prefixes`
 //! - over any text: each loose reference of the prefix is given, or a fault is: `list::merge_walked`, `list::list`, clause `owes`
 //!   (`HasLoose` in `WholeListings.antt`), `item::next_item` (`found` of `GivesNext`)
+//! - over any text: each item that a walk did not find was read from the text: the reference of a record that begins a line of it,
+//!   has the prefix, and the name for its own key; or a fault about a line that is no record, with its number: the same
+//!   (`IsTextItem` in `PackedTexts.antt`; `pays` of `GivesNext`)
 //! - over any text whose names ascend, whatever its lines are: each name that is due by a line of a record's form is given, or a
-//!   fault is, and where the first is about a line, that line is no record, and has its number: the same (`OwesNames`, `IsFaultIn`
-//!   in `OwedNames.antt`; `pays` of `GivesNext`)
+//!   fault is: the same (`IsDue`, `OwesNames` in `OwedNames.antt`)
 //!
 //! Where names are composed, a file whose name on disk is not composed is listed under its composed name; that it is listed is
-//! only tested. Over a `packed-refs` that is not well formed the end of a listing is proved, that it changes nothing, that an
-//! item in which a fault of files is counted is a fault, that it lacks no name in silence, and that its first fault, if it is
-//! about a line, is about one that is no record (the points before this). That its other items are right, and what comes after
-//! the first fault, is tested.
+//! only tested. Over a `packed-refs` that is not well formed the order of a listing is only tested, and that it gives no name twice;
+//! so is that it lacks no name where the names do not ascend, or a fault was given before.
 #![tactic(auto)]
 
 pub mod error;

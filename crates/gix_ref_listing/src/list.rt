@@ -1,12 +1,13 @@
 //! The listing of a prefix.
-ghost use Rattle.std.specs.Prelude.{◌≡◌, ◌++◌, List, [], IfOk, IfErr};
+ghost use Rattle.std.specs.Prelude.{◌≡◌, ◌++◌, List, [], Some, IfOk, IfErr};
 ghost use Rattle.gix_ref_files.specs.Files.{FaultCounts};
 ghost use Rattle.gix_ref_target.specs.PackedRecords.{Record};
 ghost use Rattle.gix_ref_theory.specs.OnRealTrees.{contents};
 ghost use Rattle.gix_ref_theory.specs.Views.{View};
 ghost use Rattle.gix_ref_lookup.specs.StoreLayout.{namespace_text};
 ghost use Rattle.gix_ref_files.specs.ReadOnly.{OnlyReads};
-ghost use Rattle.gix_ref_listing.specs.OwedNames.{Text, IsTextFor, OwesOthers};
+ghost use Rattle.gix_ref_listing.specs.OwedNames.{OwesOthers};
+ghost use Rattle.gix_ref_listing.specs.PackedTexts.{Text, IsTextOf};
 ghost use Rattle.gix_ref_listing.specs.PlainSettings.{plain};
 ghost use Rattle.gix_ref_lookup.specs.declared.settings.Settings.{Settings as ListingOf};
 ghost use Rattle.gix_ref_listing.specs.WholeListings.{AreHeldOf, IsAskedOf, IsWalkOf, ListsHeld, OwesHeld};
@@ -35,8 +36,8 @@ fn records_of<'p>(
         (namespace_text namespace.now ++ prefix.now) packed.entry records →
         IfOk result (IsAskedOf (namespace_text namespace.now ++ prefix.now) records) }
     ensures owes { (settings : ListingOf) → (text : Text) →
-        IsTextFor (namespace_text namespace.now ++ prefix.now) packed.entry text →
-        IfOk result (OwesOthers settings text []) }
+        IsTextOf (namespace_text namespace.now ++ prefix.now) packed.entry text →
+        IfOk result (OwesOthers settings text (Some [])) }
 {
     match packed {
         Some(buffer) => {
@@ -90,7 +91,7 @@ pub fn merge_walked<'p>(
         ListsHeld settings.entry view names.prefix.items packed.entry before now result }
     ensures owes { (view : View) (before now : FaultCounts) →
         IsWalkOf (plain settings.entry) view before now names →
-        OwesHeld settings.entry view names.prefix.items packed.entry result }
+        OwesHeld settings.entry view names.prefix.items packed.entry before now result }
     ensures memory { IfErr result (λ error. error ≡ Memory) }
 {
     let LooseNames { found, prefix } = names;
@@ -114,7 +115,7 @@ pub fn list<'p, F: Files>(
     ensures lists { F.honest → ListsHeld settings.entry (contents F.means files.old) prefix.now
         packed.entry (F.faults files.old) (F.faults files.new) result }
     ensures owes { F.honest → OwesHeld settings.entry (contents F.means files.old) prefix.now
-        packed.entry result }
+        packed.entry (F.faults files.old) (F.faults files.new) result }
     ensures looks { OnlyReads F.honest F.means F.faults files.old files.new }
     ensures memory { IfErr result (λ error. error ≡ Memory) }
 {

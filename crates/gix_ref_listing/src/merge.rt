@@ -24,12 +24,13 @@ pub struct Merge<'p> {
 }
 
 impl<'p> Merge<'p> {
-    ghost use Rattle.std.specs.Prelude.{◌≡◌, ◌≤◌, ◌+◌, ◌∷◌, ℕ, List, IfNone, IfSome, None};
+    ghost use Rattle.std.specs.Prelude.{◌≡◌, ◌≤◌, ◌+◌, List, IfNone, IfSome, None};
     ghost use Rattle.gix_ref_name.specs.Names.{full_ref_bytes};
     ghost use Rattle.gix_ref_lookup.specs.Lookups.{meaning_in};
     ghost use Rattle.std.specs.Option.{option_len};
-    ghost use Rattle.gix_ref_listing.specs.OwnRecords.{Own, AreAhead};
-    ghost use Rattle.gix_ref_listing.specs.OwedNames.{Text, OwesNames, PaysTaken};
+    ghost use Rattle.gix_ref_listing.specs.OwnRecords.{Own, AreAhead, own_of};
+    ghost use Rattle.gix_ref_listing.specs.OwedNames.{Given, OwesNames, PaysTaken, with_name};
+    ghost use Rattle.gix_ref_listing.specs.PackedTexts.{Text, IsRecordOf};
     ghost use Rattle.gix_ref_listing.specs.Listings.{merged_listing, order_of, TakesFirst, TakesFound, TakesListed, TakesRecord, IsNotLent, merge_left};
     ghost use Rattle.gix_ref_listing.specs.Items.{IsAllowed};
     ghost use Rattle.gix_ref_listing.specs.Steps.{IsDrained};
@@ -64,9 +65,9 @@ impl<'p> Merge<'p> {
         ensures takes { (owns : List Own) → AreAhead settings.entry self.old.packed owns →
             TakesListed settings.entry
             (merged_listing self.old.found.entries owns) result self.new }
-        ensures pays { (text : Text) (names : List (List ℕ)) →
-            OwesNames settings.entry text names self.old →
-            PaysTaken settings.entry text names result self.new }
+        ensures pays { (text : Text) (given : Given) →
+            OwesNames settings.entry text given self.old →
+            PaysTaken settings.entry text given result self.new }
         ensures found { TakesFound self.old.found.entries result self.new.found.entries }
         ensures left { option_len result + merge_left self.new ≤ merge_left self.old }
         ensures ends { IfNone result (IsDrained self.new) }
@@ -91,9 +92,10 @@ impl<'p> Merge<'p> {
         ensures takes { IfSome result (λ own. (owns : List Own) →
             AreAhead settings.entry self.old.packed owns →
             TakesRecord settings.entry (merged_listing self.old.found.entries owns) own self.new) }
-        ensures pays { IfSome result (λ own. (text : Text) (names : List (List ℕ)) →
-            OwesNames settings.entry text names self.old →
-            OwesNames settings.entry text (full_ref_bytes own.name ∷ names) self.new) }
+        ensures pays { IfSome result (λ own. (text : Text) (given : Given) →
+            OwesNames settings.entry text given self.old →
+            IsRecordOf settings.entry text (own_of own) × OwesNames settings.entry text
+            (with_name (full_ref_bytes own.name) given) self.new) }
         ensures found { self.new.found ≡ self.old.found }
         ensures allowed { IfSome result
             (λ own. IsAllowed (meaning_in settings.entry) (full_ref_bytes own.name)) }

@@ -8,7 +8,8 @@ ghost use Rattle.gix_ref_packed.specs.YetToGive.{IsYet};
 ghost use Rattle.gix_ref_lookup.specs.Lookups.{meaning_in};
 ghost use Rattle.gix_ref_theory.specs.Edits.{is_key};
 ghost use Rattle.gix_ref_listing.specs.OwnRecords.{own_name, own_records, records_left, GivesOwn, IsInside};
-ghost use Rattle.gix_ref_listing.specs.OwedNames.{Text, OwesOthers, OwesAfter};
+ghost use Rattle.gix_ref_listing.specs.OwedNames.{Given, OwesOthers, OwesAfter};
+ghost use Rattle.gix_ref_listing.specs.PackedTexts.{Text};
 
 use gix_ref_hash::bytes::strip_front;
 use gix_ref_lookup::settings::Settings;
@@ -89,9 +90,9 @@ fn next_own<'p>(
 ) -> Option<Result<OwnRecord<'p>, Error<'p>>>
     ensures gives { (rs : List Record) → IsYet records.old rs →
         GivesOwn settings.entry rs result records.new }
-    ensures owes { (text : Text) (names : List (List ℕ)) →
-        OwesOthers settings.entry text names (Some records.old) →
-        OwesAfter settings.entry text names result (Some records.new) }
+    ensures owes { (text : Text) (given : Given) →
+        OwesOthers settings.entry text given (Some records.old) →
+        OwesAfter settings.entry text given result (Some records.new) }
     ensures left { option_len result + records_left records.new ≤ records_left records.old }
 {
     while let Some(item) = records.next() {
@@ -114,19 +115,20 @@ pub struct OwnRecords<'p> {
 }
 
 impl<'p> OwnRecords<'p> {
-    ghost use Rattle.std.specs.Prelude.{◌≡◌, ◌≤◌, ◌+◌, [], ◌∷◌, ℕ, List, IfNone, IfSome, None, Some, Ok};
+    ghost use Rattle.std.specs.Prelude.{◌≡◌, ◌≤◌, ◌+◌, [], List, IfNone, IfSome, None, Some, Ok};
     ghost use Rattle.std.specs.Option.{option_len};
     ghost use Rattle.gix_ref_target.specs.PackedRecords.{Record};
-    ghost use Rattle.gix_ref_listing.specs.OwnRecords.{own_records, Own, YetOf, AreAhead, TakesOwn, ahead_left, records_left_of};
-    ghost use Rattle.gix_ref_listing.specs.OwedNames.{Text, OwesOthers, OwesOwn, PaysOwn};
+    ghost use Rattle.gix_ref_listing.specs.OwnRecords.{own_of, own_records, Own, YetOf, AreAhead, TakesOwn, ahead_left, records_left_of};
+    ghost use Rattle.gix_ref_listing.specs.OwedNames.{Given, OwesOthers, OwesOwn, PaysOwn, with_name};
+    ghost use Rattle.gix_ref_listing.specs.PackedTexts.{Text, IsRecordOf};
 
     /// Those of the records that the iterator is yet to give, if there is one.
     pub fn of(settings: Settings<'_>, records: Option<Iter<'p>>) -> OwnRecords<'p>
         ensures ahead { (rs : List Record) → YetOf records.entry rs →
             AreAhead settings.entry result (own_records settings.entry rs) }
-        ensures owes { (text : Text) (names : List (List ℕ)) →
-            OwesOthers settings.entry text names records.entry →
-            OwesOwn settings.entry text names result }
+        ensures owes { (text : Text) (given : Given) →
+            OwesOthers settings.entry text given records.entry →
+            OwesOwn settings.entry text given result }
     {
         let mut own = OwnRecords {
             records,
@@ -140,9 +142,9 @@ impl<'p> OwnRecords<'p> {
     fn load(&mut self, settings: Settings<'_>)
         ensures ahead { (rs : List Record) → YetOf self.old.records rs →
             AreAhead settings.entry self.new (own_records settings.entry rs) }
-        ensures owes { (text : Text) (names : List (List ℕ)) →
-            OwesOthers settings.entry text names self.old.records →
-            OwesOwn settings.entry text names self.new }
+        ensures owes { (text : Text) (given : Given) →
+            OwesOthers settings.entry text given self.old.records →
+            OwesOwn settings.entry text given self.new }
         ensures left { ahead_left self.new ≤ records_left_of self.old.records }
     {
         self.first = match &mut self.records {
@@ -155,9 +157,9 @@ impl<'p> OwnRecords<'p> {
     pub fn take(&mut self, settings: Settings<'_>) -> Option<Result<OwnRecord<'p>, Error<'p>>>
         ensures takes { (owns : List Own) → AreAhead settings.entry self.old owns →
             TakesOwn settings.entry owns result self.new }
-        ensures pays { (text : Text) (names : List (List ℕ)) →
-            OwesOwn settings.entry text names self.old →
-            PaysOwn settings.entry text names result self.new }
+        ensures pays { (text : Text) (given : Given) →
+            OwesOwn settings.entry text given self.old →
+            PaysOwn settings.entry text given result self.new }
         ensures left { option_len result + ahead_left self.new ≤ ahead_left self.old }
         ensures first { result ≡ self.old.first }
         ensures was { IfNone result (self.old.first ≡ None) }
@@ -176,9 +178,10 @@ impl<'p> OwnRecords<'p> {
     pub fn take_record(&mut self, settings: Settings<'_>) -> Option<OwnRecord<'p>>
         ensures takes { IfSome result (λ own. (owns : List Own) → AreAhead settings.entry self.old
             owns → TakesOwn settings.entry owns (Some (Ok own)) self.new) }
-        ensures pays { IfSome result (λ own. (text : Text) (names : List (List ℕ)) →
-            OwesOwn settings.entry text names self.old →
-            OwesOwn settings.entry text (full_ref_bytes own.name ∷ names) self.new) }
+        ensures pays { IfSome result (λ own. (text : Text) (given : Given) →
+            OwesOwn settings.entry text given self.old →
+            IsRecordOf settings.entry text (own_of own) × OwesOwn settings.entry text
+            (with_name (full_ref_bytes own.name) given) self.new) }
         ensures was { IfSome result (λ own. self.old.first ≡ Some (Ok own)) }
         ensures none { IfNone result ((owns : List Own) →
             AreAhead settings.entry self.old owns → owns ≡ []) }

@@ -67,7 +67,7 @@ records_lines k t (r ∷ rs) h some = record {
   };
   name = r.name;
   some = some_name r.name h.1.valid;
-  named = subst (λ (u : List ℕ). NameAt k u r.name) (sym (drop_zero t)) (r.target, h.1.after, h.1.line);
+  named = subst (λ (u : List ℕ). NameAt k u r.name) (sym (drop_zero t)) (r.target, h.1.after, h.1.line, (form_of k t r h.0 h.1).no_caret);
 }
 
 -- the lines of a text of records have the form of no others

@@ -1,14 +1,16 @@
 pub mod AreRecords
 pub mod AskedParts
+pub mod BadLines
 pub mod FileSearchLemmas
 pub mod FoundInOrder
-pub mod FrontItems
+pub mod TextItems
 pub mod InOrderLemmas
 pub mod ItemRuns
 pub mod MemorySearches
 pub mod NamesInTurn
 pub mod OneItem
 pub mod OwedRecords
+pub mod PrefixBuffers
 pub mod PrefixParts
 pub mod PrefixRuns
 pub mod RecordsInOrder

@@ -10,7 +10,7 @@ use Rattle.gix_ref_packed.specs.declared.packed.iter.Iter.{Iter}
 use Rattle.gix_ref_target.specs.PackedRecords.{Record}
 use Rattle.gix_ref_packed_text.specs.RecordGrammar.{Takes, Below}
 use Rattle.gix_ref_packed_text.specs.Positions.{BeginsLine}
-use Rattle.gix_ref_packed_text.specs.Prefixes.{IsBadStart, IsListStart, RecordAt, NameAtLine, NamedLine, NamesAscend, SplitsLines}
+use Rattle.gix_ref_packed_text.specs.Prefixes.{IsBadLineAt, IsListStart, RecordAt, NameAtLine, NamedLine, NamesAscend, SplitsLines}
 use Rattle.gix_ref_packed_text.specs.Views.{record_of}
 use Rattle.gix_ref_packed.specs.Items.{Unread, GivesPackedItem, unread, has_prefix}
 use Rattle.gix_ref_packed.specs.YetToGive.{IsOwed, NoneIsBefore, IsInOrder, IsAtBadLine, IsAsked, Owes, NextPaysOne}
@@ -141,7 +141,7 @@ module _ (it : Iter) (k : Kind) (text prefix : List ℕ) (number start : ℕ) (i
     from = subst (λ (o : Option (List ℕ)). NoneIsBefore o it) (sym (ap (λ (u : Unread). u.prefix) is)) (λ p name at. from p name (subst (λ (u : Unread). NamedLine u.kind u.text p name) is at));
   }
 
-  at_bad_line : IsBadStart k text start → IsAtBadLine it
+  at_bad_line : IsBadLineAt k text start → IsAtBadLine it
   at_bad_line bad = record {
     some = λ none.
         let empty : drop start text ≡ [] = sym (ap (λ (u : Unread). u.text) is) ∙ none in
@@ -175,10 +175,10 @@ module _ (it : Iter) (k : Kind) (text prefix : List ℕ) (number start : ℕ) (i
       )
 
   -- from the place on at which the records of a prefix begin it owes all of them
-  pub owes_prefixed : IsListStart text start → NamesAscend k text → IsBadStart k text start ⊎ SplitsLines k text prefix start → Owes k text prefix [] it
+  pub owes_prefixed : IsListStart text start → NamesAscend k text → IsBadLineAt k text start ⊎ SplitsLines k text prefix start → Owes k text prefix [] it
   owes_prefixed starts ascend bound =
       ⊎_elim
-      (λ (bad : IsBadStart k text start). inl (at_bad_line bad))
+      (λ (bad : IsBadLineAt k text start). inl (at_bad_line bad))
       (λ (split : SplitsLines k text prefix start). ⊎_elim
       (λ (end : start ≡ length text). owes_none end split)
       (λ (line : BeginsLine text start). owes_rest starts.within line ascend split)
@@ -186,7 +186,7 @@ module _ (it : Iter) (k : Kind) (text prefix : List ℕ) (number start : ℕ) (i
       bound
 
 abbrev pub FirstOf : Kind → List ℕ → List ℕ → ℕ → Type 0
-FirstOf k text prefix start = NamesAscend k text → IsBadStart k text start ⊎ SplitsLines k text prefix start
+FirstOf k text prefix start = NamesAscend k text → IsBadLineAt k text start ⊎ SplitsLines k text prefix start
 
 -- the same place begins the same records
 pub same_first : (k kind : Kind) (text t prefix wanted : List ℕ) (start : ℕ) → kind ≡ k → t ≡ text → wanted ≡ prefix → FirstOf kind t wanted start → FirstOf k text prefix start

@@ -14,9 +14,7 @@ use Rattle.gix_ref_target.specs.PackedRecords.{Record}
 use Rattle.gix_ref_packed_text.specs.RecordGrammar.{Takes, OptionalPeeledLine, Records, Below, Rising, is_caret}
 use Rattle.gix_ref_packed_text.specs.OpenedText.{Fronts}
 use Rattle.gix_ref_packed_text.specs.Prefixes.{IsListStart, SplitsAt, records_prefixed}
-use Rattle.gix_ref_packed.specs.FilePrefixes.{IsPast, HoldsPrefixed, Encloses, HoldsPrefix, PrefixedBuffersHold}
-use Rattle.gix_ref_packed.specs.declared.packed.buffer.Buffer.{Buffer}
-use Rattle.gix_ref_packed.specs.Buffers.{buffer_text, buffer_kind, buffer_line}
+use Rattle.gix_ref_packed.specs.FilePrefixes.{IsPast, Encloses}
 use Rattle.gix_ref_packed_text.proofs.OneReading.{same_record}
 use Rattle.gix_ref_packed_text.proofs.RecordPlaces.{shorter_record}
 use Rattle.gix_ref_packed_text.proofs.RecordBytes.{lines_taken}
@@ -112,11 +110,15 @@ pub whole_part : (text : List ℕ) (end : ℕ) → end ≡ length text → take 
 whole_part text end whole = take_all (end - 0) (drop 0 text) (omega (arith, length-drop 0 text)) ∙ drop_zero text
 
 module _ (k : Kind) (text prefix : List ℕ) where
+  none_at_end : (end : ℕ) → end ≡ length text → StopsAt is_caret (drop end text)
+  none_at_end end whole = subst (StopsAt is_caret) (sym (drop_all end text (omega arith))) tt
+
   -- all records
   pub encloses_all : (end : ℕ) → end ≡ length text → Encloses k text prefix 0 end
   encloses_all end whole = record {
     begins = record { within = omega arith; begins = inr (λ some. absurd (omega arith)) };
     ends = record { within = omega arith; begins = inl whole };
+    no_caret = none_at_end end whole;
     ordered = omega arith;
     records = λ rs h up. record {
       held = rs;
@@ -132,6 +134,7 @@ module _ (k : Kind) (text prefix : List ℕ) where
   encloses_rest start end begins whole splits = record {
     begins = begins;
     ends = record { within = omega arith; begins = inl whole };
+    no_caret = none_at_end end whole;
     ordered = let within = begins.within in omega arith;
     records = λ rs h up.
         let split = splits rs h up in
@@ -146,12 +149,13 @@ module _ (k : Kind) (text prefix : List ℕ) where
   }
 
   -- those of names between the prefix and one past it
-  pub encloses_between : (past : List ℕ) (start end : ℕ) → IsListStart text start → IsListStart text end → start ≤ end → IsPast prefix past
+  pub encloses_between : (past : List ℕ) (start end : ℕ) → IsListStart text start → IsListStart text end → StopsAt is_caret (drop end text) → start ≤ end → IsPast prefix past
       → ((rs : List Record) → Records k text rs → Rising rs → SplitsAt k text rs prefix start)
       → ((rs : List Record) → Records k text rs → Rising rs → SplitsAt k text rs past end) → Encloses k text prefix start end
-  encloses_between past start end begins ends ordered is first last = record {
+  encloses_between past start end begins ends no_caret ordered is first last = record {
     begins = begins;
     ends = ends;
+    no_caret = no_caret;
     ordered = ordered;
     records = λ rs h up.
         let a = first rs h up in
@@ -171,27 +175,3 @@ module _ (k : Kind) (text prefix : List ℕ) where
               ∙ append-nil (records_prefixed prefix mid.0));
         };
   }
-
--- ---- buffers
-
-module _ (k : Kind) (text prefix : List ℕ) (line : ℕ) (b : Buffer) (kind_is : buffer_kind b ≡ k) where
-  -- a part of the text that begins with its first line
-  pub holds_first : (start end : ℕ) → Encloses k text prefix start end → buffer_text b ≡ take (end - start) (drop start text) → start ≡ 0 → buffer_line b ≡ line → HoldsPrefix k text line prefix b
-  holds_first start end encloses is first number = record {
-    kind_is = kind_is;
-    part = record { start = start; end = end; encloses = encloses; is = is };
-    numbered = inl (
-      end - start,
-      (let all : end ≡ end - start = omega (arith, first) in subst (IsListStart text) all encloses.ends),
-      is ∙ ap (λ i. take (end - start) (drop i text)) first ∙ ap (take (end - start)) (drop_zero text),
-      number,
-    );
-  }
-
-  -- the whole text
-  pub holds_all : (end : ℕ) → end ≡ length text → buffer_text b ≡ take (end - 0) (drop 0 text) → buffer_line b ≡ line → HoldsPrefix k text line prefix b
-  holds_all end whole is number = holds_first 0 end (encloses_all k text prefix end whole) is refl number
-
-pub prefixed_hold : PrefixedBuffersHold
-prefixed_hold kind text line prefix b rs h records up =
-    subst (λ (k : Kind). HoldsPrefixed k prefix rs (buffer_text b)) (sym h.kind_is) (subst (HoldsPrefixed kind prefix rs) (sym h.part.is) (h.part.encloses.records rs records up))

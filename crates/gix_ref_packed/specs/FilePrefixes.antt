@@ -1,8 +1,10 @@
 -- Reading, of the records of a file, only those of a prefix.
 use Rattle.std.specs.Prelude.{◌≡◌, ◌<◌, ◌≤◌, ◌-◌, ◌⊎◌, ℕ, List, [], ◌∷◌, ◌++◌, take, drop}
 use Rattle.gix_ref_hash.specs.declared.hash.Kind.{Kind}
+use Rattle.gix_ref_hash.specs.Bytes.{StopsAt}
 use Rattle.gix_ref_target.specs.PackedRecords.{Record}
-use Rattle.gix_ref_packed_text.specs.RecordGrammar.{Records, Below, Rising}
+use Rattle.gix_ref_packed_text.specs.RecordGrammar.{Records, Below, Rising, is_caret}
+use Rattle.gix_ref_packed_text.specs.Positions.{RecordBeginsLine}
 use Rattle.gix_ref_packed_text.specs.Prefixes.{IsListStart, IsNameStart, NamesAscend, records_prefixed}
 use Rattle.gix_ref_packed.specs.declared.packed.buffer.Buffer.{Buffer}
 use Rattle.gix_ref_packed.specs.declared.packed.sorted_file.ReadError.{ReadError}
@@ -10,7 +12,7 @@ use Rattle.gix_ref_packed.specs.declared.packed.sorted_file.ReadError.TheVariant
 use Rattle.gix_ref_packed.specs.Buffers.{buffer_text, buffer_kind, buffer_line}
 use Rattle.gix_ref_files.specs.Files.{FaultCounts}
 use Rattle.gix_ref_packed.specs.OpenFiles.{HasReadFault}
-use Rattle.gix_ref_packed.specs.YetToGive.{IsAsked}
+use Rattle.gix_ref_packed.specs.YetToGive.{IsAsked, IsBadLine}
 
 -- each name that begins with the prefix is below this one
 abbrev pub IsPast : List ℕ → List ℕ → Type 0
@@ -32,6 +34,7 @@ pub record HoldsPrefixed (kind : Kind) (prefix : List ℕ) (rs : List Record)
 pub record Encloses (kind : Kind) (text prefix : List ℕ) (start end : ℕ) : Type 0 where
   pub begins : IsListStart text start
   pub ends : IsListStart text end
+  pub no_caret : StopsAt is_caret (drop end text)
   pub ordered : start ≤ end
   pub records : (rs : List Record) → Records kind text rs → Rising rs →
       HoldsPrefixed kind prefix rs (take (end - start) (drop start text))
@@ -43,18 +46,20 @@ pub record IsPrefixPart (kind : Kind) (text prefix part : List ℕ) : Type 0 whe
   pub encloses : Encloses kind text prefix start end
   pub is : part ≡ take (end - start) (drop start text)
 
--- a fault among the items has its number: the buffer has whole lines from the first one on, or there is no fault
-abbrev pub IsNumbered : Kind → List ℕ → ℕ → Buffer → Type 0
-IsNumbered kind text line b =
-    ((n : ℕ) × IsListStart text n × (buffer_text b ≡ take n text) × (buffer_line b ≡ line))
-    ⊎ ((held : List Record) × Records kind (buffer_text b) held)
+-- The records and the bad lines of the buffer are those of the text, a line with its number in the file.
+pub record HasItemsOf (kind : Kind) (text : List ℕ) (line : ℕ) (b : Buffer) : Type 0 where
+  pub records : (r : Record) → RecordBeginsLine (buffer_kind b) (buffer_text b) r →
+      RecordBeginsLine kind text r
+  pub bad_lines : (bytes : List ℕ) (number : ℕ) →
+      IsBadLine (buffer_kind b) (buffer_text b) (buffer_line b) bytes number →
+      IsBadLine kind text line bytes number
 
--- The buffer has all records of the prefix, for `iter_prefixed` of that prefix; lines are numbered as in the file.
+-- The buffer has all records of the prefix, for `iter_prefixed` of that prefix, and no other items than the text.
 pub record HoldsPrefix (kind : Kind) (text : List ℕ) (line : ℕ) (prefix : List ℕ)
     (b : Buffer) : Type 0 where
   pub kind_is : buffer_kind b ≡ kind
   pub part : IsPrefixPart kind text prefix (buffer_text b)
-  pub numbered : IsNumbered kind text line b
+  pub items : HasItemsOf kind text line b
 
 -- such a buffer holds the records of the prefix
 abbrev pub PrefixedBuffersHold : Type 0

@@ -93,16 +93,21 @@ unread_text kind number text = record { kind = kind; prefix = None; number = num
 abbrev pub unread_buffer : Buffer → Unread
 unread_buffer b = unread_text (buffer_kind b) (buffer_line b) (buffer_text b)
 
+-- what is to be read from a place of a text on, whose first line has this number
+abbrev pub unread_at : Kind → (text : List ℕ) → (first : ℕ) → (prefix : Option (List ℕ)) →
+    (start : ℕ) → Unread
+unread_at kind text first prefix start =
+    record {
+      kind = kind;
+      prefix = prefix;
+      number = first + line_feeds (take start text);
+      text = drop start text;
+    }
+
 -- the records of a buffer from a place on, up to the first name without the prefix
 abbrev pub unread_from : Buffer → List ℕ → ℕ → Unread
 unread_from b prefix start =
-    record {
-      kind = buffer_kind b;
-      prefix = Some prefix;
-      number =
-          buffer_line b + line_feeds (take start (buffer_text b));
-      text = drop start (buffer_text b);
-    }
+    unread_at (buffer_kind b) (buffer_text b) (buffer_line b) (Some prefix) start
 
 -- one call of `next`
 abbrev pub ItemStep : Iter → Option (Result Reference Error) → Iter → Type 0

@@ -1,5 +1,5 @@
 -- What an iterator of packed records is yet to give, for a caller that keeps it and takes one item at a time.
-use Rattle.std.specs.Prelude.{◌≡◌, ◌≢◌, ◌⊎◌, ℕ, nat_eq, true, List, [], ◌∷◌, Option, Some, None, Result, Ok, Err}
+use Rattle.std.specs.Prelude.{◌≡◌, ◌≢◌, ◌⊎◌, ◌+◌, ℕ, nat_eq, true, List, [], ◌∷◌, take, drop, Option, Some, None, Result, Ok, Err}
 use Rattle.std.specs.List.{take_while, starts_with, Contains}
 use Rattle.gix_ref_hash.specs.declared.hash.Kind.{Kind}
 use Rattle.gix_ref_packed_text.specs.declared.packed.reference.Reference.{Reference}
@@ -8,8 +8,9 @@ use Rattle.gix_ref_packed.specs.declared.packed.iter.error.Error.{Error}
 use Rattle.gix_ref_packed.specs.declared.packed.iter.error.Error.TheVariants.{Header as bad_header, Reference as bad_line}
 use Rattle.gix_ref_target.specs.PackedRecords.{Record}
 use Rattle.gix_ref_packed_text.specs.RecordGrammar.{NoRecord, Records, Below}
-use Rattle.gix_ref_packed_text.specs.Prefixes.{NamedLine, NamesAscend}
-use Rattle.gix_ref_packed.specs.Items.{ItemStep, has_prefix, unread}
+use Rattle.gix_ref_packed_text.specs.Positions.{RecordBeginsLine}
+use Rattle.gix_ref_packed_text.specs.Prefixes.{IsBadLineAt, IsItemStart, NamedLine, NamesAscend}
+use Rattle.gix_ref_packed.specs.Items.{CutsAtFeed, ItemStep, has_prefix, line_feeds, unread, unread_at}
 use Rattle.gix_ref_packed_text.specs.Views.{record_of}
 
 -- the records up to the first other name, where only some names are asked for
@@ -94,3 +95,35 @@ abbrev pub NextPaysOne : Type 0
 NextPaysOne = (kind : Kind) (text prefix : List ℕ) (given : List (List ℕ)) (s t : Iter)
     (item : Option (Result Reference Error)) → Owes kind text prefix given s → ItemStep s item t
     → PaysOne kind text prefix given item t
+
+-- A line of a text that is no record, without its LF. It has this number where the first line has that one.
+pub record IsBadLine (kind : Kind) (text : List ℕ) (first : ℕ) (line : List ℕ)
+    (number : ℕ) : Type 0 where
+  pub start : ℕ
+  pub at : IsBadLineAt kind text start
+  pub rest : List ℕ
+  pub cut : CutsAtFeed (drop start text) line rest
+  pub numbered : number ≡ first + line_feeds (take start text)
+
+-- An item of a text: a record that begins a line, with a name that is asked for; or a line that is no record.
+abbrev pub IsItemOf : Kind → (text : List ℕ) → (first : ℕ) → (prefix : Option (List ℕ)) →
+    Result Reference Error → Type 0
+IsItemOf kind text first prefix (Ok r) = RecordBeginsLine kind text (record_of r)
+    × (has_prefix prefix (record_of r).name ≡ true)
+IsItemOf kind text first prefix (Err (bad_line line number)) = IsBadLine kind text first line.now
+    number
+IsItemOf kind text first prefix (Err (bad_header line)) = ⊥
+
+-- what is unread is what a text has from a line on, or nothing
+abbrev pub IsRestOf : Kind → (text : List ℕ) → (first : ℕ) → (prefix : Option (List ℕ)) → Iter →
+    Type 0
+IsRestOf kind text first prefix it = ((unread it).text ≡ [])
+    ⊎ ((start : ℕ) × IsItemStart kind text start
+    × (unread it ≡ unread_at kind text first prefix start))
+
+-- of any text: what one call of `next` gives is an item of it, and what is unread then is the rest of it
+abbrev pub NextIsOf : Type 0
+NextIsOf = (kind : Kind) (text : List ℕ) (first : ℕ) (prefix : Option (List ℕ)) (s t : Iter)
+    (item : Result Reference Error) → IsRestOf kind text first prefix s →
+    ItemStep s (Some item) t → IsItemOf kind text first prefix item
+    × IsRestOf kind text first prefix t

@@ -9,6 +9,9 @@
 //! - the same for a caller that keeps the iterator: which records it is yet to give, and that each `next` gives the first of
 //!   them, none after the last, and for no text a fault that is no line: `Buffer::iter`, `iter_prefixed`,
 //!   `packed::laws::next_gives_the_first`
+//! - of any text each record that is given begins a line, and each fault is about a line that is no record and of none, with its
+//!   number: `Buffer::iter_prefixed`, clause `rest`, `packed::laws::next_gives_the_first`, clause `of` (`IsItemOf` in
+//!   `YetToGive.antt`); of what is read of a file for a prefix the same: `PackedFile::into_prefixed`, clause `holds` (`HoldsPrefix`)
 //! - of any text whose names ascend: of each line of a record's form with a name of a prefix a record is yet to be given, or a
 //!   line that is no record; so where the items end without a fault, none is missing, and each is a record: `Buffer::iter_prefixed`,
 //!   clause `owes` (`Owes`, `NextPaysOne` in `YetToGive.antt`), `packed::laws::next_gives_the_first`, clause `pays`; of what is

@@ -5,14 +5,15 @@ use Rattle.std.proofs.lemmas.List.Elements.{All-append}
 use Rattle.std.proofs.Math.Seq.{drop-append-add}
 use Rattle.gix_ref_hash.specs.declared.hash.Kind.{Kind}
 use Rattle.gix_ref_hash.specs.Bytes.{StopsAt}
-use Rattle.gix_ref_packed_text.specs.RecordGrammar.{is_caret}
+use Rattle.gix_ref_packed_text.specs.RecordGrammar.{RecordLine, is_caret}
 use Rattle.gix_ref_packed_text.specs.Positions.{BeginsLine, NameAt}
 use Rattle.gix_ref_packed_text.specs.Prefixes.{NameAtLine, NamedLine, NamesAscend, IsNameStart}
 use Rattle.gix_ref_packed_text.proofs.RecordBytes.{line_front}
 use Rattle.gix_ref_packed_text.proofs.RecordPlaces.{NoLf, one_no_lf}
 use Rattle.gix_ref_packed_text.proofs.FrontTexts.{cut_within, line_to_lf}
 
-stops_front : (n : ℕ) (t : List ℕ) → StopsAt is_caret t → StopsAt is_caret (take n t)
+-- a front of a text begins as the text
+pub stops_front : (n : ℕ) (t : List ℕ) → StopsAt is_caret t → StopsAt is_caret (take n t)
 stops_front n [] h = subst (StopsAt is_caret) (sym (take_all n [] (omega arith))) tt
 stops_front n (b ∷ t) h = go n
   where
@@ -26,6 +27,17 @@ name_inside k t p m at =
     let len : length (drop p t) ≡ length at.0 + length (32 ∷ at.2.after) = ap length at.2.whole ∙ length-append at.0 (32 ∷ at.2.after) in
     omega (arith, length-drop p t)
 
+-- a text that begins with no `^`, made longer
+stops_longer : (t more : List ℕ) → t ≢ [] → StopsAt is_caret t → StopsAt is_caret (t ++ more)
+stops_longer [] more some stops = absurd (some refl)
+stops_longer (b ∷ t) more some stops = stops
+
+-- an empty text has no line of a record's form
+no_line : (k : Kind) (t d m rest : List ℕ) → RecordLine k t d m rest → t ≡ [] → ⊥
+no_line k t d m rest line none =
+    let len : length t ≡ length d + length (32 ∷ line.after) = ap length line.whole ∙ length-append d (32 ∷ line.after) in
+    let zero : length t ≡ 0 = ap length none in omega arith
+
 -- and there in a longer text
 name_longer : (k : Kind) (t more m : List ℕ) → NameAt k t m → NameAt k (t ++ more) m
 name_longer k t more m at =
@@ -38,14 +50,15 @@ name_longer k t more m at =
         len = at.2.len;
         line = l.2 (at.1 ++ more);
       },
+      stops_longer t more (λ none. no_line k t at.0 m at.1 at.2 none) at.3,
     )
 
 module _ (k : Kind) (u : List ℕ) (n : ℕ) where
   -- a line of the part begins one of the text
-  part_line : (p : ℕ) → p ≤ n → BeginsLine u p → BeginsLine (take n u) p
+  pub part_line : (p : ℕ) → p ≤ n → BeginsLine u p → BeginsLine (take n u) p
   part_line p inside begins some = get_or-take n u (p - 1) 0 (omega arith) ∙ begins some
 
-  text_line : (p : ℕ) → p ≤ n → BeginsLine (take n u) p → BeginsLine u p
+  pub text_line : (p : ℕ) → p ≤ n → BeginsLine (take n u) p → BeginsLine u p
   text_line p inside begins some = sym (get_or-take n u (p - 1) 0 (omega arith)) ∙ begins some
 
   part_drop : (p : ℕ) → p ≤ n → drop p (take n u) ≡ take (n - p) (drop p u)

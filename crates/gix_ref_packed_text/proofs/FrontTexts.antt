@@ -1,5 +1,5 @@
--- A front of a text that ends with a LF: a record of it that is not its last is one of the text, and where none begins it, none begins the text.
-use Rattle.std.proofs.Common.{◌≡◌, ◌≢◌, inl, inr, ⊎_elim, ℕ, suc, zero, ◌+◌, ◌-◌, ◌<◌, get_or, List, [], ◌∷◌, ◌++◌, length, refl, sym, ◌∙◌, ap, subst, arith, Option, Some, None, append_assoc, length-append}
+-- A front of a text that ends with a LF, before a line with no `^`: its records are those of the text that begin in it.
+use Rattle.std.proofs.Common.{◌≡◌, ◌≢◌, inl, inr, ⊎_elim, ℕ, suc, zero, ◌+◌, ◌-◌, ◌<◌, get_or, List, [], ◌∷◌, ◌++◌, length, refl, sym, ◌∙◌, ap, subst, arith, true, false, Option, Some, None, append_assoc, length-append}
 use Rattle.std.proofs.lemmas.List.{get_or-append-add}
 use Rattle.std.proofs.lemmas.List.Elements.{All-append, All-tail}
 use Rattle.gix_ref_hash.specs.declared.hash.Kind.{Kind}
@@ -58,7 +58,7 @@ line_to_lf after name rest f = ⊎_elim
     ))
     f.newline
 
-peeled_to_lf : (k : Kind) (after object rest : List ℕ) → PeeledLine k after object rest → (l : List ℕ) × NoLf l × (after ≡ l ++ 10 ∷ rest) × ((x : List ℕ) → PeeledLine k (l ++ 10 ∷ x) object x)
+pub peeled_to_lf : (k : Kind) (after object rest : List ℕ) → PeeledLine k after object rest → (l : List ℕ) × NoLf l × (after ≡ l ++ 10 ∷ rest) × ((x : List ℕ) → PeeledLine k (l ++ 10 ∷ x) object x)
 peeled_to_lf k after object rest f = ⊎_elim
     (λ (lf : f.after ≡ 10 ∷ rest). (
       94 ∷ object,
@@ -77,35 +77,43 @@ peeled_to_lf k after object rest f = ⊎_elim
     caret : (l : List ℕ) → NoLf l → NoLf (94 ∷ l)
     caret l none = All-append (λ b. b ≢ 10) (94 ∷ []) l (one_no_lf 94 refl) none
 
-module _ (k : Kind) (s tail : List ℕ) where
-  -- a record after which something is left of the front
-  pub record_longer : (r : Record) (rest : List ℕ) → rest ≢ [] → Takes k s r rest → Takes k (s ++ tail) r (rest ++ tail)
-  record_longer r rest some takes =
+module _ (k : Kind) (s tail : List ℕ) (stops : StopsAt is_caret tail) where
+  -- a record of the front is one of the text
+  pub record_longer : (r : Record) (rest : List ℕ) → Takes k s r rest → Takes k (s ++ tail) r (rest ++ tail)
+  record_longer r rest takes =
       let lines = lines_taken k s r rest takes in
       subst (λ (t : List ℕ). Takes k t r (rest ++ tail)) (sym (append_assoc lines.front rest tail) ∙ ap (λ t. t ++ tail) (sym lines.whole))
-      (lines.again (rest ++ tail) (λ none. no_caret rest some (subst (λ (o : Option (List ℕ)). OptionalPeeledLine k takes.after o rest) none takes.peeled).1))
+      (lines.again (rest ++ tail) (λ none. no_caret rest (subst (λ (o : Option (List ℕ)). OptionalPeeledLine k takes.after o rest) none takes.peeled).1))
     where
-      no_caret : (t : List ℕ) → t ≢ [] → StopsAt is_caret t → StopsAt is_caret (t ++ tail)
-      no_caret [] some stops = absurd (some refl)
-      no_caret (b ∷ t) some stops = stops
+      no_caret : (t : List ℕ) → StopsAt is_caret t → StopsAt is_caret (t ++ tail)
+      no_caret [] none = stops
+      no_caret (b ∷ t) none = none
 
-  -- a record of the text whose first line is within the front begins the front too
-  module _ (none : NoRecord k s) (ends : EndsLf s) (r : Record) (rest : List ℕ) (takes : Takes k (s ++ tail) r rest) where
-    begun : (front x after : List ℕ) → s ≡ front ++ 10 ∷ x → after ≡ x ++ tail → RecordLine k s r.target r.name x → (o : Option (List ℕ)) → OptionalPeeledLine k after o rest → ⊥
-    begun front [] after whole is line o peeled =
-        none (record { name = r.name; target = r.target; object = None }) [] (record { after = []; line = line; id = takes.id; valid = takes.valid; peeled = (refl, tt) })
-    begun front (b ∷ x) after whole is line None peeled =
-        none (record { name = r.name; target = r.target; object = None }) (b ∷ x)
-        (record { after = b ∷ x; line = line; id = takes.id; valid = takes.valid; peeled = (refl, subst (StopsAt is_caret) (sym peeled.0 ∙ is) peeled.1) })
+  -- a record of the text whose first line is within the front is one of the front
+  module _ (ends : EndsLf s) (r : Record) (rest : List ℕ) (takes : Takes k (s ++ tail) r rest) where
+    abbrev InFront : Option (List ℕ) → Type 0
+    InFront o = (left : List ℕ) × Takes k s (record { name = r.name; target = r.target; object = o }) left × (rest ≡ left ++ tail)
+
+    begun : (front x after : List ℕ) → s ≡ front ++ 10 ∷ x → after ≡ x ++ tail → RecordLine k s r.target r.name x → (o : Option (List ℕ)) → OptionalPeeledLine k after o rest → InFront o
+    begun front [] after whole is line None peeled = ([], record { after = []; line = line; id = takes.id; valid = takes.valid; peeled = (refl, tt) }, sym peeled.0 ∙ is)
+    begun front [] after whole is line (Some object) peeled =
+        let bad : true ≡ false = subst (StopsAt is_caret) (sym is ∙ peeled.whole) stops in absurd (cc)
+    begun front (b ∷ x) after whole is line None peeled = (
+      b ∷ x,
+      record { after = b ∷ x; line = line; id = takes.id; valid = takes.valid; peeled = (refl, subst (StopsAt is_caret) (sym peeled.0 ∙ is) peeled.1) },
+      sym peeled.0 ∙ is,
+    )
     begun front (b ∷ x) after whole is line (Some object) peeled =
         let second = peeled_to_lf k after object rest peeled in
         let left : EndsLf (b ∷ x) = ends_rest s (front ++ 10 ∷ []) (b ∷ x) ends (whole ∙ sym (append_assoc front (10 ∷ []) (b ∷ x))) (λ (empty : b ∷ x ≡ []). cc) in
-        let cut = cut_within second.0 (b ∷ x) tail rest second.1 (has_lf (b ∷ x) left) (sym is ∙ second.2) in
-        none (record { name = r.name; target = r.target; object = Some object }) cut.0
-        (record { after = b ∷ x; line = line; id = takes.id; valid = takes.valid; peeled = subst (λ (t : List ℕ). PeeledLine k t object cut.0) (sym cut.1) (second.3 cut.0) })
+        let cut = cut_within second.0 (b ∷ x) tail rest second.1 (has_lf (b ∷ x) left) (sym is ∙ second.2) in (
+          cut.0,
+          record { after = b ∷ x; line = line; id = takes.id; valid = takes.valid; peeled = subst (λ (t : List ℕ). PeeledLine k t object cut.0) (sym cut.1) (second.3 cut.0) },
+          cut.2,
+        )
 
-    begins_front : ⊥
-    begins_front =
+    pub record_shorter : (left : List ℕ) × Takes k s r left × (rest ≡ left ++ tail)
+    record_shorter =
         let first = line_to_lf takes.line.after r.name takes.after takes.line.line in
         let front = r.target ++ 32 ∷ first.0 in
         let no_lf : NoLf front = All-append (λ b. b ≢ 10) r.target (32 ∷ first.0) (hex_no_lf r.target k takes.id) (All-append (λ b. b ≢ 10) (32 ∷ []) first.0 (one_no_lf 32 refl) first.1) in
@@ -119,5 +127,6 @@ module _ (k : Kind) (s tail : List ℕ) where
           line = first.3 cut.0;
         }) r.object takes.peeled
 
+  -- so where none begins the front, none begins the text
   pub no_record_longer : NoRecord k s → EndsLf s → NoRecord k (s ++ tail)
-  no_record_longer none ends r rest takes = begins_front none ends r rest takes
+  no_record_longer none ends r rest takes = let there = record_shorter ends r rest takes in none r there.0 there.1

@@ -115,7 +115,7 @@ module _ (k : Kind) (text n : List ℕ) (s o : ℕ) (within : o < length text) (
   pub owner_compares : (rs : List Record) (h : Forms k text rs) → x ≡ slice_cmp nat_cmp (owned k text rs h s o within at).owner.name n
   owner_compares rs h =
       let own = owned k text rs h s o within at in
-      compares own.owner.name (own.owner.target, own.takes.after, own.takes.line)
+      compares own.owner.name (own.owner.target, own.takes.after, own.takes.line, own.takes.no_caret)
 
   pub less : (low high next : ℕ) → o < next → SameLine text o next → x ≡ Less → Inside k text n low high → Inside k text n next high
   less low high next beyond line below inside rs h up p r b named =
@@ -159,19 +159,19 @@ module _ (k : Kind) (text n : List ℕ) (s o : ℕ) (within : o < length text) (
   hits same m name = record {
     within = let below = start_below text s o at in omega arith;
     line = begins_line text s o at;
-    named = (name.0, name.1, subst (λ (y : List ℕ). RecordLine k (drop s text) name.0 y name.1) (exact_bytes m n (sym (compares m name) ∙ same)) name.2);
+    named = (name.0, name.1, subst (λ (y : List ℕ). RecordLine k (drop s text) name.0 y name.1) (exact_bytes m n (sym (compares m name) ∙ same)) name.2, name.3);
   }
 
 -- a text of records has no malformed line
 pub not_malformed : (k : Kind) (text : List ℕ) (rs : List Record) → IsMalformed k text → Forms k text rs → ⊥
 not_malformed k text rs bad h =
     let own = owned k text rs h bad.start bad.offset bad.within bad.begins in
-    bad.no_name own.owner.name own.takes.some_name (own.owner.target, own.takes.after, own.takes.line)
+    bad.no_name own.owner.name own.takes.some_name (own.owner.target, own.takes.after, own.takes.line, own.takes.no_caret)
 
 pub saw_malformed_line : (k : Kind) (text : List ℕ) (s o : ℕ) → o < length text → RecordOf text s o → ((name : List ℕ) → name ≢ [] → NameAt k (drop s text) name → ⊥) → (rs : List Record) → Forms k text rs → ⊥
 saw_malformed_line k text s o within at none rs h =
     let own = owned k text rs h s o within at in
-    none own.owner.name own.takes.some_name (own.owner.target, own.takes.after, own.takes.line)
+    none own.owner.name own.takes.some_name (own.owner.target, own.takes.after, own.takes.line, own.takes.no_caret)
 
 pub nowhere : (k : Kind) (text n : List ℕ) (low high : ℕ) → high ≤ low → Inside k text n low high → (rs : List Record) → Forms k text rs → Ascending rs → record_named n rs ≡ None
 nowhere k text n low high none inside rs h up =

@@ -2,6 +2,7 @@ pub mod AlterLemmas
 pub mod CutRecords
 pub mod DigitLemmas
 pub mod FrontTexts
+pub mod ItemStarts
 pub mod Halves
 pub mod HeaderLemmas
 pub mod LineBounds

@@ -8,8 +8,9 @@ use Rattle.std.proofs.lemmas.Bool.{cases_lt, cases_eq}
 use Rattle.std.proofs.lemmas.Cmp.{nat_list_cmp_total}
 use Rattle.std.proofs.lemmas.List.{length-drop, get_or-drop}
 use Rattle.gix_ref_hash.specs.declared.hash.Kind.{Kind}
+use Rattle.gix_ref_hash.specs.Bytes.{StopsAt}
 use Rattle.gix_ref_target.specs.PackedRecords.{Record}
-use Rattle.gix_ref_packed_text.specs.RecordGrammar.{Below}
+use Rattle.gix_ref_packed_text.specs.RecordGrammar.{Below, is_caret}
 use Rattle.gix_ref_packed_text.specs.Positions.{LineOf, RecordOf, NameAt, OrdersIfNamed, BeginsLine}
 use Rattle.gix_ref_packed_text.specs.Probed.{IsProbeAt}
 use Rattle.gix_ref_packed_text.specs.declared.packed.searchable.Probe.{Probe}
@@ -29,7 +30,7 @@ LinesBound k text n low high = NamesAscend k text → Between k text n low high
 
 -- a line with a name has it in a record's place
 pub place_of : (k : Kind) (text : List ℕ) (p : ℕ) (m : List ℕ) → NamedLine k text p m → NameAtLine k text p m
-place_of k text p m at = (at.begins, (at.digits, at.rest, at.line), at.some_name)
+place_of k text p m at = (at.begins, (at.digits, at.rest, at.line, at.no_caret), at.some_name)
 
 -- a record has its name in a line
 pub named_of : (k : Kind) (text : List ℕ) (p : ℕ) (r : Record) → RecordAt k text p r → NamedLine k text p r.name
@@ -101,6 +102,10 @@ module _ (k : Kind) (text n : List ℕ) (low high o : ℕ) (probe : Probe) (with
       let name = orders.named (inl refl) in
       (name.0, (begins_line text probe.start o probed.record_of, name.1, name.2), orders.compares name.0 name.1)
 
+  -- it begins with no `^`
+  pub stops_there : (x : Ordering) → probe.order ≡ Some x → StopsAt is_caret (drop probe.start text)
+  stops_there x is = (named x is).1.1.3
+
   pub line_low : probe.order ≡ Some Less → o < probe.next → LinesBound k text n probe.next high
   line_low is beyond ascend =
       let was = bound ascend in
@@ -140,8 +145,11 @@ module _ (k : Kind) (text n : List ℕ) (low high o : ℕ) (probe : Probe) (with
       let order = probed.order in
       let none = subst (OrdersIfNamed k (drop probe.start text) n true) is order in
       record {
+        offset = o;
+        within = within;
+        begins = probed.record_of;
         some = let below = start_below text probe.start o probed.record_of in omega arith;
         bad = λ r rest takes.
             let form = form_of k (drop probe.start text) r rest takes in
-            none r.name form.some_name (r.target, takes.after, takes.line);
+            none r.name form.some_name (r.target, takes.after, takes.line, form.no_caret);
       }

@@ -14,10 +14,12 @@ use Rattle.std.proofs.lemmas.Bool.{ltb-true, lt-ltb}
 use Rattle.std.proofs.lemmas.List.{get_or_default, take_all, drop_at, drop-take, take-append-le, take-append-drop}
 use Rattle.std.proofs.lemmas.List.Elements.{All-head, All-tail, All-cons, All-nil}
 use Rattle.gix_ref_hash.specs.declared.hash.Kind.{Kind}
+use Rattle.gix_ref_hash.specs.Bytes.{StopsAt}
 use Rattle.gix_ref_hash.specs.Ids.{kind_len}
-use Rattle.gix_ref_packed_text.specs.RecordGrammar.{Newline, in_record_line}
+use Rattle.gix_ref_packed_text.specs.RecordGrammar.{Newline, in_record_line, is_caret}
 use Rattle.gix_ref_packed_text.specs.Positions.{NameAt, Compares, IsPlain, Orders, OrdersIfNamed}
 use Rattle.gix_ref_packed_text.proofs.OneReading.{same_record_line, spaced}
+use Rattle.gix_ref_packed_text.proofs.RecordBytes.{stops_wider}
 
 -- a name that a byte up to CR ends, by the bytes that it and that byte have
 ended : (l : ℕ) (name wanted : List ℕ) (c : ℕ) (rest : List ℕ) → c ≤ 13 → IsPlain wanted → l ≤ length wanted → (o : Ordering) → o ≢ Equal
@@ -67,8 +69,8 @@ plain_in_line (b ∷ name) plain =
 -- the wanted name and LF are in a name's place
 pub whole_name : (k : Kind) (text part wanted : List ℕ) (n l : ℕ) → IsPlain wanted → n ≡ 2 * kind_len k → n < length part → get_or part n 0 ≡ 32 → part ≡ take (length part) text
     → length wanted < length (drop (n + 1) part) → get_or (drop (n + 1) part) (length wanted) 0 ≡ 10
-    → l ≡ length wanted → slice_cmp nat_cmp (take l (drop (n + 1) part)) (take l wanted) ≡ Equal → NameAt k text wanted
-whole_name k text part wanted n l plain len some space is inside end all cmp =
+    → l ≡ length wanted → slice_cmp nat_cmp (take l (drop (n + 1) part)) (take l wanted) ≡ Equal → StopsAt is_caret part → NameAt k text wanted
+whole_name k text part wanted n l plain len some space is inside end all cmp stops =
     let after = drop (n + 1) part in
     let rest = drop (suc l) after ++ drop (length part) text in
     let named : take l after ≡ wanted = exact_bytes (take l after) (take l wanted) cmp ∙ take_all l wanted (omega arith) in
@@ -86,6 +88,7 @@ whole_name k text part wanted n l plain len some space is inside end all cmp =
         len = length-take-le n part (omega arith) ∙ len;
         line = record { after = 10 ∷ rest; cut = record { whole = refl; front_passes = plain_in_line wanted plain; stops = refl }; newline = inl refl };
       },
+      stops_wider text part is (omega arith) stops,
     )
 
 -- so any name that is there is the wanted one

@@ -1,5 +1,5 @@
 -- A record's bytes are those of the record whatever follows them; records at the front of a text.
-use Rattle.std.proofs.Common.{◌≡◌, ◌≢◌, inl, inr, ℕ, ◌*◌, ◌+◌, ◌-◌, ◌≤◌, get_or, List, [], ◌∷◌, ◌++◌, length, take, drop, refl, sym, ◌∙◌, ap, subst, arith, Option, Some, None, append_assoc, length-append, ne_eqb, codes, lit≤}
+use Rattle.std.proofs.Common.{◌≡◌, ◌≢◌, false, inl, inr, ℕ, ◌*◌, ◌+◌, ◌-◌, ◌<◌, ◌≤◌, get_or, List, [], ◌∷◌, ◌++◌, length, take, drop, refl, sym, ◌∙◌, ap, subst, arith, Option, Some, None, append_assoc, length-append, ne_eqb, codes, lit≤}
 use Rattle.std.proofs.lemmas.List.{take_at, drop_at}
 use Rattle.std.proofs.lemmas.List.Sums.{sum_by-append}
 use Rattle.gix_ref_hash.specs.declared.hash.Kind.{Kind}
@@ -147,3 +147,9 @@ heads_at t h rest f =
     let whole : t ≡ front ++ rest = f.whole ∙ ap (λ a. codes "# pack-refs with: " ++ a) l.1 ∙ sym (append_assoc (codes "# pack-refs with: ") l.0 rest) in
     let both : length t ≡ length front + length rest = ap length whole ∙ length-append front rest in
     subst (λ (r : List ℕ). TakesHeader t h r) (sym (rest_is t front rest (length t - length rest) whole (omega arith))) f
+
+-- a text begins as a part of it that is not empty
+pub stops_wider : (t part : List ℕ) → part ≡ take (length part) t → 0 < length part → StopsAt is_caret part → StopsAt is_caret t
+stops_wider t [] is some stops = absurd (omega arith)
+stops_wider [] (b ∷ part) is some stops = tt
+stops_wider (c ∷ t) (b ∷ part) is some stops = let same : b ≡ c = cc (is) in subst (λ x. is_caret x ≡ false) same stops

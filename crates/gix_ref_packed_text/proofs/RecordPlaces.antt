@@ -32,7 +32,7 @@ pub record Parts (text rest : List ℕ) : Type 0 where
   pub whole : text ≡ (first ++ 10 ∷ []) ++ (second ++ rest)
   pub second_line : (second ≡ []) ⊎ ((body : List ℕ) × NoLf (94 ∷ body) × (second ≡ (94 ∷ body) ++ 10 ∷ []))
 
-ends_lf : (l : List ℕ) → EndsLf (l ++ 10 ∷ [])
+pub ends_lf : (l : List ℕ) → EndsLf (l ++ 10 ∷ [])
 ends_lf l =
     let len : length (l ++ 10 ∷ []) ≡ length l + 1 = length-append l (10 ∷ []) in
     let at : length (l ++ 10 ∷ []) - 1 ≡ length l = omega arith in

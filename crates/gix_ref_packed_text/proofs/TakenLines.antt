@@ -25,10 +25,10 @@ module _ (text f rest : List ℕ) (whole : text ≡ f ++ rest) (begins : BeginsL
   moved : (i : ℕ) → get_or text (length f + i) 0 ≡ get_or rest i 0
   moved i = ap (λ t. get_or t (length f + i) 0) whole ∙ get_or-append-add f rest i 0
 
-  dropped : (p : ℕ) → drop (length f + p) text ≡ drop p rest
+  pub dropped : (p : ℕ) → drop (length f + p) text ≡ drop p rest
   dropped p = ap (drop (length f + p)) whole ∙ drop-append-add f rest p
 
-  line_in_text : (p : ℕ) → BeginsLine rest p → BeginsLine text (length f + p)
+  pub line_in_text : (p : ℕ) → BeginsLine rest p → BeginsLine text (length f + p)
   line_in_text p line some = ⊎_elim
       (λ (first : p ≡ 0).
       let same : length f ≡ length f + p = omega arith in

@@ -14,7 +14,7 @@ use Rattle.gix_ref_target.specs.PackedRecords.{Record}
 use Rattle.gix_ref_packed_text.specs.RecordGrammar.{RecordLine, OptionalPeeledLine, Takes, in_record_line, is_caret}
 use Rattle.gix_ref_packed_text.specs.Positions.{LineOf, SameLine, NameAt}
 use Rattle.gix_ref_packed_text.specs.Windows.{IsWindow, ReadsOption}
-use Rattle.gix_ref_packed_text.proofs.RecordBytes.{line_front, lines_taken}
+use Rattle.gix_ref_packed_text.proofs.RecordBytes.{line_front, lines_taken, stops_wider}
 
 pub byte_of : (t w : List ℕ) (from i : ℕ) → IsWindow t from w → i < length w → get_or w i 0 ≡ get_or t (from + i) 0
 byte_of t w from i is within = ap (λ p. get_or p i 0) is ∙ get_or-take (length w) (drop from t) i 0 within ∙ get_or-drop from t i 0
@@ -93,8 +93,8 @@ newline_far k t part d n r len end f is sized within newline = ⊎_elim
         one_more = omega arith
 
 -- a name in a part is in the text
-pub name_wider : (k : Kind) (t part d n r : List ℕ) → RecordLine k part d n r → part ≡ take (length part) t → NameAt k t n
-name_wider k t part d n r f is =
+pub name_wider : (k : Kind) (t part d n r : List ℕ) → RecordLine k part d n r → StopsAt is_caret part → part ≡ take (length part) t → NameAt k t n
+name_wider k t part d n r f stops is =
     let l = line_front f.after n r f.line in
     let more = drop (length part) t in
     let whole : t ≡ part ++ more = sym (take-append-drop (length part) t) ∙ ap (λ u. u ++ more) (sym is) in (
@@ -106,6 +106,7 @@ name_wider k t part d n r f is =
         len = f.len;
         line = l.2 (r ++ more);
       },
+      stops_wider t part is (let some = ap length f.whole ∙ length-append d (32 ∷ f.after) in omega arith) stops,
     )
   where
     regroup : (a b c e : List ℕ) → (a ++ 32 ∷ (b ++ c)) ++ e ≡ a ++ 32 ∷ (b ++ (c ++ e))

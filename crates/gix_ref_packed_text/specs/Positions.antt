@@ -6,10 +6,11 @@ use Rattle.std.specs.Ordering.{nat_cmp}
 use Rattle.std.specs.declared.cmp.Ordering.{Ordering}
 use Rattle.std.specs.declared.cmp.Ordering.TheVariants.{Equal}
 use Rattle.gix_ref_hash.specs.declared.hash.Kind.{Kind}
+use Rattle.gix_ref_hash.specs.Bytes.{StopsAt}
 use Rattle.gix_ref_hash.specs.Ids.{IsHexOf}
 use Rattle.gix_ref_name.specs.NameGrammar.{IsFullName}
 use Rattle.gix_ref_target.specs.PackedRecords.{record_named, Record}
-use Rattle.gix_ref_packed_text.specs.RecordGrammar.{RecordLine, Takes, TakesForm, NoRecord}
+use Rattle.gix_ref_packed_text.specs.RecordGrammar.{RecordLine, Takes, TakesForm, NoRecord, is_caret}
 
 -- a line begins there
 abbrev pub BeginsLine : List ℕ → ℕ → Type 0
@@ -43,9 +44,10 @@ pub record StartsRecord (text : List ℕ) (start offset : ℕ) : Type 0 where
   pub record_there : (LineOf text (length text) offset → ⊥) → RecordOf text start offset
   pub end : LineOf text (length text) offset → start ≡ 0
 
--- a name is in a record's place at the front of the text
+-- a name is in a record's place at the front of the text; a line that begins with `^` has none
 abbrev pub NameAt : Kind → List ℕ → List ℕ → Type 0
 NameAt kind text name = (digits rest : List ℕ) × RecordLine kind text digits name rest
+    × StopsAt is_caret text
 
 -- how the name there compares with the wanted one; an empty name is no name
 abbrev pub Compares : Kind → List ℕ → List ℕ → Option Ordering → Type 0

@@ -1,12 +1,12 @@
 -- Where the names of a prefix begin among ascending records, and the filter of a list of records by a prefix.
-use Rattle.std.specs.Prelude.{◌≡◌, ◌≢◌, ◌<◌, ◌≤◌, ◌⊎◌, ℕ, List, [], ◌++◌, nat_eq, length, drop}
+use Rattle.std.specs.Prelude.{◌≡◌, ◌≢◌, ◌<◌, ◌≤◌, ◌+◌, ◌⊎◌, ℕ, Bool, false, List, [], ◌++◌, nat_eq, length, drop}
 use Rattle.std.specs.List.{All, filter, starts_with}
 use Rattle.gix_ref_hash.specs.declared.hash.Kind.{Kind}
 use Rattle.gix_ref_hash.specs.Bytes.{StopsAt}
 use Rattle.gix_ref_target.specs.PackedRecords.{Record}
 use Rattle.gix_ref_packed_text.specs.RecordGrammar.{RecordLine, Takes, NoRecord, Records, Below, is_caret}
 use Rattle.gix_ref_packed_text.specs.OpenedText.{Fronts}
-use Rattle.gix_ref_packed_text.specs.Positions.{BeginsLine, NameAt}
+use Rattle.gix_ref_packed_text.specs.Positions.{BeginsLine, NameAt, RecordOf}
 
 -- the records whose names begin with the prefix
 abbrev pub records_prefixed : List ℕ → List Record → List Record
@@ -32,6 +32,16 @@ pub record SplitsAt (kind : Kind) (text : List ℕ) (rs : List Record) (wanted :
 abbrev pub RecordAt : Kind → List ℕ → ℕ → Record → Type 0
 RecordAt kind text place r = BeginsLine text place
     × ((rest : List ℕ) × Takes kind (drop place text) r rest)
+
+-- no record that begins before the place goes on after it
+abbrev pub CutsNoRecord : Kind → List ℕ → ℕ → Type 0
+CutsNoRecord kind text place = (p : ℕ) (r : Record) (at : RecordAt kind text p r) → p < place →
+    length text ≤ place + length at.1.0
+
+-- A line begins there that is of no record before it, or the text ends.
+pub record IsItemStart (kind : Kind) (text : List ℕ) (start : ℕ) : Type 0 where
+  pub list_start : IsListStart text start
+  pub apart : CutsNoRecord kind text start
 
 -- a line begins there, with this name in a record's place
 abbrev pub NameAtLine : Kind → List ℕ → ℕ → List ℕ → Type 0
@@ -66,7 +76,22 @@ pub record SplitsLines (kind : Kind) (text wanted : List ℕ) (place : ℕ) : Ty
   pub high : (p : ℕ) (name : List ℕ) → place ≤ p → NamedLine kind text p name →
       Below name wanted → ⊥
 
--- a line begins there that is no record
+-- A line begins there that is no record; of the record that this byte is in, it is the first line.
 pub record IsBadStart (kind : Kind) (text : List ℕ) (place : ℕ) : Type 0 where
   pub some : place < length text
   pub bad : NoRecord kind (drop place text)
+  pub offset : ℕ
+  pub within : offset < length text
+  pub begins : RecordOf text place offset
+
+-- A line begins there that is no record, and of none before it.
+pub record IsBadLineAt (kind : Kind) (text : List ℕ) (place : ℕ) : Type 0 where
+  pub begins : IsItemStart kind text place
+  pub some : place < length text
+  pub bad : NoRecord kind (drop place text)
+
+-- Where halving ended: a line begins there, or the text ends. It begins with no `^`, unless a line was met that has not the form of a
+-- record.
+pub record EndsHalving (text : List ℕ) (is_malformed : Bool) (place : ℕ) : Type 0 where
+  pub starts : IsListStart text place
+  pub no_caret : is_malformed ≡ false → StopsAt is_caret (drop place text)

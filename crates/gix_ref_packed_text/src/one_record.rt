@@ -1,15 +1,14 @@
 //! The record at the front of a text, by its lines alone.
 ghost use Rattle.std.specs.Prelude.{◌≡◌, List, ℕ, MatchOption, IfSome};
-ghost use Rattle.std.specs.Bool.{OnTrue, OnFalse};
-ghost use Rattle.gix_ref_hash.specs.Bytes.{StopsAt};
+ghost use Rattle.std.specs.Bool.{OnTrue};
 ghost use Rattle.gix_ref_name.specs.NameGrammar.{IsFullName};
 ghost use Rattle.gix_ref_target.specs.PackedRecords.{Record};
-ghost use Rattle.gix_ref_packed_text.specs.RecordGrammar.{Takes, is_caret};
+ghost use Rattle.gix_ref_packed_text.specs.RecordGrammar.{Takes};
 ghost use Rattle.gix_ref_packed_text.specs.OpenedText.{lines_of};
 ghost use Rattle.gix_ref_packed_text.specs.Views.{record_of};
 
 use crate::packed::Reference;
-use crate::packed::decode::take_record;
+use crate::packed::decode::{begins_with_caret, take_record};
 use gix_ref_hash::bytes::{cut, strip_front};
 use gix_ref_hash::hash::{Kind, split_id};
 use gix_ref_name::name::FullNameRef;
@@ -29,16 +28,6 @@ fn is_full_name(text: &[u8]) -> bool
     ensures { OnTrue result (IsFullName text.now) }
 {
     FullNameRef::try_from(text).is_ok()
-}
-
-/// Whether the text begins with `^`.
-fn begins_with_caret(text: &[u8]) -> bool
-    ensures { OnFalse result (StopsAt is_caret text.now) }
-{
-    match text {
-        [b'^', ..] => true,
-        _ => false,
-    }
 }
 
 /// What follows the record at the front of the text, where that is one line that ends in LF, the common case; `None` for

@@ -10,7 +10,7 @@ use Rattle.gix_ref_files.specs.declared.files.ReadAt.{Ghosts}
 use Rattle.gix_ref_listing.specs.CleanPrefixes.{IsAcceptedPrefix, IsRefusedPrefix}
 use Rattle.gix_ref_lookup.specs.Lookups.{packed_refs_in}
 use Rattle.gix_ref_packed.specs.declared.packed.buffer.Buffer.{Buffer}
-use Rattle.gix_ref_listing.specs.OwedNames.{IsTextFor}
+use Rattle.gix_ref_listing.specs.PackedTexts.{IsTextOf}
 use Rattle.gix_ref_listing.specs.PrefixedRecords.{HoldsAskedOf}
 use Rattle.gix_ref_listing.specs.WholeListings.{key_in}
 use Rattle.gix_ref_listing.specs.declared.list.LooseNames.{LooseNames}
@@ -20,7 +20,7 @@ use Rattle.gix_ref_listing.proofs.FolderWalks.{unchanged_on, untouched_on}
 use Rattle.gix_ref_listing.proofs.Listing.{names_on}
 use Rattle.gix_ref_store.specs.Store.{files_of, kind_of}
 use Rattle.gix_ref_store.specs.Lookup.{LooksUp, AreRecordsIn, settings_of, view_in}
-use Rattle.gix_ref_store.specs.Listings.{AreHeldFor, FollowsFile, FollowsWalked, IsNoListing, IsWalkedIn, LacksNoLoose, ListsWalked, count_in, store_listed, walked_prefix}
+use Rattle.gix_ref_store.specs.Listings.{AreHeldFor, FollowsFile, FollowsText, FollowsWalked, IsNoListing, IsWalkedIn, LacksNoLoose, ListsWalked, count_in, store_listed, walked_prefix}
 use Rattle.gix_ref_store.proofs.CompleteListings.{follows_file}
 use Rattle.gix_ref_store.proofs.FirstItems.{first_from, first_to}
 use Rattle.gix_ref_store.specs.declared.file.store.Store.{Store}
@@ -31,7 +31,7 @@ use Rattle.gix_ref_program.specs.Runs.{Ran, Prints, AreListed, ListRan, ListRanA
 use Rattle.gix_ref_program.specs.Runs.Ran.{Said, Listed, Logged, Scripted}
 use Rattle.gix_ref_program.specs.declared.outcome.Outcome.TheVariants as outcomes
 use Rattle.gix_ref_program.specs.declared.refusal.Refusal.TheVariants as refusals
-use Rattle.gix_ref_program.proofs.ListedNames.{none_lacking}
+use Rattle.gix_ref_program.proofs.ListedNames.{follow_files}
 
 module _ {F : Type 0} (honest : Type 0) (means : F → Meaning) (faults : F → FaultCounts) where
   -- the items of a listing are printed
@@ -42,7 +42,7 @@ module _ {F : Type 0} (honest : Type 0) (means : F → Meaning) (faults : F → 
   printed_all old new names packed it t out now (Ok s) lists follows rises is all = record {
     ran = Listed true all.items;
     does = λ h. (
-      (it, follows h, (all.last, all.gives, λ whole. (t, all.ends))),
+      (it, follows h, (all.last, all.gives, λ whole. (t, all.ends)), subst (λ (x : Store F). NoFewer (count_in honest means faults all.last) (faults (files_of x))) is all.ends.gives.rises),
       λ start records walked are.
           let l = lists h start records walked are in
           let first = l.runs all.items all.last all.gives in
@@ -63,7 +63,7 @@ module _ {F : Type 0} (honest : Type 0) (means : F → Meaning) (faults : F → 
   printed_all old new names packed it t out now (Err e) lists follows rises is all = record {
     ran = Listed false [];
     does = λ h. (
-      (it, follows h, (it, refl, λ whole. absurd (cc))),
+      (it, follows h, (it, refl, λ whole. absurd (cc)), subst (λ (x : Store F). NoFewer (count_in honest means faults it) (faults (files_of x))) is rises),
       λ start records walked are.
           let l = lists h start records walked are in
           let after : NoFewer (count_in honest means faults it) (faults (files_of new)) = subst (λ (x : Store F). NoFewer (count_in honest means faults it) (faults (files_of x))) is rises in
@@ -80,13 +80,13 @@ module _ {F : Type 0} (honest : Type 0) (means : F → Meaning) (faults : F → 
   }
 
   -- an iterator over the names of a walk and a buffer that was read after it follows the file
-  pub follows_walked : honest → (start mid now : Store F) (prefix : List ℕ) (names : LooseNames) (found : Option Buffer) (packed : Option (Bor Buffer)) → LooksUp honest means start mid → LooksUp honest means mid now → walked_prefix names ≡ prefix →
+  pub follows_walked : honest → (start mid now : Store F) (prefix : List ℕ) (names : LooseNames) (found : Option Buffer) (packed : Option (Bor Buffer)) → LooksUp honest means start mid → walked_prefix names ≡ prefix →
       option_copied packed ≡ found → HoldsAskedOf (kind_of mid) (packed_refs_in (settings_of mid) (means (files_of mid))) (key_in (settings_of mid) prefix) found → IsWalkedIn honest means faults start now names → (it : LooseThenPacked F Remaining) →
       FollowsWalked honest means faults now names packed (Ok it) → FollowsFile honest means faults start prefix it
-  follows_walked h start mid now prefix names found packed first second asked same holds walked it follows =
+  follows_walked h start mid now prefix names found packed first asked same holds walked it follows =
       let of_walk = follows start walked in
-      follows_file honest means faults h start mid now prefix found packed first second same holds (Ok it) (subst (λ (p : List ℕ). LacksNoLoose honest means faults start p it) asked of_walk.0)
-      (λ text of. of_walk.1 text (subst (λ (p : List ℕ). IsTextFor (key_in (settings_of now) p) packed text) (sym asked) of))
+      follows_file honest means faults h start mid prefix found packed first same holds (Ok it) (subst (λ (p : List ℕ). LacksNoLoose honest means faults start p it) asked of_walk.0)
+      (λ text of. subst (λ (p : List ℕ). FollowsText honest means faults start p text it) asked (of_walk.1 text (subst (λ (p : List ℕ). IsTextOf (key_in (settings_of start) p) packed text) (sym asked) of)))
 
   -- a prefix without a listing
   pub no_listing : {R : Type 0} (G : Ghosts R) (old new : Store F) (prefix : List ℕ) (error : PrefixError) → (error ≡ no_list.Memory) ⊎ IsRefusedPrefix old.namespace prefix error →
@@ -108,7 +108,7 @@ module _ {F : Type 0} (honest : Type 0) (means : F → Meaning) (faults : F → 
   listed_from G start old new prefix names packed taken asked walked read file (Listed whole items) among = (
     taken,
     λ h. (
-      none_lacking honest means faults start prefix whole (among h).0.0 items (file h (among h).0.0 (among h).0.1) (among h).0.2,
+      follow_files honest means faults start prefix (faults (files_of new)) whole (among h).0.0 items (file h (among h).0.0 (among h).0.1) (among h).0.2 (among h).0.3,
       λ records are. subst (λ (p : List ℕ). AreListed honest means faults (settings_of start) (view_in means start) (faults (files_of start)) (faults (files_of new)) records p whole items) asked ((among h).1 start records (walked h) (read h records are)),
     ),
   )

@@ -10,7 +10,7 @@ use Rattle.gix_ref_name.specs.Namespaces.{expanded}
 use Rattle.gix_ref_hash.specs.declared.hash.Kind.{Kind}
 use Rattle.gix_ref_files.specs.Tree.{Tree, is_file}
 use Rattle.gix_ref_files.specs.Tree.Content.{File}
-use Rattle.gix_ref_files.specs.Files.{Meaning, Leaves, Loses, HasRisen, disk_of, FaultCounts}
+use Rattle.gix_ref_files.specs.Files.{Meaning, Leaves, Loses, HasRisen, NoFewer, disk_of, FaultCounts}
 use Rattle.gix_ref_lookup.specs.CleanPaths.{is_clean}
 use Rattle.gix_ref_log.specs.Signatures.{Who}
 use Rattle.gix_ref_log.specs.declared.actor.SignatureRef.{SignatureRef}
@@ -25,7 +25,7 @@ use Rattle.gix_ref_store.specs.Lookup.{AreRecordsIn, FindsAmong, SeesIn, FailsIn
 use Rattle.gix_ref_store.specs.Prepared.{tree_of, HasGoodRecords, IsAtRest}
 use Rattle.gix_ref_store.specs.Store.{files_of, folders, kind_of}
 use Rattle.gix_ref_store.specs.Reflogs.{reflog_at, IsNoReflog}
-use Rattle.gix_ref_store.specs.Listings.{prefix_of_all, walked_prefix, AreFirst, AreHeldFor, FollowsWalked, IsNoListing, IsWalkedIn, NextItem}
+use Rattle.gix_ref_store.specs.Listings.{count_in, prefix_of_all, walked_prefix, AreFirst, AreHeldFor, FollowsWalked, IsNoListing, IsWalkedIn, NextItem}
 use Rattle.gix_ref_store.specs.declared.file.iter.LooseThenPacked.{LooseThenPacked}
 use Rattle.gix_ref_store.specs.declared.file.iter.Remaining.{Remaining}
 use Rattle.gix_ref_packed.specs.OpenFiles.{HasReadFault}
@@ -51,7 +51,7 @@ use Rattle.gix_ref_program.specs.ScriptLines.{script_lines}
 use Rattle.gix_ref_program.specs.Scripts.{IsSaid, IsScriptLoss, IsScriptStop, ScriptEnd, ScriptEnds, script_status}
 use Rattle.gix_ref_program.specs.Writes.{IsKept, IsWriteLoss, IsWriteStop, Terms, WriteComes, terms_of}
 use Rattle.gix_ref_program.specs.ListPrinting.{list_text}
-use Rattle.gix_ref_program.specs.ListedItems.{LackNone}
+use Rattle.gix_ref_program.specs.ListedItems.{FollowFiles}
 use Rattle.gix_ref_program.specs.LogPrinting.{log_text, AreLogItems, IsCountedFault}
 use Rattle.gix_ref_program.specs.Printed.{items_status}
 use Rattle.gix_ref_program.specs.Words.{Asked, Update, Symbolic, Delete, Show, Listing as AskedListing, Log, Script, LineAsked, AreWordsOf, MayWrite, who_given}
@@ -241,7 +241,8 @@ module _ {F : Type 0} where
     ListRanAmong old new names packed (Listed whole items) =
         honest → ((it : LooseThenPacked F Remaining)
         × FollowsWalked honest means faults old names packed (Ok it)
-        × DrainsIf (NextItem honest means faults) (whole ≡ true) it items)
+        × (drains : DrainsIf (NextItem honest means faults) (whole ≡ true) it items)
+        × NoFewer (count_in honest means faults drains.0) (faults (files_of new)))
         × ((start : Store F) (records : List Record) →
         IsWalkedIn honest means faults start old names →
         AreHeldFor old (walked_prefix names) packed records →
@@ -249,14 +250,14 @@ module _ {F : Type 0} where
         (faults (files_of new)) records (walked_prefix names) whole items)
     ListRanAmong old new names packed ran = ⊥
 
-    -- A listing: it is refused; or its items are printed. None is lacking, whatever the lines of `packed-refs` are.
+    -- A listing: it is refused; or its items are printed. None is lacking or wrong, whatever the lines of `packed-refs` are.
     abbrev pub ListRan : {R : Type 0} (G : Ghosts R) → (old new : Store F) → (prefix : List ℕ) →
         Ran → Type 0
     ListRan G old new prefix (Said (outcomes.Refused (refusals.List error) locks)) =
         IsNoListing honest means faults G old new prefix error × (locks.items ≡ [])
     ListRan G old new prefix (Listed whole items) =
         IsAcceptedPrefix old.namespace prefix
-        × (honest → LackNone means old prefix whole items
+        × (honest → FollowFiles honest means faults old prefix (faults (files_of new)) whole items
         × ((records : List Record) → AreRecordsIn means old records →
         AreListed (settings_of old) (view_in means old) (faults (files_of old))
         (faults (files_of new)) records prefix whole items))

@@ -21,9 +21,10 @@
 //! - `show` prints what a lookup in the store finds, or the error with which it fails; the clauses are those of the lookup:
 //!   `run::run`
 //! - `list` prints the items of the listing of the prefix over a well-formed `packed-refs`, in their order, and the status is 1
-//!   exactly where one is a fault; over any other that can be opened and whose names ascend, no name is lacking where each item
-//!   is a reference (`LackNone` in `ListedItems.antt`); why there is no listing; where the writer fails nothing is said of what
-//!   was written: `run::run`, `list::print_items` (`ListRan` in `Runs.antt`)
+//!   exactly where one is a fault; over any other that can be opened each item is of a loose reference, a record that begins a
+//!   line, or a line that is no record, and where names ascend none is lacking where each item is a reference (`FollowFiles` in
+//!   `ListedItems.antt`); why there is no listing; where the writer fails nothing is said of what was written: `run::run`,
+//!   `list::print_items` (`ListRan` in `Runs.antt`)
 //! - `log` prints the items of `reflog_iter_rev` through 4,096 bytes, in their order, and the status is 1 exactly where one is a
 //!   fault; a fault of reading is one that was counted; where the writer fails nothing is said of what was written: `run::run`,
 //!   `log::print_items`

@@ -15,14 +15,14 @@ use Rattle.gix_ref_packed_text.specs.declared.raw.Reference.{Reference}
 use Rattle.gix_ref_lookup.specs.Lookups.{Among, packed_refs_in}
 use Rattle.gix_ref_packed.specs.declared.packed.buffer.Buffer.{Buffer}
 use Rattle.gix_ref_listing.specs.Listings.{Listed}
-use Rattle.gix_ref_listing.specs.OwedNames.{IsDue, IsFaultOf, IsTextFor}
+use Rattle.gix_ref_listing.specs.PackedTexts.{Text, IsTextOf}
 use Rattle.gix_ref_listing.specs.PrefixedRecords.{HoldsAskedOf}
 use Rattle.gix_ref_listing.specs.WholeListings.{key_in}
 use Rattle.gix_ref_listing.specs.declared.error.Error.{Error as ItemError}
 use Rattle.gix_ref_listing.specs.declared.error.Error.TheVariants as item
 use Rattle.gix_ref_listing.specs.declared.list.LooseNames.{LooseNames}
 use Rattle.gix_ref_listing.proofs.Listing.{names_on}
-use Rattle.gix_ref_store.specs.Listings.{AreFirst, FollowsFile, FollowsText, FollowsWalked, IsNamed, IsReference, IsWalkedIn, LacksNoLoose, ListsWalked, NextItem, OfPackedText, count_in, store_listed, walked_prefix}
+use Rattle.gix_ref_store.specs.Listings.{AreFirst, FollowsFile, FollowsText, FollowsWalked, GivesRight, IsNamed, IsReference, IsRightSince, IsWalkedIn, LacksNoLoose, ListsWalked, NextItem, OfPackedText, count_in, store_listed, walked_prefix}
 use Rattle.gix_ref_store.specs.Lookup.{LooksUp, settings_of, view_in}
 use Rattle.gix_ref_store.specs.Store.{files_of, kind_of}
 use Rattle.gix_ref_store.specs.declared.file.iter.LooseThenPacked.{LooseThenPacked}
@@ -30,7 +30,7 @@ use Rattle.gix_ref_store.specs.declared.file.iter.Remaining.{Remaining}
 use Rattle.gix_ref_store.specs.declared.file.store.Store.{Store}
 use Rattle.gix_ref_store.proofs.CompleteListings.{follows_file, text_more}
 use Rattle.gix_ref_store.proofs.FirstItems.{first_from, first_to}
-use Rattle.gix_ref_queries.specs.ListedNames.{HaveName, LackNone}
+use Rattle.gix_ref_queries.specs.ListedNames.{FollowFiles, FollowLines, HaveName, IsRightReference}
 use Rattle.gix_ref_queries.specs.Rows.{Collects, FindsAmongNames, GivesFault, StopsAtItem, as_items, is_asked}
 use Rattle.gix_ref_queries.proofs.Names.{looks_up, looks_none}
 
@@ -135,7 +135,7 @@ module _ {F : Type 0} (honest : Type 0) (means : F → Meaning) (faults : F → 
   )
   found_among old new names packed patterns it t (Err error) lists follows rises is (inl memory) = λ h. (inl memory, λ start records walked are. inl memory)
   found_among old new names packed patterns it t (Err error) lists follows rises is (inr (all, (mid, gave, step))) = λ h. (
-    inr (it, t, all, follows h, (mid, gave, step)),
+    inr (it, t, all, follows h, (mid, gave, step), subst (λ (x : Store F). NoFewer (count_in honest means faults t) (faults (files_of x))) is (no_fewer_starts _)),
     λ start records walked are.
         let l = lists h start records walked are in
         let items = as_items all ++ Err error ∷ [] in
@@ -156,25 +156,39 @@ module _ {F : Type 0} (honest : Type 0) (means : F → Meaning) (faults : F → 
   )
 
   -- an iterator over the names of a walk and a buffer that was read after it follows the file
-  pub follows_walked : honest → (start mid now : Store F) (prefix : List ℕ) (names : LooseNames) (found : Option Buffer) (packed : Option (Bor Buffer)) → LooksUp honest means start mid → LooksUp honest means mid now → walked_prefix names ≡ prefix →
+  pub follows_walked : honest → (start mid now : Store F) (prefix : List ℕ) (names : LooseNames) (found : Option Buffer) (packed : Option (Bor Buffer)) → LooksUp honest means start mid → walked_prefix names ≡ prefix →
       option_copied packed ≡ found → HoldsAskedOf (kind_of mid) (packed_refs_in (settings_of mid) (means (files_of mid))) (key_in (settings_of mid) prefix) found → IsWalkedIn honest means faults start now names → (it : LooseThenPacked F Remaining) →
       FollowsWalked honest means faults now names packed (Ok it) → FollowsFile honest means faults start prefix it
-  follows_walked h start mid now prefix names found packed first second asked same holds walked it follows =
+  follows_walked h start mid now prefix names found packed first asked same holds walked it follows =
       let of_walk = follows start walked in
-      follows_file honest means faults h start mid now prefix found packed first second same holds (Ok it) (subst (λ (p : List ℕ). LacksNoLoose honest means faults start p it) asked of_walk.0)
-      (λ text of. of_walk.1 text (subst (λ (p : List ℕ). IsTextFor (key_in (settings_of now) p) packed text) (sym asked) of))
+      follows_file honest means faults h start mid prefix found packed first same holds (Ok it) (subst (λ (p : List ℕ). LacksNoLoose honest means faults start p it) asked of_walk.0)
+      (λ text of. subst (λ (p : List ℕ). FollowsText honest means faults start p text it) asked (of_walk.1 text (subst (λ (p : List ℕ). IsTextOf (key_in (settings_of start) p) packed text) (sym asked) of)))
 
-  -- none is lacking of the references that it gives up to its end
-  pub none_lacking : (store : Store F) (prefix : List ℕ) (it : LooseThenPacked F Remaining) (all : List Reference) → FollowsFile honest means faults store prefix it → Drains (NextItem honest means faults) it (as_items all) → LackNone means store prefix all
-  none_lacking store prefix it all follows (end, (last, gave, ends)) = record {
+  -- the references that it gives are right
+  all_right : (store : Store F) (prefix : List ℕ) (text : Text) (it s t : LooseThenPacked F Remaining) (before : List (Result Reference ItemError)) (all : List Reference) → GivesRight honest means faults store prefix text it →
+      Yields (NextItem honest means faults) it before s → Yields (NextItem honest means faults) s (as_items all) t → AllByRecursion (IsRightReference honest means faults store prefix text) all
+  all_right store prefix text it s t before [] right gave gives = tt
+  all_right store prefix text it s t before (r ∷ all) right gave (mid, next, gives) =
+      let this = right before s mid (Ok r) gave next in (
+        (this.0, this.1, this.4),
+        all_right store prefix text it mid t (before ++ Ok r ∷ []) all right (yields_more (NextItem honest means faults) it s mid before (Ok r) gave next) gives,
+      )
+
+  -- and none is lacking of those up to its end
+  pub follow_files : (store : Store F) (prefix : List ℕ) (it : LooseThenPacked F Remaining) (all : List Reference) → FollowsFile honest means faults store prefix it → Drains (NextItem honest means faults) it (as_items all) → FollowFiles honest means faults store prefix all
+  follow_files store prefix it all follows (end, (last, gave, ends)) = record {
     loose = λ name listed. named name all (follows.0 (as_items all) last end gave ends (plain all) name listed);
-    packed = text_more means store prefix (λ text. FollowsText honest means faults (settings_of store) text it) (λ text. (name : List ℕ) → IsDue (settings_of store) text name → HaveName all name)
-        (λ text of name due. named name all (of.lacks_none (as_items all) last end gave ends (plain all) name due)) follows.1;
+    packed = text_more means store prefix (λ text. FollowsText honest means faults store prefix text it) (λ text. FollowLines honest means faults store prefix text all)
+        (λ text of. record {
+          right = all_right store prefix text it it last [] all of.gives_right refl gave;
+          due = λ up name due. named name all (of.lacks_none up (as_items all) last end gave ends (plain all) name due);
+        }) follows.1;
   }
 
-  -- and a fault that it gives after references is of the text
-  pub fault_given : (store now : Store F) (prefix : List ℕ) (names : LooseNames) (packed : Option (Bor Buffer)) (error : ItemError) → ((it : LooseThenPacked F Remaining) → FollowsWalked honest means faults now names packed (Ok it) → FollowsFile honest means faults store prefix it) →
-      GivesFault honest means faults now names packed error → (error ≡ item.Memory) ⊎ OfPackedText means store prefix (λ text. IsFaultOf text error)
-  fault_given store now prefix names packed error file (inl memory) = inl memory
-  fault_given store now prefix names packed error file (inr (it, end, all, follows, (last, gave, step))) =
-      inr (text_more means store prefix (λ text. FollowsText honest means faults (settings_of store) text it) (λ text. IsFaultOf text error) (λ text of. of.first_fault (as_items all) last end error gave step (plain all)) (file it follows).1)
+  -- and a fault that it gives after references is right
+  pub fault_given : (store now new : Store F) (prefix : List ℕ) (names : LooseNames) (packed : Option (Bor Buffer)) (error : ItemError) → ((it : LooseThenPacked F Remaining) → FollowsWalked honest means faults now names packed (Ok it) → FollowsFile honest means faults store prefix it) →
+      GivesFault honest means faults now new names packed error → (error ≡ item.Memory) ⊎ OfPackedText means store prefix (λ text. IsRightSince honest means faults store prefix text (faults (files_of new)) (Err error))
+  fault_given store now new prefix names packed error file (inl memory) = inl memory
+  fault_given store now new prefix names packed error file (inr (it, end, all, follows, (last, gave, step), counts)) =
+      inr (text_more means store prefix (λ text. FollowsText honest means faults store prefix text it) (λ text. IsRightSince honest means faults store prefix text (faults (files_of new)) (Err error))
+      (λ text of. let this = of.gives_right (as_items all) last end (Err error) gave step in (this.0, this.1, this.2, no_fewer_joins this.3 counts, this.4)) (file it follows).1)

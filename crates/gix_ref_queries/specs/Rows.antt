@@ -5,7 +5,7 @@ use Rattle.std.specs.Iterator.{Drains, Yields, YieldsThen}
 use Rattle.std.specs.List.{AllByRecursion, Any, filter, filter_map, find, flat_map}
 use Rattle.std.specs.Option.{option_map}
 use Rattle.std.specs.declared.alloc.Global.{Global}
-use Rattle.gix_ref_files.specs.Files.{Meaning, FaultCounts}
+use Rattle.gix_ref_files.specs.Files.{Meaning, FaultCounts, NoFewer}
 use Rattle.gix_ref_files.specs.declared.files.ReadAt.{Ghosts}
 use Rattle.gix_ref_name.specs.Names.{full_bytes, full_ref_bytes}
 use Rattle.gix_ref_target.specs.PackedRecords.{Record}
@@ -17,13 +17,12 @@ use Rattle.gix_ref_packed_text.specs.declared.raw.Reference.{Reference}
 use Rattle.gix_ref_lookup.specs.declared.settings.Settings.{Settings}
 use Rattle.gix_ref_listing.specs.CleanPrefixes.{IsAcceptedPrefix}
 use Rattle.gix_ref_listing.specs.Listings.{Listed}
-use Rattle.gix_ref_listing.specs.OwedNames.{IsFaultOf}
 use Rattle.gix_ref_listing.specs.WholeListings.{IsListing, IsNameOrMet}
 use Rattle.gix_ref_listing.specs.declared.error.Error.{Error as ItemError}
 use Rattle.gix_ref_listing.specs.declared.error.Error.TheVariants as item
 use Rattle.gix_ref_listing.specs.declared.list.LooseNames.{LooseNames}
 use Rattle.gix_ref_listing.specs.declared.prefix.Error.TheVariants as list
-use Rattle.gix_ref_store.specs.Listings.{AreFirst, AreHeldFor, FollowsWalked, IsNoListing, IsWalkedIn, NextItem, OfPackedText, walked_prefix}
+use Rattle.gix_ref_store.specs.Listings.{AreFirst, AreHeldFor, FollowsWalked, IsNoListing, IsRightSince, IsWalkedIn, NextItem, OfPackedText, count_in, walked_prefix}
 use Rattle.gix_ref_store.specs.Lookup.{AreRecordsIn, LooksUp, settings_of, view_in}
 use Rattle.gix_ref_store.specs.Store.{files_of}
 use Rattle.gix_ref_store.specs.declared.file.iter.LooseThenPacked.{LooseThenPacked}
@@ -31,7 +30,7 @@ use Rattle.gix_ref_store.specs.declared.file.iter.Remaining.{Remaining}
 use Rattle.gix_ref_store.specs.declared.file.store.Store.{Store}
 use Rattle.gix_ref_queries.specs.Answers.{Says, Fails}
 use Rattle.gix_ref_queries.specs.Formats.{format_parts, row_text, shows_short}
-use Rattle.gix_ref_queries.specs.ListedNames.{LackNone}
+use Rattle.gix_ref_queries.specs.ListedNames.{FollowFiles}
 use Rattle.gix_ref_queries.specs.Patterns.{has_other_sign, is_asked_by}
 use Rattle.gix_ref_queries.specs.Resolving.{TargetsByName, NameEnd, IsUnread, targets_in, resolved}
 use Rattle.gix_ref_queries.specs.Resolving.NameEnd.{Reached}
@@ -193,12 +192,14 @@ module _ {F : Type 0} (honest : Type 0) (means : F → Meaning) (faults : F → 
       × Drains (NextItem honest means faults) it (as_items all)
 
   -- or it gives some references, and then this fault; or there was no memory
-  abbrev pub GivesFault : (old : Store F) → LooseNames → (packed : Option (Bor Buffer)) →
+  abbrev pub GivesFault : (old new : Store F) → LooseNames → (packed : Option (Bor Buffer)) →
       ItemError → Type 0
-  GivesFault old names packed error = (error ≡ item.Memory) ⊎ ((it : LooseThenPacked F Remaining)
+  GivesFault old new names packed error =
+      (error ≡ item.Memory) ⊎ ((it : LooseThenPacked F Remaining)
       × (end : LooseThenPacked F Remaining) × (all : List Reference)
       × FollowsWalked honest means faults old names packed (Ok it)
-      × YieldsThen (NextItem honest means faults) it (as_items all) (Some (Err error)) end)
+      × YieldsThen (NextItem honest means faults) it (as_items all) (Some (Err error)) end
+      × NoFewer (count_in honest means faults end) (faults (files_of new)))
 
   -- what is found of the references of a listing, among the names of a walk and the records of a buffer
   abbrev pub FindsAmongNames : (old new : Store F) → LooseNames → (packed : Option (Bor Buffer)) →
@@ -210,27 +211,29 @@ module _ {F : Type 0} (honest : Type 0) (means : F → Meaning) (faults : F → 
       AreHeldFor old (walked_prefix names) packed records →
       AreListedIn start new records (walked_prefix names) [] (as_items all)))
   FindsAmongNames old new names packed patterns (Err error) = honest →
-      GivesFault old names packed error × ((start : Store F) (records : List Record) →
+      GivesFault old new names packed error × ((start : Store F) (records : List Record) →
       IsWalkedIn honest means faults start old names →
       AreHeldFor old (walked_prefix names) packed records →
       EndsAtItem start new records (walked_prefix names) error)
 
-  -- The references of a prefix that are asked for, of all of them. None is lacking, whatever the lines of `packed-refs` are.
+  -- The references of a prefix that are asked for, of all of them. None is lacking or wrong, whatever the lines of `packed-refs` are.
   abbrev pub ListsAsked : (old new : Store F) → (prefix : List ℕ) → (patterns : List (List ℕ)) →
       List Reference → Type 0
   ListsAsked old new prefix patterns references = IsAcceptedPrefix old.namespace prefix
       × (all : List Reference) × (references ≡ filter (is_asked patterns) all)
-      × (honest → LackNone means old prefix all
+      × (honest → FollowFiles honest means faults old prefix all
       × ((records : List Record) → AreRecordsIn means old records →
       AreListedIn old new records prefix [] (as_items all)))
 
   module _ {R : Type 0} (G : Ghosts R) where
-    -- Why the references of a prefix are not listed. A fault of a line is about a line of the text of `packed-refs` that is no record.
+    -- Why the references of a prefix are not listed: there is no listing; or an item of it is a fault, of a file or a folder, or of a
+    -- record or a line of `packed-refs` that is no record.
     abbrev pub IsUnlisted : (old new : Store F) → (prefix : List ℕ) → Unlisted → Type 0
     IsUnlisted old new prefix (unlisted.Prefix error) =
         IsNoListing honest means faults G old new prefix error
     IsUnlisted old new prefix (unlisted.Item error) = honest → ((error ≡ item.Memory)
-        ⊎ OfPackedText means old prefix (λ text. IsFaultOf text error))
+        ⊎ OfPackedText means old prefix (λ text. IsRightSince honest means faults old prefix text
+        (faults (files_of new)) (Err error)))
         × ((records : List Record) → AreRecordsIn means old records →
         EndsAtItem old new records prefix error)
 

@@ -12,8 +12,9 @@
 //!   `short::short_name` (`Shortening.antt`)
 //! - each entry of a log that can be read, newest first, with its place: `reflog::show_log` (`ShowAnswer` in `LogRows.antt`)
 //! - which references of a listing the patterns match, what the format shows of each, their order and number; and each error; that
-//!   the listing lacks none, also over a damaged `packed-refs` whose names ascend (`LackNone` in `ListedNames.antt`):
-//!   `for_each_ref::for_each_ref` (`EachAnswer` in `Rows.antt`, `Patterns.antt`, `Formats.antt`)
+//!   each reference of the listing is right, and a fault of it, also over a damaged `packed-refs`, and that none is lacking where its
+//!   names ascend (`FollowFiles` in `ListedNames.antt`): `for_each_ref::for_each_ref` (`EachAnswer` in `Rows.antt`, `Patterns.antt`,
+//!   `Formats.antt`)
 //! - a line for each lock file, or for each that was removed; where it fails, those before are gone: `locks::list_locks`,
 //!   `locks::remove_locks` (`LocksAnswer`, `RemovesAnswer` in `Answers.antt`)
 #![tactic(auto)]

@@ -1,5 +1,5 @@
 -- A record that is lent in the place of an item.
-use Rattle.std.proofs.Common.{◌≡◌, inl, ℕ, List, ◌∷◌, refl, sym, ap, subst, Option, Some, None, Ok}
+use Rattle.std.proofs.Common.{◌≡◌, inl, ℕ, List, refl, sym, ap, subst, Option, Some, None, Ok}
 use Rattle.gix_ref_files.proofs.Meeting.{no_fewer_starts}
 use Rattle.std.specs.Prelude.{IfSome}
 use denote.Ref.{MutBor}
@@ -8,7 +8,7 @@ use Rattle.gix_ref_files.proofs.Moments.{starts, passes_starts}
 use Rattle.gix_ref_packed_text.specs.declared.raw.Reference.{Reference}
 use Rattle.gix_ref_listing.specs.Items.{IsOfRecord}
 use Rattle.gix_ref_listing.specs.Listings.Listed.{InPacked}
-use Rattle.gix_ref_listing.specs.OwedNames.{OwesNames}
+use Rattle.gix_ref_listing.specs.OwedNames.{OwesNames, with_name}
 use Rattle.gix_ref_listing.specs.OwnRecords.{own_of}
 use Rattle.gix_ref_listing.specs.Steps.{GivesNext, GivesRecord}
 use Rattle.gix_ref_listing.specs.declared.merge.Merge.{Merge}
@@ -26,7 +26,9 @@ module _ {F : Type 0} (honest : Type 0) (means : F → Meaning) (faults : F → 
   given : (files : F) (settings : Settings) (s t : Merge) (own : OwnRecord) (r : Reference) → GivesRecord settings s t own → IsOfRecord (own_of own) r → GivesNext honest means faults settings files files s (Some (Ok r)) t
   given files settings s t own r gave is = record {
     gives = λ listed yet. let first = gave.gives listed yet in (InPacked (own_of own), first.0, first.1, first.2, (is, gave.allowed));
-    pays = λ text names owes. subst (λ (n : List ℕ). OwesNames settings text (n ∷ names) t) (sym is.0) (gave.pays text names owes);
+    pays = λ text given owes.
+        let paid = gave.pays text given owes in
+        (subst (λ (n : List ℕ). OwesNames settings text (with_name n given) t) (sym is.0) paid.1, λ same. (own_of own, paid.0, (is, gave.allowed)));
     found = inl gave.found;
     rises = no_fewer_starts (faults files);
     counts = refl;

@@ -15,8 +15,11 @@ use Rattle.gix_ref_packed_text.specs.declared.raw.Reference.{Reference}
 use Rattle.gix_ref_listing.specs.CleanPrefixes.{IsAcceptedPrefix, IsRefusedPrefix}
 use Rattle.gix_ref_listing.specs.Items.{IsItem, IsOfRecord}
 use Rattle.gix_ref_listing.specs.Listings.{Listed, IsNotLent, merge_left}
-use Rattle.gix_ref_listing.specs.LooseListings.{IsLooseListed}
-use Rattle.gix_ref_listing.specs.OwedNames.{Text, IsDue, IsFaultOf, IsTextFor}
+use Rattle.gix_ref_listing.specs.GoneFiles.{IsFoundOrGone}
+use Rattle.gix_ref_listing.specs.LooseListings.{IsFoundIn, IsLooseListed}
+use Rattle.gix_ref_listing.specs.OwedNames.{IsDue}
+use Rattle.gix_ref_listing.specs.PackedTexts.{Text, Ascends, IsTextItem, IsTextOf}
+use Rattle.gix_ref_listing.specs.Walks.{FoundEntry, IsFileOrMet}
 use Rattle.gix_ref_listing.specs.OwnRecords.{own_of}
 use Rattle.gix_ref_listing.specs.PrefixedRecords.{IsHeldFor, first_line}
 use Rattle.gix_ref_listing.specs.PseudoListings.{IsPseudoListing}
@@ -25,7 +28,6 @@ use Rattle.gix_ref_listing.specs.WholeListings.{AreHeldOf, IsListing, IsNameOrMe
 use Rattle.gix_ref_listing.specs.declared.error.Error.{Error}
 use Rattle.gix_ref_listing.specs.declared.list.LooseNames.{LooseNames}
 use Rattle.gix_ref_listing.specs.declared.own_records.OwnRecord.{OwnRecord}
-use Rattle.gix_ref_packed_text.specs.Prefixes.{NamesAscend}
 use Rattle.gix_ref_lookup.specs.Lookups.{Among, IsOpenedText, packed_refs_in}
 use Rattle.gix_ref_lookup.specs.declared.settings.Settings.{Settings}
 use Rattle.gix_ref_theory.specs.Views.{View}
@@ -133,20 +135,19 @@ module _ {F : Type 0} where
       × ((why : OpenError) × (error ≡ of_open why)
       × (faults (stores.files_of new) ≡ count_open (Err why) (faults (stores.files_of old))))
 
-  -- A store has no `packed-refs`; or it can be opened, and where the names of the text that is kept of it ascend, this holds of the
-  -- text, which is asked for a prefix.
+  -- A store has no `packed-refs`; or it can be opened, and this holds of the text that is kept of it, which is asked for a prefix.
   abbrev pub OfPackedText : (means : F → Meaning) (store : Store F) (prefix : List ℕ) →
       (P : Text → Type 0) → Type 0
   OfPackedText means store prefix P =
       let kind = stores.kind_of store in
       let file = packed_refs_in (settings_of store) (means (stores.files_of store)) in
       (file ≡ None) ⊎ ((bytes : List ℕ) × (opened : IsOpenedText kind file kind bytes)
-      × (NamesAscend kind bytes → P (record {
+      × P (record {
         kind = kind;
         bytes = bytes;
         line = first_line opened;
         key = key_in (settings_of store) prefix;
-      })))
+      }))
 
   module _ (honest : Type 0) (means : F → Meaning) (faults : F → FaultCounts) where
     -- the faults of its files
@@ -187,25 +188,44 @@ module _ {F : Type 0} where
           (count_in t) listed rest items
       pub ends : (u : LooseThenPacked F Remaining) → NextItem t None u → rest ≡ []
 
-    -- Whatever the lines of this text of `packed-refs` are: where calls of `next` give references alone, and then none, each name
-    -- that is due by the text is among theirs.
+    -- Whatever the lines of this text of `packed-refs` are, where its names ascend: where calls of `next` give references alone, and
+    -- then none, each name that is due by the text is among theirs.
     abbrev pub LacksNone : Settings → Text → LooseThenPacked F Remaining → Type 0
-    LacksNone settings text it = (items : List (Result Reference Error))
+    LacksNone settings text it = Ascends text → (items : List (Result Reference Error))
         (t u : LooseThenPacked F Remaining) → Yields (NextItem) it items t → NextItem t None u →
         AllByRecursion IsReference items → (name : List ℕ) → IsDue settings text name →
         Among (IsNamed name) items
 
-    -- Where they then give the fault of a line, it is about a line of the text that is no record.
-    abbrev pub FirstFaultIsIn : Text → LooseThenPacked F Remaining → Type 0
-    FirstFaultIsIn text it = (items : List (Result Reference Error))
-        (t u : LooseThenPacked F Remaining) (error : Error) → Yields (NextItem) it items t →
-        NextItem t (Some (Err error)) u → AllByRecursion IsReference items → IsFaultOf text error
+    -- An item of the listing of a prefix of a store, as it is read while the faults go from `before` to `now`: a loose reference, or a
+    -- folder that could not be listed by a fault that was counted; or a record or a bad line of the text.
+    abbrev pub IsRightItem : (store : Store F) → (prefix : List ℕ) → Text →
+        (before now : FaultCounts) → Result Reference Error → Type 0
+    IsRightItem store prefix text before now item =
+        ((e : FoundEntry) × IsFoundIn (settings_of store) (view_in means store) prefix e
+        × IsFileOrMet (faults (stores.files_of store)) now e
+        × IsFoundOrGone honest (settings_of store) (view_in means store) before now e.1 item)
+        ⊎ IsTextItem (settings_of store) text item
 
-    -- It lacks no name that is due by the text, and the fault of a line, if that is its first one, is about a line of the text.
-    pub record FollowsText (settings : Settings) (text : Text)
+    -- one that was read when the store had been so, and before the faults were these
+    abbrev pub IsRightSince : (store : Store F) → (prefix : List ℕ) → Text → (last : FaultCounts) →
+        Result Reference Error → Type 0
+    IsRightSince store prefix text last item = (before now : FaultCounts)
+        × NoFewer (faults (stores.files_of store)) before × NoFewer now last
+        × IsRightItem store prefix text before now item
+
+    -- so each item that calls of `next` give
+    abbrev pub GivesRight : (store : Store F) → (prefix : List ℕ) → Text →
+        LooseThenPacked F Remaining → Type 0
+    GivesRight store prefix text it = (items : List (Result Reference Error))
+        (s t : LooseThenPacked F Remaining) (item : Result Reference Error) →
+        Yields (NextItem) it items s → NextItem s (Some item) t →
+        IsRightSince store prefix text (count_in t) item
+
+    -- Each of its items is right by the text, and it lacks no name that is due by it.
+    pub record FollowsText (store : Store F) (prefix : List ℕ) (text : Text)
         (it : LooseThenPacked F Remaining) : Type 0 where
-      pub lacks_none : LacksNone settings text it
-      pub first_fault : FirstFaultIsIn text it
+      pub gives_right : GivesRight store prefix text it
+      pub lacks_none : LacksNone (settings_of store) text it
 
     -- Whatever the lines of `packed-refs` are: where calls of `next` give references alone, and then none, each loose reference of
     -- the prefix is among theirs.
@@ -221,7 +241,7 @@ module _ {F : Type 0} where
     abbrev pub FollowsFile : (store : Store F) → (prefix : List ℕ) →
         LooseThenPacked F Remaining → Type 0
     FollowsFile store prefix it = LacksNoLoose store prefix it
-        × OfPackedText means store prefix (λ text. FollowsText (settings_of store) text it)
+        × OfPackedText means store prefix (λ text. FollowsText store prefix text it)
 
     -- An iterator over the listing of a prefix of a store: whatever its calls give are the first items of the listing. A folder
     -- that could not be listed is among them only with a fault that was counted.
@@ -251,8 +271,8 @@ module _ {F : Type 0} where
     abbrev pub FollowsHeld : (store : Store F) → (prefix : List ℕ) → Option (Bor Buffer) →
         Result (LooseThenPacked F Remaining) ListError → Type 0
     FollowsHeld store prefix packed result = IfOk result (LacksNoLoose store prefix)
-        × ((text : Text) → IsTextFor (key_in (settings_of store) prefix) packed text →
-        IfOk result (FollowsText (settings_of store) text))
+        × ((text : Text) → IsTextOf (key_in (settings_of store) prefix) packed text →
+        IfOk result (FollowsText store prefix text))
 
     -- and so over the listing of its pseudo references
     pub record IteratesPseudo (store : Store F) (it : LooseThenPacked F Remaining) : Type 0 where
@@ -295,5 +315,5 @@ module _ {F : Type 0} (honest : Type 0) (means : F → Meaning) (faults : F → 
       Result (LooseThenPacked F Remaining) ListError → Type 0
   FollowsWalked now names packed result = (start : Store F) → IsWalkedIn start now names →
       IfOk result (LacksNoLoose honest means faults start (walked_prefix names))
-      × ((text : Text) → IsTextFor (key_in (settings_of now) (walked_prefix names)) packed text →
-      IfOk result (FollowsText honest means faults (settings_of now) text))
+      × ((text : Text) → IsTextOf (key_in (settings_of start) (walked_prefix names)) packed text →
+      IfOk result (FollowsText honest means faults start (walked_prefix names) text))

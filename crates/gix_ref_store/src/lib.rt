@@ -33,11 +33,12 @@
 //!   `loose_iter_prefixed`, clause `lists` (`IteratesListing` in `Listings.antt`)
 //! - the same of what a walk found earlier, in the store as it was then, of which only the count of faults has changed; no file
 //!   is called for it: `walk_prefixed`, clause `walks` (`IsWalkedIn` in `Listings.antt`), `iter_walked`, clauses `lists`, `same`
-//! - over any `packed-refs`: where a listing gives no fault, each loose reference of the prefix is among its references; and where
-//!   the names of `packed-refs`, or of a buffer that is given, ascend, each name that is due by a line of a record's form; and there
-//!   its first fault, if it is about a line, is about one that is no record, and has its number: `iter_packed`,
-//!   `iter_prefixed_packed`, `iter_walked`, `file::iter::Platform::all`, `prefixed`, clause `complete` (`LacksNoLoose`,
-//!   `FollowsText`, `FollowsFile` in `Listings.antt`; `IsDue`, `IsFaultIn` in `gix_ref_listing/specs/OwedNames.antt`)
+//! - over any `packed-refs`: each item of a listing is of a loose reference or a folder that was found, or it is of a record that
+//!   begins a line, or a fault about a line that is no record, with its number; where none is a fault, each loose reference of the
+//!   prefix is among them; and where the names of `packed-refs`, or of a buffer that is given, ascend, each name that is due by a line
+//!   of a record's form: `iter_packed`, `iter_prefixed_packed`, `iter_walked`, `file::iter::Platform::all`, `prefixed`, clause
+//!   `complete` (`LacksNoLoose`, `FollowsText`, `FollowsFile` in `Listings.antt`; `IsTextItem` in
+//!   `gix_ref_listing/specs/PackedTexts.antt`, `IsDue` in `OwedNames.antt`)
 //! - a record that is lent is the next item, as `next` gives it; none is lent only where no record comes next or the store
 //!   prohibits device names, and then nothing is taken: `file::iter::LooseThenPacked::next_record`, clauses `lends` (`LendsNext`
 //!   in `Listings.antt`), `none`, `stays`

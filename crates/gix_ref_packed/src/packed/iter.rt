@@ -3,7 +3,7 @@ ghost use Rattle.std.specs.Prelude.{◌≡◌, ◌⊎◌, ◌+◌, ◌<◌, ◌^
 ghost use Rattle.std.specs.Iterator.{at_most};
 ghost use Rattle.gix_ref_target.specs.PackedRecords.{Record};
 ghost use Rattle.gix_ref_packed_text.specs.RecordGrammar.{Records, Rising};
-ghost use Rattle.gix_ref_packed_text.specs.Prefixes.{IsBadStart, IsListStart, NamesAscend, SplitsAt, SplitsLines};
+ghost use Rattle.gix_ref_packed_text.specs.Prefixes.{IsBadLineAt, IsBadStart, IsItemStart, NamesAscend, SplitsAt, SplitsLines};
 
 mod error;
 mod parts;
@@ -14,24 +14,41 @@ pub use error::Error;
 use gix_ref_hash::hash::Kind;
 use gix_ref_packed_text::packed::Reference;
 use gix_ref_packed_text::packed::bound::lower_bound_in_memory;
-use gix_ref_packed_text::packed::decode::take_record;
+use gix_ref_packed_text::packed::decode::{begins_with_caret, take_record};
 use gix_ref_packed_text::packed::header_end::{first_line_behind, read_header_end};
 use parts::{begins_with_prefix, begins_with_record, count_line_feeds, cut_line, first_line};
 
+/// The line that is no record, where halving met one without the form of a record at a place. Where that begins with `^` it may
+/// be of the record before it, and the line after it is the one.
+fn bad_line_at(text: &[u8], place: usize) -> usize
+    requires { place < length text.now }
+    ensures { (kind : Kind) → IsBadStart kind text.now place → IsBadLineAt kind text.now result }
+{
+    if place == 0 || !begins_with_caret(&text[place..]) {
+        return place;
+    }
+    let (_, rest) = cut_line(&text[place..]);
+    text.len() - rest.len()
+}
+
 /// Where the records of a prefix begin. Where halving met a line that has not the form of a record, that is the front of the
-/// text, if a record of the prefix is there, and else that line.
+/// text, if a record of the prefix is there, and else a line that is no record.
 fn first_of_prefix(text: &[u8], kind: Kind, prefix: &[u8]) -> usize
-    ensures starts { IsListStart text.now result }
+    ensures starts { IsItemStart kind text.now result }
     ensures splits { (rs : List Record) → Records kind text.now rs → Rising rs →
         SplitsAt kind text.now rs prefix.now result }
-    ensures lines { NamesAscend kind text.now → IsBadStart kind text.now result
+    ensures lines { NamesAscend kind text.now → IsBadLineAt kind text.now result
         ⊎ SplitsLines kind text.now prefix.now result }
 {
     let bound = lower_bound_in_memory(text, kind, prefix);
-    if bound.is_malformed && begins_with_record(text, kind, prefix) {
+    let place = bound.place as usize;
+    if !bound.is_malformed {
+        return place;
+    }
+    if begins_with_record(text, kind, prefix) {
         return 0;
     }
-    bound.place as usize
+    bad_line_at(text, place)
 }
 
 /// The records of a text, and a fault for each line that is no record. A record whose line with `^` is bad is two faults.
@@ -136,10 +153,10 @@ impl Buffer {
     ghost use Rattle.std.specs.Iterator.Runs.{EachRunFrom};
     ghost use Rattle.gix_ref_target.specs.PackedRecords.{Record};
     ghost use Rattle.gix_ref_packed_text.specs.RecordGrammar.{Records, Rising};
-    ghost use Rattle.gix_ref_packed_text.specs.Prefixes.{records_prefixed, IsListStart, NamesAscend};
-    ghost use Rattle.gix_ref_packed.specs.Buffers.{buffer_text, buffer_kind};
+    ghost use Rattle.gix_ref_packed_text.specs.Prefixes.{records_prefixed, IsItemStart, NamesAscend};
+    ghost use Rattle.gix_ref_packed.specs.Buffers.{buffer_text, buffer_kind, buffer_line};
     ghost use Rattle.gix_ref_packed.specs.Items.{ItemStep, AreItems, AreRecords, unread_buffer, unread_from};
-    ghost use Rattle.gix_ref_packed.specs.YetToGive.{IsYet, Owes};
+    ghost use Rattle.gix_ref_packed.specs.YetToGive.{IsRestOf, IsYet, Owes};
 
     /// The records of the buffer, in the order of their names. Lines are numbered as in the file that was opened. As
     /// gix-ref's `packed::Buffer::iter`.
@@ -179,7 +196,8 @@ impl Buffer {
     pub fn iter_prefixed(&self, prefix: Vec<u8>) -> Iter<'_>
         // Whatever calls of `next` follow, they give the records and faults from the start of a line on, up to the first
         // other name.
-        ensures items { (start : ℕ) × IsListStart (buffer_text self.now) start
+        ensures items { (start : ℕ)
+            × IsItemStart (buffer_kind self.now) (buffer_text self.now) start
             × EachRunFrom ItemStep result (λ run. AreItems (run.whole ≡ true)
             (unread_from self.now prefix.items start) run.items) }
 
@@ -191,6 +209,10 @@ impl Buffer {
         // The same for a caller that takes one item at a time: it is yet to give those of the prefix.
         ensures yet { (rs : List Record) → Records (buffer_kind self.now) (buffer_text self.now)
             rs → Rising rs → IsYet result (records_prefixed prefix.items rs) }
+
+        // The same for a caller that takes one item at a time, whatever the text is.
+        ensures rest { IsRestOf (buffer_kind self.now) (buffer_text self.now)
+            (buffer_line self.now) (Some prefix.items) result }
 
         // Whatever the lines are, where the names ascend: a record of each name of the prefix is yet to come, or a fault.
         ensures owes { NamesAscend (buffer_kind self.now) (buffer_text self.now) →

@@ -4,7 +4,7 @@ ghost use Rattle.gix_ref_packed.specs.Buffers.{OpenedHoldsRecords};
 ghost use Rattle.gix_ref_packed.specs.OpenFiles.{OpenedFileHoldsRecords};
 ghost use Rattle.gix_ref_packed.specs.FilePrefixes.{PrefixedBuffersHold};
 ghost use Rattle.gix_ref_packed.specs.RecordsOfText.{RecordsAreComputed, TextsAreRead};
-ghost use Rattle.gix_ref_packed.specs.YetToGive.{NextGivesTheFirst, NextPaysOne, FaultsAreLines, EndedStaysEnded};
+ghost use Rattle.gix_ref_packed.specs.YetToGive.{NextGivesTheFirst, NextPaysOne, NextIsOf, FaultsAreLines, EndedStaysEnded};
 
 use crate::packed::file::PackedFile;
 use gix_ref_files::files::ReadAt;
@@ -29,11 +29,12 @@ pub fn records_are_computed()
 {}
 
 /// One call of `next` of an `Iter`: where records are left it gives the first of them; of a text with other lines it gives one
-/// of those that it owes, or a fault; each of its faults is a line, not a header; and after its end it gives nothing more. For a
-/// caller that keeps an `Iter` and takes one item at a time.
+/// of those that it owes, or a fault; what it gives of any text is a record or a bad line of it; each of its faults is a line, not a
+/// header; and after its end it gives nothing more. For a caller that keeps an `Iter` and takes one item at a time.
 pub fn next_gives_the_first()
     ensures first { NextGivesTheFirst }
     ensures pays { NextPaysOne }
+    ensures of { NextIsOf }
     ensures lines { FaultsAreLines }
     ensures ended { EndedStaysEnded }
 {}

@@ -2,7 +2,7 @@
 ghost use Rattle.std.specs.Prelude.{◌≡◌, List, true, false, IfOk, IfErr};
 ghost use Rattle.gix_ref_target.specs.PackedRecords.{Record};
 ghost use Rattle.gix_ref_packed_text.specs.RecordGrammar.{Records, Rising};
-ghost use Rattle.gix_ref_packed_text.specs.Prefixes.{SplitsAt, SplitsLines, IsListStart, IsBadStart, NamesAscend};
+ghost use Rattle.gix_ref_packed_text.specs.Prefixes.{SplitsAt, SplitsLines, EndsHalving, IsBadStart, NamesAscend};
 
 use crate::packed::searchable::{InMemory, ProbeMode, SearchableRecords};
 use gix_ref_hash::hash::Kind;
@@ -26,8 +26,8 @@ pub fn lower_bound<T: SearchableRecords>(
     wanted: &[u8],
 ) -> Result<Bound, T::Error>
     ensures kept { (T.bytes text.new ≡ T.bytes text.old) × (T.frame text.new ≡ T.frame text.old) }
-    ensures starts { T.honest →
-        IfOk result (λ bound. IsListStart (T.bytes text.old) bound.place) }
+    ensures starts { T.honest → IfOk result
+        (λ bound. EndsHalving (T.bytes text.old) bound.is_malformed bound.place) }
 
     // Among records whose names do not descend, those before that place are below the wanted one, and those from there on
     // are not.
@@ -75,7 +75,7 @@ pub fn lower_bound<T: SearchableRecords>(
 
 /// Where the first record of a text in memory begins whose name is not below the one that is wanted.
 pub fn lower_bound_in_memory(text: &[u8], kind: Kind, wanted: &[u8]) -> Bound
-    ensures starts { IsListStart text.now result.place }
+    ensures starts { EndsHalving text.now result.is_malformed result.place }
     ensures splits { (rs : List Record) → Records kind text.now rs → Rising rs →
         (result.is_malformed ≡ false) × SplitsAt kind text.now rs wanted.now result.place }
     ensures lines { NamesAscend kind text.now → result.is_malformed ≡ false →

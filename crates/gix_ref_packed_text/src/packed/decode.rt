@@ -10,8 +10,8 @@ use crate::packed::lines::line_start;
 pub use header_line::{header, take_header};
 pub use options::{Header, Peeled};
 pub use record_line::{
-    fast_compare, has_no_control, name_at_record_start, order_at, reference, split_record_line,
-    take_record,
+    begins_with_caret, fast_compare, has_no_control, name_at_record_start, order_at, reference,
+    split_record_line, take_record,
 };
 
 /// Where the record that the byte is in begins: a line with `^` belongs to the line before it. At the end of a text that

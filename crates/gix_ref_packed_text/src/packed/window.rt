@@ -11,7 +11,7 @@ ghost use Rattle.gix_ref_packed_text.specs.Probed.{IsProbeAt};
 ghost use Rattle.gix_ref_packed_text.specs.Views.{record_of};
 
 use crate::packed::Reference;
-use crate::packed::decode::{fast_compare, split_record_line, take_record};
+use crate::packed::decode::{begins_with_caret, fast_compare, split_record_line, take_record};
 use crate::packed::lines::next_place;
 use crate::packed::searchable::{Probe, ProbeMode};
 use gix_ref_hash::hash::{Kind, ObjectId};
@@ -95,7 +95,7 @@ fn lacks_name(part: &[u8], kind: Kind, at_eof: bool) -> bool
 }
 
 /// The name at the front of a record, of which the part may be a beginning; it is the whole text where `at_eof` holds. An
-/// empty name is no name.
+/// empty name is no name, and a line that begins with `^` has none.
 pub fn name_in(part: &[u8], kind: Kind, at_eof: bool) -> InWindow<Option<&[u8]>>
     ensures shows { ShowsName kind at_eof part.now result }
     ensures sure { at_eof ≡ true → IsHere result }
@@ -106,7 +106,7 @@ pub fn name_in(part: &[u8], kind: Kind, at_eof: bool) -> InWindow<Option<&[u8]>>
         }
         return InWindow::NeedMore;
     };
-    if name.is_empty() {
+    if name.is_empty() || begins_with_caret(part) {
         return InWindow::Here(None);
     }
     InWindow::Here(Some(name))

@@ -351,7 +351,8 @@ impl<F: Files> Store<F> {
     ///
     /// The folders of the loose references are listed now, one call of files each; a file is read when its reference is given,
     /// and a record is decoded when it is given. A folder that cannot be listed is an item, a fault; so is a line of the buffer that is
-    /// no record. Where no item is a fault none of the records is missing, as long as their names ascend.
+    /// no record. Where no item is a fault none of the records is missing, as long as their names ascend. Whatever the lines of the
+    /// buffer are, each reference is a loose one, or that of a record which begins a line.
     ///
     /// Beside a program that packs loose references, one that it packs between the opening of the buffer and this call is in
     /// neither: there walk first, by `walk_prefixed`, or list by a `Platform`.

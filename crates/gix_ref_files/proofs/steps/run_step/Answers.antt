@@ -7,6 +7,7 @@ use Rattle.gix_ref_files.proofs.Between.{counted_once_done}
 use Rattle.gix_ref_files.specs.Tree.{Tree}
 use Rattle.gix_ref_files.specs.DiskSteps.{syncs_of}
 use Rattle.gix_ref_files.proofs.Stops.{some_synced_trees}
+use Rattle.gix_ref_files.proofs.Runs.{ends_with}
 use Rattle.gix_ref_files.proofs.steps.run_step.Goals as goal
 
 pub returns-in-Ok-clause-done : goal.returns-in-Ok-clause-done
@@ -23,6 +24,11 @@ returns-in-Err-clause-ended g c h =
     let does : Does (step_of c.args.action.now) before (g.F.Files.means c.sync_after.new.files).tree =
     subst (λ (T : Tree). Does (step_of c.args.action.now) before T) (sym same) (c.in_ok-change.ensures.done h) in
     search (rules, does)
+
+pub returns-in_err-change-clause-ended_on : goal.returns-in_err-change-clause-ended_on
+returns-in_err-change-clause-ended_on g c h =
+    let ends = ends_with (step_of c.args.action.now) (syncs_of c.args.action.now c.args.settle) _ _ _ (c.in_err-change.ensures.ended_on h) in
+    search (rules, ends)
 
 pub returns-in-Err-clause-count : goal.returns-in-Err-clause-count
 returns-in-Err-clause-count g c =

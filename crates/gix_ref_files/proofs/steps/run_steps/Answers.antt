@@ -77,7 +77,7 @@ returns-in-Err-clause-passes g c h = reached_on_err g c h
 
 pub returns-in-Err-clause-ended_on : goal.returns-in-Err-clause-ended_on
 returns-in-Err-clause-ended_on g c h =
-    ended_at c.args.plan.now c.loop-at.at c.index-plan-at.result _ _ _ c.loop-at-test.true c.index-plan-at.is (c.loop-at.invariant.synced h) (c.run_step.ensures.passes h).disk
+    ended_at c.args.plan.now c.loop-at.at c.index-plan-at.result c.in-Err.cause _ _ _ c.loop-at-test.true c.index-plan-at.is (c.loop-at.invariant.synced h) (c.in-Err.ensures.ended_on h)
 
 pub returns-clause-synced : goal.returns-clause-synced
 returns-clause-synced g c h = subst (λ (l : List Synced). IsSyncedAfter l (disk_of (g.F.Files.means c.args.files.now)) (disk_of (g.F.Files.means c.loop-at.files))) (whole_front c.args.plan.now c.loop-at.at (omega arith)) (c.loop-at.invariant.synced h)

@@ -8,7 +8,7 @@ returns-clause-next g c =
     record {
       gives = λ listed yet. gives_plain F.honest F.means F.faults c.args.settings c.args.files.now c.take_item.new.files listed c.take_item.result c.take_item.new.merge
           (step.gives listed (of_plain c.args.settings c.args.merge.now listed yet));
-      pays = λ text names owes. pays_plain c.args.settings text names c.take_item.result c.take_item.new.merge (step.pays text names (owes_of_plain c.args.settings text names c.args.merge.now owes));
+      pays = λ text given owes. pays_plain c.args.settings text given c.args.merge.now.found.entries c.take_item.result c.take_item.new.merge (step.pays text given (owes_of_plain c.args.settings text given c.args.merge.now owes));
       found = found_of_plain F.honest F.means F.faults c.args.settings c.args.files.now c.take_item.new.files c.args.merge.now.found.entries c.take_item.new.merge.found.entries c.take_item.result step.found;
       rises = step.rises;
       counts = step.counts;

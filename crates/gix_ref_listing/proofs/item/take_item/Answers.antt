@@ -15,8 +15,8 @@ returns-in-Some-clause-next g c =
       gives = λ listed yet.
           subst (λ (l : List Listed). GivesItem F.honest F.means F.faults c.args.settings before now l (Some c.item.result) c.take.new.self) (sym yet.2)
           (gives_taken F.honest F.means F.faults c.args.settings before now (merged_listing c.args.merge.now.found.entries yet.0) c.in-Some.taken c.item.result c.take.new.self (c.in-Some.ensures.takes yet.0 yet.1) c.item.ensures.item);
-      pays = λ text names owes.
-          item_pays c.args.settings text F.honest (contents F.means before) (F.faults before) (F.faults now) names c.in-Some.taken c.item.result c.take.new.self c.item.ensures.item (c.in-Some.ensures.pays text names owes);
+      pays = λ text given owes.
+          item_pays c.args.settings text F.honest (contents F.means before) (F.faults before) (F.faults now) given c.args.merge.now.found.entries c.in-Some.taken c.item.result c.take.new.self c.item.ensures.item c.in-Some.ensures.found (c.in-Some.ensures.pays text given owes);
       found = gives_found F.honest F.means F.faults c.args.settings before now c.args.merge.now.found.entries c.take.new.self.found.entries c.in-Some.taken c.item.result c.in-Some.ensures.found c.item.ensures.item;
       rises = c.item.ensures.looks.no_fewer;
       counts = counts_none (F.faults before) (F.faults now) c.item.result c.item.ensures.no_fault;

@@ -20,5 +20,5 @@ returns-in-Ok-clause-owes g c h =
     let F = g.F.Files in
     let settings = c.args.settings in
     let view = view_of (F.means c.args.files.now).tree in
-    subst (λ (p : List ℕ). OwesHeld settings view p c.args.packed c.merge_walked.result) c.in-Ok.ensures.asked
+    subst (λ (p : List ℕ). OwesHeld settings view p c.args.packed (F.faults c.args.files.now) (F.faults c.walk.new.files) c.merge_walked.result) c.in-Ok.ensures.asked
     (c.merge_walked.ensures.owes view (F.faults c.args.files.now) (F.faults c.walk.new.files) (c.in-Ok.ensures.walks h))

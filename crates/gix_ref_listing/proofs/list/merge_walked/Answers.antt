@@ -1,10 +1,10 @@
-use Rattle.std.proofs.Common.{sym, ap, subst, List, ℕ, []}
+use Rattle.std.proofs.Common.{sym, ap, subst, List, ℕ, [], Some}
 use Rattle.gix_ref_packed_text.specs.Prefixes.{records_prefixed}
 use Rattle.gix_ref_listing.specs.OwnRecords.{own_records}
 use Rattle.gix_ref_listing.specs.Listings.{merged_listing}
 use Rattle.gix_ref_listing.specs.WholeListings.{AreHeldOf, IsAskedOf, key_in}
 use Rattle.gix_ref_listing.specs.PlainSettings.{plain}
-use Rattle.gix_ref_listing.specs.OwedNames.{IsTextFor}
+use Rattle.gix_ref_listing.specs.PackedTexts.{IsTextOf}
 use Rattle.gix_ref_listing.proofs.OwedLemmas.{under_names}
 use Rattle.gix_ref_listing.proofs.PlainListings.{same_own, to_plain, owes_to_plain}
 use Rattle.gix_ref_listing.proofs.Listing.{found_rises, listing_is, all_names}
@@ -31,9 +31,9 @@ returns-clause-owes c view before now walk =
     let settings = c.args.settings in
     let prefix = c.args.names.prefix.items in
     let named = under_names (plain settings) view prefix c.args.names.found.entries walk.there in (
-      record { named = named; finds = walk.finds },
+      record { there = walk.there; files = walk.files; finds = walk.finds },
       λ text given.
-          let asked = subst (λ (p : List ℕ). IsTextFor (key_in settings p) c.args.packed text) (sym c.deref.ensures.value) given in
-          owes_to_plain settings text [] record { found = c.args.names.found; packed = c.of-packed.result }
-          (record { found = named; packed = c.of-packed.ensures.owes text [] (c.in_ok-records.ensures.owes settings text asked) }),
+          let asked = subst (λ (p : List ℕ). IsTextOf (key_in settings p) c.args.packed text) (sym c.deref.ensures.value) given in
+          owes_to_plain settings text (Some []) record { found = c.args.names.found; packed = c.of-packed.result }
+          (record { found = named; packed = c.of-packed.ensures.owes text (Some []) (c.in_ok-records.ensures.owes settings text asked) }),
     )

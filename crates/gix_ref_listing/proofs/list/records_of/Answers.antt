@@ -1,12 +1,12 @@
 use Rattle.std.proofs.Common.{◌∙◌, ap, subst, ◌++◌, ℕ, List, [], Some, sym}
 use Rattle.gix_ref_target.specs.PackedRecords.{Record}
 use Rattle.gix_ref_packed_text.specs.Prefixes.{records_prefixed}
-use Rattle.gix_ref_packed.specs.YetToGive.{IsYet}
+use Rattle.gix_ref_packed.specs.YetToGive.{IsRestOf, IsYet, Owes}
 use Rattle.gix_ref_packed.specs.Buffers.{buffer_kind, buffer_line, buffer_text}
 use Rattle.gix_ref_lookup.specs.StoreLayout.{namespace_text}
-use Rattle.gix_ref_listing.specs.OwedNames.{Text, OwesOthers}
+use Rattle.gix_ref_listing.specs.OwedNames.{OwesOthers}
+use Rattle.gix_ref_listing.specs.PackedTexts.{Text}
 use Rattle.gix_ref_listing.proofs.OwedLemmas.{owes_all}
-use Rattle.gix_ref_listing.proofs.FaultRuns.{ItemsFrom, faults_in}
 use Rattle.gix_ref_listing.proofs.list.records_of.Goals as goal
 
 pub returns-in_ok-key-in-Some-clause-asked : goal.returns-in_ok-key-in-Some-clause-asked
@@ -22,11 +22,12 @@ returns-in_ok-key-in-Some-clause-asked c records given =
 
 pub returns-in_ok-key-in-Some-clause-owes : goal.returns-in_ok-key-in-Some-clause-owes
 returns-in_ok-key-in-Some-clause-owes c settings text given =
-    let of = rw c.in-Some.is at given in
+    let is = rw c.in-Some.is at given in
     let key = c.in_ok-key-in-Some.ensures ∙ ap (λ n. n ++ c.args.prefix.now) c.text_of.ensures.text in
     let buffer = c.in-Some.buffer.now in
     let it = c.iter_prefixed.result in
     let asked : Text = record { kind = buffer_kind buffer; bytes = buffer_text buffer; line = buffer_line buffer; key = namespace_text c.args.namespace.now ++ c.args.prefix.now } in
-    subst (λ (t : Text). OwesOthers settings t [] (Some it)) (sym of.0)
-    (owes_all settings asked _ key it (c.iter_prefixed.ensures.owes of.1)
-    (faults_in asked it (λ rs records rise. subst (λ (k : List ℕ). IsYet it (records_prefixed k rs)) key (c.iter_prefixed.ensures.yet rs records rise)) (subst (λ (k : List ℕ). ItemsFrom buffer k it) key c.iter_prefixed.ensures.items)))
+    subst (λ (t : Text). OwesOthers settings t (Some []) (Some it)) (sym is)
+    (owes_all settings asked it
+    (subst (λ (k : List ℕ). IsRestOf (buffer_kind buffer) (buffer_text buffer) (buffer_line buffer) (Some k) it) key c.iter_prefixed.ensures.rest)
+    (λ up. subst (λ (k : List ℕ). Owes (buffer_kind buffer) (buffer_text buffer) k [] it) key (c.iter_prefixed.ensures.owes up)))

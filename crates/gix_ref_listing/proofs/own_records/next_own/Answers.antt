@@ -22,22 +22,22 @@ loop-item-preserved c = record {
       let before = c.loop-item.invariant.yet rs yet in
       let took = rw c.in-Ok.is at (next_gives_first c.loop-item.records c.next.new.self (Some c.in-Some.item) before.0 c.in-Some.ensures.steps before.2) in
       (took.0, before.1 ∙ (ap (own_records c.args.settings) took.1 ∙ ap (λ n. with_own n (record_of c.in-Ok.record) (own_records c.args.settings took.0)) (sym c.in_default-name_of_key.ensures)), took.2);
-  owes = λ text names owes.
-      passed c.args.settings text names c.loop-item.records c.next.new.self c.in-Ok.record (rw c.in-Ok.is at c.in-Some.ensures.steps) (sym c.in_default-name_of_key.ensures) (c.loop-item.invariant.owes text names owes);
+  owes = λ text given owes.
+      passed c.args.settings text given c.loop-item.records c.next.new.self c.in-Ok.record (rw c.in-Ok.is at c.in-Some.ensures.steps) (sym c.in_default-name_of_key.ensures) (c.loop-item.invariant.owes text given owes);
   less = search rules;
 }
 
 pub returns-in-Err-clause-owes : goal.returns-in-Err-clause-owes
-returns-in-Err-clause-owes c text names owes =
-    met c.args.settings text names c.loop-item.records c.next.new.self _ (rw c.in-Err.is at c.in-Some.ensures.steps) (c.loop-item.invariant.owes text names owes)
+returns-in-Err-clause-owes c text given owes =
+    met c.args.settings text given c.loop-item.records c.next.new.self _ (rw c.in-Err.is at c.in-Some.ensures.steps) (c.loop-item.invariant.owes text given owes)
 
 pub returns-in-Some-name_of_key-clause-owes : goal.returns-in-Some-name_of_key-clause-owes
-returns-in-Some-name_of_key-clause-owes c text names owes =
-    taken c.args.settings text names c.loop-item.records c.next.new.self c.in-Ok.record _ (rw c.in-Ok.is at c.in-Some.ensures.steps) (sym c.in-Some-name_of_key.ensures) (c.loop-item.invariant.owes text names owes)
+returns-in-Some-name_of_key-clause-owes c text given owes =
+    taken c.args.settings text given c.loop-item.records c.next.new.self c.in-Ok.record _ (rw c.in-Ok.is at c.in-Some.ensures.steps) (sym c.in-Some-name_of_key.ensures) (c.loop-item.invariant.owes text given owes)
 
 pub returns-clause-owes : goal.returns-clause-owes
-returns-clause-owes c text names owes =
-    ended c.args.settings text names c.loop-item.records c.next.new.self c.in_default.ensures.steps (c.loop-item.invariant.owes text names owes)
+returns-clause-owes c text given owes =
+    ended c.args.settings text given c.loop-item.records c.next.new.self c.in_default.ensures.steps (c.loop-item.invariant.owes text given owes)
 
 pub returns-clause-gives : goal.returns-clause-gives
 returns-clause-gives c rs yet =

@@ -1,7 +1,8 @@
-use Rattle.std.proofs.Common.{ℕ, List, Some, ◌≡◌, ◌≤◌}
+use Rattle.std.proofs.Common.{List, Some, ◌≡◌, ◌≤◌}
 use Rattle.gix_ref_target.specs.PackedRecords.{Record}
 use Rattle.gix_ref_packed.specs.YetToGive.{IsYet}
-use Rattle.gix_ref_listing.specs.OwedNames.{Text, OwesOthers}
+use Rattle.gix_ref_listing.specs.OwedNames.{Given, OwesOthers}
+use Rattle.gix_ref_listing.specs.PackedTexts.{Text}
 use Rattle.gix_ref_listing.specs.OwnRecords.{own_records, records_left}
 use Rattle.gix_ref_listing.proofs.own_records.next_own.Given as goal
 
@@ -12,6 +13,6 @@ decreases-loop-item l = records_left l.records
 abbrev pub invariant-loop-item : goal.invariant-loop-item
 invariant-loop-item l = record {
   yet : (rs : List Record) → IsYet l.fn.records rs → (more : List Record) × (own_records l.settings rs ≡ own_records l.settings more) × IsYet l.records more;
-  owes : (text : Text) (names : List (List ℕ)) → OwesOthers l.settings text names (Some l.fn.records) → OwesOthers l.settings text names (Some l.records);
+  owes : (text : Text) (given : Given) → OwesOthers l.settings text given (Some l.fn.records) → OwesOthers l.settings text given (Some l.records);
   less : records_left l.records ≤ records_left l.fn.records;
 }

@@ -5,9 +5,10 @@ ghost use Rattle.std.specs.Cmp.Lexicographic.{slice_cmp};
 ghost use Rattle.std.specs.Ordering.{nat_cmp};
 ghost use Rattle.std.specs.declared.cmp.Ordering.TheVariants.{Equal};
 ghost use Rattle.std.specs.Option.{option_map};
+ghost use Rattle.gix_ref_hash.specs.Bytes.{StopsAt};
 ghost use Rattle.gix_ref_hash.specs.Ids.{IsHexOf, kind_len};
 ghost use Rattle.gix_ref_target.specs.PackedRecords.{Record};
-ghost use Rattle.gix_ref_packed_text.specs.RecordGrammar.{RecordLine, Takes, OptionalPeeledLine};
+ghost use Rattle.gix_ref_packed_text.specs.RecordGrammar.{RecordLine, Takes, OptionalPeeledLine, is_caret};
 ghost use Rattle.gix_ref_packed_text.specs.Positions.{NameAt, Compares, IsPlain, OrdersIfNamed};
 ghost use Rattle.gix_ref_packed_text.specs.Views.{record_of};
 
@@ -111,8 +112,20 @@ pub fn reference<'a>(input: &mut &'a [u8], kind: Kind) -> Result<Reference<'a>, 
     }
 }
 
-/// The bytes in the place of the name, where a record begins; `None` where no line of a record's form is there, or
-/// the name is empty. Neither id nor name is checked. As gix-ref's private `packed::decode::name_at_record_start`.
+/// Whether the text begins with `^`.
+#[inline(always)]
+pub fn begins_with_caret(text: &[u8]) -> bool
+    ensures { MatchBool result (StopsAt is_caret text.now → ⊥) (StopsAt is_caret text.now) }
+{
+    match text {
+        [b'^', ..] => true,
+        _ => false,
+    }
+}
+
+/// The bytes in the place of the name, where a record begins; `None` where no line of a record's form is there, it begins
+/// with `^`, or the name is empty. Neither id nor name is checked. As gix-ref's private
+/// `packed::decode::name_at_record_start`.
 pub fn name_at_record_start(text: &[u8], kind: Kind) -> Option<&[u8]>
     ensures { MatchOption result ((name : List ℕ) → name ≢ [] → NameAt kind text.now name → ⊥)
         (λ name. (name.now ≢ []) × NameAt kind text.now name.now) }
@@ -120,7 +133,7 @@ pub fn name_at_record_start(text: &[u8], kind: Kind) -> Option<&[u8]>
     let Some((_, name, _)) = split_record_line(text, kind) else {
         return None;
     };
-    if name.is_empty() {
+    if name.is_empty() || begins_with_caret(text) {
         return None;
     }
     Some(name)
@@ -171,7 +184,7 @@ pub fn fast_compare(part: &[u8], kind: Kind, wanted: &[u8]) -> Option<Ordering>
     let after = &part[len + 1..];
     let len = after.len().min(wanted.len());
     match after[..len].cmp(&wanted[..len]) {
-        Ordering::Equal => if ends_in_line_feed(after, wanted) {
+        Ordering::Equal => if ends_in_line_feed(after, wanted) && !begins_with_caret(part) {
             Some(Ordering::Equal)
         } else {
             None

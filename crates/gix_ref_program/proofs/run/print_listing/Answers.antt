@@ -36,7 +36,7 @@ returns-in-Ok-open_packed_prefixed-clause-prints g c =
     (λ h records are.
     subst (λ (p : List ℕ). AreHeldFor now p c.as_ref.result records) (sym c.in-Ok.ensures.asked)
     (read_for F.honest F.means mid now prefix opened.packed c.as_ref.result records opened.ensures.unchanged c.as_ref.ensures.value (opened.ensures.holds h records (records_on F.honest F.means start mid records h c.in-Ok.ensures.unchanged are))))
-    (λ h. follows_walked F.honest F.means F.faults h start mid now prefix names opened.packed c.as_ref.result c.in-Ok.ensures.unchanged opened.ensures.unchanged c.in-Ok.ensures.asked c.as_ref.ensures.value (opened.ensures.asked h) (walked h)))
+    (λ h. follows_walked F.honest F.means F.faults h start mid now prefix names opened.packed c.as_ref.result c.in-Ok.ensures.unchanged c.in-Ok.ensures.asked c.as_ref.ensures.value (opened.ensures.asked h) (walked h)))
     c.print_among.ensures.prints)
 
 pub returns-in-Err-clause-prints : goal.returns-in-Err-clause-prints

@@ -16,13 +16,13 @@ pub returns-in-None-clause-ends : goal.returns-in-None-clause-ends
 returns-in-None-clause-ends c = (none_left c.args.self.now.found.entries c.args.self.now.packed.first (sym c.order.ensures ∙ c.in-Greater.is) c.in-None.ensures.was, c.in-None.ensures.ends)
 
 pub returns-in-Less-clause-pays : goal.returns-in-Less-clause-pays
-returns-in-Less-clause-pays c text names owes =
-    less_pays c.args.settings text names c.args.self.now c.take_found.new.self c.take_found.result (sym c.order.ensures ∙ c.in-Less.is) c.take_found.ensures.takes c.take_found.ensures.packed owes
+returns-in-Less-clause-pays c text given owes =
+    less_pays c.args.settings text given c.args.self.now c.take_found.new.self c.take_found.result (sym c.order.ensures ∙ c.in-Less.is) c.take_found.ensures.takes c.take_found.ensures.packed owes
 
 pub returns-in-Equal-clause-pays : goal.returns-in-Equal-clause-pays
-returns-in-Equal-clause-pays c text names owes =
-    equal_pays c.args.settings text names c.args.self.now c.take_found-in-Equal.new.self c.take.new.self c.take.result c.take_found-in-Equal.result (sym c.order.ensures ∙ c.in-Equal.is)
-    c.take.ensures.first (c.take.ensures.pays text names owes.packed) c.take_found-in-Equal.ensures.takes c.take_found-in-Equal.ensures.packed owes
+returns-in-Equal-clause-pays c text given owes =
+    equal_pays c.args.settings text given c.args.self.now c.take_found-in-Equal.new.self c.take.new.self c.take.result c.take_found-in-Equal.result (sym c.order.ensures ∙ c.in-Equal.is)
+    c.take.ensures.first (c.take.ensures.pays text given owes.packed) c.take_found-in-Equal.ensures.takes c.take_found-in-Equal.ensures.packed owes
 
 pub returns-in-Less-clause-found : goal.returns-in-Less-clause-found
 returns-in-Less-clause-found c = first_is_found c.args.self.now.found.entries c.take_found.new.self.found.entries c.take_found.result c.take_found.ensures.takes

@@ -6,7 +6,8 @@ use Rattle.gix_ref_packed.specs.FilePrefixes.{HoldsPrefix, HoldsAsked, BufferHol
 use Rattle.gix_ref_packed_text.specs.Prefixes.{NamesAscend}
 use Rattle.gix_ref_packed.specs.Buffers.{buffer_text, buffer_kind, buffer_line}
 use Rattle.gix_ref_packed.specs.Unsorted.{unsorted_records, unsorted_text}
-use Rattle.gix_ref_packed.proofs.PrefixParts.{holds_all, whole_part}
+use Rattle.gix_ref_packed.proofs.PrefixBuffers.{holds_all}
+use Rattle.gix_ref_packed.proofs.PrefixParts.{whole_part}
 use Rattle.gix_ref_packed.proofs.packed.file.PackedFile.into_prefixed.Goals as goal
 
 pub returns-in-InMemory-clause-holds : goal.returns-in-InMemory-clause-holds

@@ -1,9 +1,10 @@
-use Rattle.std.proofs.Common.{◌≡◌, inr, ◌-◌, List, ℕ, length, take, drop, ◌∙◌, ap, subst, sym}
+use Rattle.std.proofs.Common.{◌≡◌, ◌-◌, List, ℕ, length, take, drop, ◌∙◌, ap, subst, sym}
 use Rattle.gix_ref_packed.specs.Buffers.{buffer_text}
 use Rattle.gix_ref_packed.specs.FilePrefixes.{HoldsAsked}
 use Rattle.gix_ref_packed.proofs.AskedParts.{encloses_whole, part_holds}
 use Rattle.gix_ref_packed_text.specs.RecordGrammar.{Records}
-use Rattle.gix_ref_packed.proofs.PrefixParts.{drop_zero, holds_all, holds_first}
+use Rattle.gix_ref_packed.proofs.PrefixBuffers.{holds_all, holds_first, holds_part}
+use Rattle.gix_ref_packed.proofs.PrefixParts.{drop_zero}
 use Rattle.gix_ref_packed.proofs.packed.sorted_file.SortedFile.read_prefixed.Goals.{then-start-eq0-via-then-start-eq0, then-start-eq0-via-else-start-eq0+then-is_records}
 use Rattle.gix_ref_packed.proofs.packed.sorted_file.SortedFile.read_prefixed.Goals as goal
 
@@ -33,11 +34,8 @@ returns-then-start-eq0-clause-holds g c = λ honest.
       | then-start-eq0-via-then-start-eq0 w ↦ holds_first c.args.kind text c.args.prefix.now c.args.first_line b c.from_start.ensures.kind start end encloses is w.if-start-eq0.true c.from_start.ensures.line
       | then-start-eq0-via-else-start-eq0+then-is_records w ↦
           let well = rw w.if-is_records.true at w.is_records.ensures in
-          record {
-            kind_is = c.from_start.ensures.kind;
-            part = record { start = start; end = end; encloses = encloses; is = is };
-            numbered = inr (well.0, subst (λ (t : List ℕ). Records c.args.kind t well.0) (w.as_slice.ensures.value ∙ sym of_part) well.1);
-          }
+          holds_part c.args.kind text c.args.prefix.now c.args.first_line b c.from_start.ensures.kind start end encloses is well.0
+          (subst (λ (t : List ℕ). Records c.args.kind t well.0) (w.as_slice.ensures.value ∙ sym of_part) well.1)
     ]
 
 pub returns-then-start-eq0-clause-asked : goal.returns-then-start-eq0-clause-asked

@@ -2,11 +2,11 @@ use Rattle.std.proofs.Common.{sym, subst, List, ℕ}
 use Rattle.gix_ref_files.proofs.Meeting.{fewer_same}
 use Rattle.std.specs.Prelude.{IfOk}
 use Rattle.gix_ref_listing.specs.CleanPrefixes.{IsRefusedPrefix}
-use Rattle.gix_ref_store.specs.Listings.{AreHeldFor, IsNoPlatformListing, IteratesListing, LacksNoLoose, platform_store}
+use Rattle.gix_ref_store.specs.Listings.{AreHeldFor, FollowsText, IsNoPlatformListing, IteratesListing, LacksNoLoose, platform_store}
 use Rattle.gix_ref_store.proofs.Platforms.{not_opened}
 use Rattle.gix_ref_store.proofs.Walked.{looks_on, read_for, records_on, walked_on}
 use Rattle.gix_ref_lookup.proofs.Opening.{if_ok, ok_of}
-use Rattle.gix_ref_listing.specs.OwedNames.{IsTextFor}
+use Rattle.gix_ref_listing.specs.PackedTexts.{IsTextOf}
 use Rattle.gix_ref_listing.specs.WholeListings.{key_in}
 use Rattle.gix_ref_store.specs.Lookup.{settings_of}
 use Rattle.gix_ref_store.proofs.CompleteListings.{follows_file}
@@ -37,9 +37,10 @@ returns-clause-complete g c h =
     let prefix = c.args.prefix.now in
     let walked = walked_on F.honest F.means F.faults start mid now names (c.in_ok-names.ensures.walks h) c.in-Ok.ensures.unchanged (fewer_same _ _ c.in-Ok.ensures.no_fault) in
     let of_walk = c.iter_walked.ensures.complete h start walked in
-    follows_file F.honest F.means F.faults h start mid now prefix c.in-Ok.packed c.as_ref.result c.in_ok-names.ensures.unchanged c.in-Ok.ensures.unchanged c.as_ref.ensures.value (c.in-Ok.ensures.asked h) c.iter_walked.result
+    follows_file F.honest F.means F.faults h start mid prefix c.in-Ok.packed c.as_ref.result c.in_ok-names.ensures.unchanged c.as_ref.ensures.value (c.in-Ok.ensures.asked h) c.iter_walked.result
     (subst (λ (p : List ℕ). IfOk c.iter_walked.result (LacksNoLoose F.honest F.means F.faults start p)) c.in_ok-names.ensures.asked of_walk.0)
-    (λ text of. of_walk.1 text (subst (λ (p : List ℕ). IsTextFor (key_in (settings_of now) p) c.as_ref.result text) (sym c.in_ok-names.ensures.asked) of))
+    (λ text of. subst (λ (p : List ℕ). IfOk c.iter_walked.result (FollowsText F.honest F.means F.faults start p text)) c.in_ok-names.ensures.asked
+    (of_walk.1 text (subst (λ (p : List ℕ). IsTextOf (key_in (settings_of start) p) c.as_ref.result text) (sym c.in_ok-names.ensures.asked) of)))
 
 pub returns-in-Err-clause-refused : goal.returns-in-Err-clause-refused
 returns-in-Err-clause-refused g c =

@@ -1,8 +1,8 @@
-use Rattle.std.proofs.Common.{refl, sym, ap, subst}
+use Rattle.std.proofs.Common.{refl, sym, ap, subst, Ok}
 use Rattle.gix_ref_files.proofs.Moments.{starts, passes_starts}
 use Rattle.gix_ref_theory.specs.OnRealTrees.{view_of}
 use Rattle.gix_ref_lookup.specs.declared.settings.Settings.{Settings}
-use Rattle.gix_ref_listing.specs.WholeListings.{HasLoose, IsWalkOf, ListsAll}
+use Rattle.gix_ref_listing.specs.WholeListings.{IsWalkOf, ListsAll, OwesHeld}
 use Rattle.gix_ref_store.specs.Listings.{walked_prefix}
 use Rattle.gix_ref_store.specs.Lookup.{settings_of, view_in}
 use Rattle.gix_ref_store.specs.Store.{files_of}
@@ -45,10 +45,12 @@ returns-in-Ok g c = (
         let same = same_settings start store walked.looks_up.same in
         let before = F.faults (files_of start) in
         let now = F.faults (files_of store) in
-        let owes = c.in-Ok.ensures.owes (view_in F.means start) before now (subst (λ (x : Settings). IsWalkOf x (view_in F.means start) before now c.args.names) same walked.walk) in (
-          no_loose_lacks F.honest F.means F.faults start (walked_prefix c.args.names) _
-              (subst (λ (x : Settings). HasLoose x (view_in F.means start) (walked_prefix c.args.names) c.in-Ok.merge) (sym same) owes.0),
-          λ text of. follows_text F.honest F.means F.faults (settings_of store) text _ refl (owes.1 text of),
+        let prefix = walked_prefix c.args.names in
+        let view = view_in F.means start in
+        let owes = subst (λ (x : Settings). OwesHeld x view prefix c.args.packed before now (Ok c.in-Ok.merge)) (sym same)
+        (c.in-Ok.ensures.owes view before now (subst (λ (x : Settings). IsWalkOf x view before now c.args.names) same walked.walk)) in (
+          no_loose_lacks F.honest F.means F.faults start prefix before now _ owes.0,
+          λ text of. follows_text F.honest F.means F.faults h start prefix text _ (sym same) (ap view_of (walked.looks_up.leaves h).tree) walked.counts owes.0 (owes.1 text of),
         );
   },
 )

@@ -28,8 +28,8 @@ returns-in-Ok g c = (
         };
     complete = λ h.
         let F = g.F.Files in (
-          no_loose_lacks F.honest F.means F.faults c.args.self.now c.args.prefix.now _ (c.in-Ok.ensures.owes h).0,
-          λ text of. follows_text F.honest F.means F.faults (settings_of c.args.self.now) text _ refl ((c.in-Ok.ensures.owes h).1 text of),
+          no_loose_lacks F.honest F.means F.faults c.args.self.now c.args.prefix.now _ _ _ (c.in-Ok.ensures.owes h).0,
+          λ text of. follows_text F.honest F.means F.faults h c.args.self.now c.args.prefix.now text _ refl (ap view_of (c.in-Ok.ensures.looks.leaves h).tree) c.in-Ok.ensures.looks.no_fewer (c.in-Ok.ensures.owes h).0 ((c.in-Ok.ensures.owes h).1 text of),
         );
   },
 )
