@@ -185,7 +185,8 @@ impl Buffer {
 
     /// The records whose names begin with the prefix, in the order of their names: the first is found by halving, and
     /// the first other name ends them. Where halving meets a line that has not the form of a record, they begin with that
-    /// line, which is a fault, or at the front of the text, if that is a record of the prefix. So where no item is a fault,
+    /// line, which is a fault, or at the front of the text, if that is a record of the prefix; if it is the `^` line of a
+    /// record, which a second `^` line follows, they begin with the second. So where no item is a fault and names ascend,
     /// none of the records is missing. As gix-ref's `packed::Buffer::iter_prefixed`.
     ///
     /// ```text
