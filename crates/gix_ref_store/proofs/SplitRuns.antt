@@ -2,7 +2,7 @@
 use Rattle.gix_ref_transaction.proofs.Faults.{risen_by_before, risen_by_none}
 use Rattle.gix_ref_files.proofs.Meeting.{no_fewer_joins, no_fewer_starts}
 use Rattle.gix_ref_files.specs.declared.files.FileError.{FileError}
-use Rattle.std.proofs.Common.{◌≡◌, ◌⊎◌, inl, inr, ⊎_elim, List, [], true, Option, refl, sym, ◌∙◌, ap, subst, arith, Result, Ok, Err, IfOk, IfErr, length}
+use Rattle.std.proofs.Common.{◌≡◌, ◌⊎◌, inl, inr, ⊎_elim, List, [], true, Option, refl, sym, ◌∙◌, ap, subst, arith, Result, Ok, Err, IfOk, IfErr, MatchResult, Vec, Global, length}
 use Rattle.gix_ref_target.specs.Targets.{TargetValue}
 use Rattle.gix_ref_files.specs.Disk.{Disk}
 use Rattle.gix_ref_files.specs.Tree.{Tree, Path}
@@ -192,11 +192,11 @@ refused_unread honest read means faults claims meaning mode old given error left
 
 -- The split list of edits, from what the splits say of it.
 module _ {F : Type 0} (honest : Type 0) (means : F → Meaning) (faults : F → FaultCounts) (old : Store F) (given : List RefEdit) (valid : AllValid (meaning_of old) (kind_of old) [] given) where
-  pub splits_from : (r : Result SplitEdits Error) → IfOk r (IsSplitOf honest (meaning_of old) (kind_of old) (tree_of means old) given) → (AreDirect given → IfOk r (λ split. split.edits.items ≡ given)) →
+  pub splits_from : (r : Result SplitEdits (Error × Vec RefEdit Global)) → IfOk r (IsSplitOf honest (meaning_of old) (kind_of old) (tree_of means old) given) → (AreDirect given → MatchResult r (λ split. split.edits.items ≡ given) (λ e. e.1.items ≡ given)) →
       IfOk r (λ split. SplitsFrom honest means faults old given split.edits.items)
   splits_from (Ok split) splits direct = record { is = splits.is; can_follow = splits.can_follow; valid = valid; updates = splits.updates; direct = direct }
   splits_from (Err error) splits direct = tt
 
-  pub split_cause : (new : F) (r : Result SplitEdits Error) → IfErr r (IsNotSplit honest means faults (meaning_of old) given (files_of old) new) → honest → IfErr r (IsSplitCause (meaning_of old) (kind_of old) (tree_of means old) given)
+  pub split_cause : (new : F) (r : Result SplitEdits (Error × Vec RefEdit Global)) → IfErr r (λ e. IsNotSplit honest means faults (meaning_of old) given (files_of old) new e.0) → honest → IfErr r (λ e. IsSplitCause (meaning_of old) (kind_of old) (tree_of means old) given e.0)
   split_cause new (Ok split) refused h = tt
   split_cause new (Err error) refused h = ⊎_elim (λ outside. inl outside) (λ cause. inr (inr (valid, cause))) (refused.cause h)

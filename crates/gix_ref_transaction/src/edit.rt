@@ -313,23 +313,16 @@ fn write_lock<F: Files>(files: &mut F, lock: &LockFile, text: &[u8]) -> Result<(
 }
 
 impl Edit {
-    /// An edit that is not begun, with the place of the edit that it was split from, and the paths of its lock.
-    pub fn at(
-        alloc: Global,
-        settings: &Settings<'_>,
-        update: RefEdit,
-        parent: Option<usize>,
-    ) -> Result<Edit, AllocError>
-        ensures update { IfOk result (λ edit. edit.update ≡ update) }
-        ensures parent { IfOk result (λ edit. edit.parent ≡ parent) }
-        ensures place { IfOk result (λ edit. edit.lock
-            ≡ (setting_of settings.now).place (name_of update)) }
+    /// An edit that is not begun, with the place of the edit that it was split from, and the file of its lock.
+    pub fn new(update: RefEdit, parent: Option<usize>, lock: LockFile) -> Edit
+        ensures update { result.update ≡ update }
+        ensures parent { result.parent ≡ parent }
+        ensures place { result.lock ≡ lock }
     {
-        let place = settings.place(alloc, update.name.as_ref())?;
-        Ok(Edit {
+        Edit {
             update,
             parent,
-            lock: LockFile::at(place)?,
+            lock,
             packed: None,
             put: None,
             found: None,
@@ -337,7 +330,14 @@ impl Edit {
             effect: Effect::Keep,
             log_seen: None,
             log: LogEffect::Keep,
-        })
+        }
+    }
+
+    /// What it asks for.
+    pub fn into_update(self) -> RefEdit
+        ensures { result ≡ self.update }
+    {
+        self.update
     }
 
     /// Whether its log was seen, and is a file.

@@ -1,5 +1,5 @@
 //! The locks of a transaction, removed: those that a commit has not renamed, or all.
-ghost use Rattle.std.specs.Prelude.{◌≡◌, ◌≤◌, ◌<◌, ◌+◌, ◌⊎◌, ℕ, [], ◌++◌, IfOk, IsTrue, true, false, not, ◌&&◌, map, nat_lt, vec_len, if◌then◌else◌};
+ghost use Rattle.std.specs.Prelude.{◌≡◌, ◌≤◌, ◌<◌, ◌+◌, ◌⊎◌, ℕ, [], ◌++◌, IfOk, IsTrue, true, false, not, ◌&&◌, map, take, drop, reverse, nat_lt, vec_len, if◌then◌else◌};
 ghost use Rattle.std.specs.Vec.{vec_capacity};
 ghost use Rattle.std.specs.Bool.{OnFalse};
 ghost use Rattle.gix_ref_files.specs.Lock.{lock_of};
@@ -7,10 +7,10 @@ ghost use Rattle.gix_ref_files.specs.Tree.{Path, is_file};
 ghost use Rattle.gix_ref_files.specs.Files.{OnEveryDisk, HasRisen, NoFewer};
 ghost use Rattle.gix_ref_files.specs.DiskCalls.{RemovingFileOn};
 ghost use Rattle.gix_ref_transaction.specs.OwnLocks.{paths_of, is_in};
-ghost use Rattle.gix_ref_transaction.specs.CommitRenames.{path_in, stays_at};
+ghost use Rattle.gix_ref_transaction.specs.CommitRenames.{log_at, path_in, place_at, stays_at};
 ghost use Rattle.gix_ref_transaction.specs.Effects.{is_write};
 ghost use Rattle.gix_ref_transaction.specs.LeftLocks.{OthersAreGone, AddsEdit, AreNamedOnce, HandsBack, HasRoom, HasRoomForEdits, NamesMore, OnlyReleases};
-ghost use Rattle.gix_ref_transaction.specs.PrepareSteps.{held_locks, lock_paths, packed_places};
+ghost use Rattle.gix_ref_transaction.specs.PrepareSteps.{held_locks, lock_paths, packed_places, updates};
 
 use crate::edit::{Edit, LogEffect};
 use gix_ref_edits::transaction::RefEdit;
@@ -151,17 +151,19 @@ fn release<F: Files>(files: &mut F, done: usize, at: usize, edit: &Edit) -> bool
     remove_lock(files, edit.lock.path())
 }
 
-/// Removes the locks of these edits except for those that were renamed, where the edits before `done` are done. Hands back the edits,
-/// the place of the edit at `done` and the path of its log, and after the paths in `remains` the locks that could not be
-/// removed. Takes no memory, and where all were renamed makes no call.
-pub fn release_locks<F: Files>(
+/// Removes the locks of these edits, the last first, except for those that were renamed, where the edits before `done` are done.
+/// The edits are added to those that remain, in that order. There is room for them.
+fn release_each<F: Files>(
     files: &mut F,
     done: usize,
     mut edits: Vec<Edit>,
     mut remains: Remains,
 ) -> Remains
-    requires room { HasRoomForEdits edits remains }
-    ensures back { HandsBack edits done result }
+    requires room { vec_len edits + vec_len remains.left ≤ vec_capacity remains.left }
+    requires room_for_edits { vec_len edits + vec_len remains.edits ≤ vec_capacity remains.edits }
+    ensures edits { result.edits.items ≡ remains.edits.items ++ reverse (updates edits.items) }
+    ensures place { done < vec_len edits → result.place.items ≡ place_at edits.items done }
+    ensures log { done < vec_len edits → result.log.items ≡ path_in (log_at edits.items done) }
     ensures renamed { ((k : ℕ) → k < vec_len edits → stays_at edits.items done k ≡ false) →
         files.new ≡ files.old }
     ensures gone { F.honest → OthersAreGone edits done result.left (F.means files.new).tree }
@@ -175,6 +177,81 @@ pub fn release_locks<F: Files>(
         let removed = release(files, done, at, &edit);
         remains.add(edit, removed, at == done);
     }
+    remains
+}
+
+/// Removes the locks of these edits except for those that were renamed, where the edits before `done` are done. Hands back the edits,
+/// the place of the edit at `done` and the path of its log, and after the paths in `remains` the locks that could not be
+/// removed. Takes no memory, and where all were renamed makes no call.
+fn release_locks<F: Files>(
+    files: &mut F,
+    done: usize,
+    edits: Vec<Edit>,
+    remains: Remains,
+) -> Remains
+    requires room { HasRoomForEdits edits remains }
+    ensures back { HandsBack edits done result }
+    ensures renamed { ((k : ℕ) → k < vec_len edits → stays_at edits.items done k ≡ false) →
+        files.new ≡ files.old }
+    ensures gone { F.honest → OthersAreGone edits done result.left (F.means files.new).tree }
+    ensures named { NamesMore (lock_paths edits.items) (vec_len edits) remains.left result.left
+        (F.faults files.old) (F.faults files.new) }
+    ensures releases { OnlyReleases F.honest F.means F.faults
+        (lock_paths edits.items) files.old files.new }
+{
+    let mut remains = release_each(files, done, edits, remains);
+    remains.edits.reverse();
+    remains
+}
+
+/// Moves what the edits after the first `taken` ask for to the end of a list, the last first. There is room for it.
+fn move_updates(edits: &mut Vec<Edit>, taken: usize, given: &mut Vec<RefEdit>)
+    requires within { taken ≤ vec_len edits.old }
+    requires room { vec_len edits.old + vec_len given.old ≤ vec_capacity given.old }
+    ensures rest { edits.new.items ≡ take taken edits.old.items }
+    ensures moved { given.new.items
+        ≡ given.old.items ++ reverse (updates (drop taken edits.old.items)) }
+    ensures room { (vec_capacity given.new ≡ vec_capacity given.old)
+        × (vec_len edits.new + vec_len given.new ≡ vec_len edits.old + vec_len given.old) }
+{
+    while edits.len() > taken
+        && let Some(edit) = edits.pop()
+    {
+        given.push_reserved(edit.into_update());
+    }
+}
+
+/// What edits ask for of which no lock is taken, in the room for it.
+pub(crate) fn give_back(mut edits: Vec<Edit>, mut room: Vec<RefEdit>) -> Vec<RefEdit>
+    requires room { vec_len edits ≤ vec_capacity room }
+    requires none { room.items ≡ [] }
+    ensures { result.items ≡ updates edits.items }
+{
+    move_updates(&mut edits, 0, &mut room);
+    room.reverse();
+    room
+}
+
+/// Removes the locks of the first edits, so many; the others have none. Hands back all edits, and after the paths in `remains` the
+/// locks that could not be removed. Takes no memory.
+pub(crate) fn release_taken<F: Files>(
+    files: &mut F,
+    taken: usize,
+    mut edits: Vec<Edit>,
+    mut remains: Remains,
+) -> Remains
+    requires { (taken ≤ vec_len edits) × HasRoomForEdits edits remains }
+    ensures edits { result.edits.items ≡ updates edits.items }
+    ensures gone { F.honest → (q : Path) → is_in (lock_paths (take taken edits.items)) q ≡ true →
+        is_in (paths_of result.left.items) q ≡ false → is_file ((F.means files.new).tree q)
+        ≡ false }
+    ensures named { NamesMore (lock_paths (take taken edits.items)) taken remains.left result.left
+        (F.faults files.old) (F.faults files.new) }
+    ensures releases { OnlyReleases F.honest F.means F.faults
+        (lock_paths (take taken edits.items)) files.old files.new }
+{
+    move_updates(&mut edits, taken, &mut remains.edits);
+    let mut remains = release_each(files, 0, edits, remains);
     remains.edits.reverse();
     remains
 }

@@ -1,5 +1,5 @@
 //! All locks of a transaction, or none.
-ghost use Rattle.std.specs.Prelude.{◌≡◌, ◌<◌, ℕ, List, None, true, OnOk, IfOk, IfErr, vec_len};
+ghost use Rattle.std.specs.Prelude.{◌≡◌, ◌<◌, ◌≤◌, ℕ, List, [], None, true, OnOk, IfOk, IfErr, MatchResult, length, vec_len};
 ghost use Rattle.std.specs.Vec.{vec_capacity};
 ghost use Rattle.gix_ref_files.specs.Files.{disk_of};
 ghost use Rattle.gix_ref_files.specs.Settled.{IsWholeAt};
@@ -26,7 +26,8 @@ use crate::prepare::peel::peel_edits;
 use crate::prepare::records::find_records;
 use crate::prepare::split::SplitEdits;
 use crate::prepare::take::take_locks;
-use crate::release::{Failure, Remains, release_locks, release_packed};
+use crate::release::{Failure, Remains, give_back, release_packed, release_taken};
+use gix_ref_edits::transaction::RefEdit;
 use gix_ref_files::files::Files;
 use gix_ref_files::lock::LockFile;
 use gix_ref_lookup::settings::Settings;
@@ -50,31 +51,78 @@ pub struct HeldLocks {
     pub remains: Remains,
 }
 
-/// The edits of a split list that are not begun, with their parents and the paths of their locks.
-pub fn edits_at(
+/// The files of the locks of edits. Nothing is done on disk.
+fn locks_at(
     alloc: Global,
     settings: &Settings<'_>,
-    split: SplitEdits,
-) -> Result<Vec<Edit>, AllocError>
-    requires { vec_len split.parents ≡ vec_len split.edits }
-    ensures asked { IfOk result (λ edits. updates edits.items ≡ split.edits.items) }
-    ensures places { IfOk result (λ edits. place_paths edits.items
-        ≡ places_of (setting_of settings.now) split.edits.items) }
-    ensures parents { IfOk result (λ edits. parents_in edits.items ≡ split.parents.items) }
+    edits: &[RefEdit],
+) -> Result<Vec<LockFile>, AllocError>
+    ensures { IfOk result (λ locks. locks.items ≡ places_of (setting_of settings.now) edits.now) }
+{
+    let mut locks = Vec::with_capacity(alloc, edits.len())?;
+    for edit in edits {
+        let place = settings.place(alloc, edit.name.as_ref())?;
+        locks.push(LockFile::at(place)?)?;
+    }
+    Ok(locks)
+}
+
+/// The edits of a split list that are not begun, with their parents and the files of their locks. There is room for them.
+fn joined(split: SplitEdits, locks: Vec<LockFile>, mut edits: Vec<Edit>) -> Vec<Edit>
+    requires lens { (vec_len split.parents ≡ vec_len split.edits)
+        × (vec_len locks ≡ vec_len split.edits) }
+    requires room { (vec_len split.edits ≤ vec_capacity edits) × (edits.items ≡ []) }
+    ensures asked { updates result.items ≡ split.edits.items }
+    ensures places { place_paths result.items ≡ locks.items }
+    ensures parents { parents_in result.items ≡ split.parents.items }
 {
     let SplitEdits {
         edits: given,
         parents,
     } = split;
-    let mut edits = Vec::with_capacity(alloc, given.len())?;
-    for update in given {
+    for (update, lock) in given.into_iter().zip(locks) {
         let parent = parents[edits.len()];
-        edits.push(Edit::at(alloc, settings, update, parent)?)?;
+        edits.push_reserved(Edit::new(update, parent, lock));
     }
-    Ok(edits)
+    edits
 }
 
-/// Takes all locks, or removes those that it took. Each edit has the id of its record.
+/// The files of the locks of edits, and room for the edits.
+fn room_at(
+    alloc: Global,
+    settings: &Settings<'_>,
+    edits: &[RefEdit],
+) -> Result<(Vec<LockFile>, Vec<Edit>), AllocError>
+    ensures locks { IfOk result (λ room. room.0.items
+        ≡ places_of (setting_of settings.now) edits.now) }
+    ensures room { IfOk result (λ room. (length edits.now ≤ vec_capacity room.1)
+        × (room.1.items ≡ [])) }
+{
+    let locks = locks_at(alloc, settings, edits)?;
+    Ok((locks, Vec::with_capacity(alloc, edits.len())?))
+}
+
+/// The edits of a split list that are not begun, with their parents and the paths of their locks. The error says that there was no
+/// memory, and hands the edits back.
+pub fn edits_at(
+    alloc: Global,
+    settings: &Settings<'_>,
+    split: SplitEdits,
+) -> Result<Vec<Edit>, Vec<RefEdit>>
+    requires { vec_len split.parents ≡ vec_len split.edits }
+    ensures asked { MatchResult result (λ edits. updates edits.items ≡ split.edits.items)
+        (λ given. given ≡ split.edits) }
+    ensures places { IfOk result (λ edits. place_paths edits.items
+        ≡ places_of (setting_of settings.now) split.edits.items) }
+    ensures parents { IfOk result (λ edits. parents_in edits.items ≡ split.parents.items) }
+{
+    match room_at(alloc, settings, &split.edits) {
+        Ok((locks, edits)) => Ok(joined(split, locks, edits)),
+        Err(_) => Err(split.edits),
+    }
+}
+
+/// Takes all locks, or removes those that it took and hands back the edits. Each edit has the id of its record.
 fn lock_all_or_none<F: Files>(
     alloc: Global,
     files: &mut F,
@@ -82,7 +130,7 @@ fn lock_all_or_none<F: Files>(
     packing: Packing,
     mut edits: Vec<Edit>,
     remains: Remains,
-) -> Result<HeldEdits, Failure<Error>>
+) -> Result<HeldEdits, (Failure<Error>, Vec<RefEdit>)>
     requires ready { AreReady (setting_of settings.now) settings.now.kind edits.items }
     requires room { HasRoom edits remains }
     ensures held { IfOk result (λ held. HoldAllByIds F.honest settings.now (mode_of_packing packing)
@@ -91,12 +139,12 @@ fn lock_all_or_none<F: Files>(
     ensures given { IfOk result (λ held. all_given held.edits.items ≡ all_given edits.items) }
     ensures wholes { F.honest → (q : Path) (text : List ℕ) → IsWholeAt (disk_of (F.means files.old))
         q text → OnOk result (IsWholeAt (disk_of (F.means files.new)) q text) }
-    ensures refused { IfErr result (λ failure. IsTakingFault F.honest F.means F.faults
-        (setting_of settings.now) settings.now.kind edits.items files.old files.new failure.error) }
-    ensures removed { IfErr result (λ failure. RemovesAgain F.honest F.means F.faults settings.now
-        edits.items failure.locks_left files.old files.new) }
-    ensures room { IfErr result (λ failure. vec_len failure.locks_left
-        < vec_capacity failure.locks_left) }
+    ensures refused { IfErr result (λ r. IsTakingFault F.honest F.means F.faults
+        (setting_of settings.now) settings.now.kind edits.items files.old files.new r.0.error) }
+    ensures removed { IfErr result (λ r. RemovesAgain F.honest F.means F.faults settings.now
+        edits.items r.0.locks_left files.old files.new) }
+    ensures room { IfErr result (λ r. vec_len r.0.locks_left < vec_capacity r.0.locks_left) }
+    ensures edits { IfErr result (λ r. r.1.items ≡ updates edits.items) }
     ensures takes { OnlyTakes F.honest F.means F.faults (edit_locks settings.now edits.items)
         files.old files.new }
 {
@@ -104,12 +152,12 @@ fn lock_all_or_none<F: Files>(
     match take_locks(alloc, files, settings, packing, &mut edits, &mut taken) {
         Ok(()) => Ok(HeldEdits { edits, remains }),
         Err(error) => {
-            edits.truncate(taken);
-            let remains = release_locks(files, 0, edits, remains);
-            Err(Failure {
+            let remains = release_taken(files, taken, edits, remains);
+            let failure = Failure {
                 error,
                 locks_left: remains.left,
-            })
+            };
+            Err((failure, remains.edits))
         }
     }
 }
@@ -144,8 +192,8 @@ fn find_and_peel<F: Files, T: Find>(
     peel_edits(alloc, settings, packed_refs, edits)
 }
 
-/// Finds the records of all edits, and then takes all locks, or removes those that it took. `packed-refs` is not opened where it is
-/// known to be no file.
+/// Finds the records of all edits, and then takes all locks, or removes those that it took and hands back the edits. `packed-refs` is
+/// not opened where it is known to be no file.
 fn find_and_lock<F: Files, T: Find>(
     alloc: Global,
     files: &mut F,
@@ -154,7 +202,7 @@ fn find_and_lock<F: Files, T: Find>(
     known_missing: bool,
     mut edits: Vec<Edit>,
     remains: Remains,
-) -> Result<HeldEdits, Failure<Error>>
+) -> Result<HeldEdits, (Failure<Error>, Vec<RefEdit>)>
     requires absent { F.honest → known_missing ≡ true →
         packed_refs_in settings.now (F.means files.old) ≡ None }
     requires ready { AreReady (setting_of settings.now) settings.now.kind edits.items }
@@ -170,14 +218,14 @@ fn find_and_lock<F: Files, T: Find>(
         held.edits.items) }
     ensures wholes { F.honest → (q : Path) (text : List ℕ) → IsWholeAt (disk_of (F.means files.old))
         q text → OnOk result (IsWholeAt (disk_of (F.means files.new)) q text) }
-    ensures refused { IfErr result (λ failure. NoneIsHeld F.honest F.means F.faults
+    ensures refused { IfErr result (λ r. NoneIsHeld F.honest F.means F.faults
         (HasReadFault F.Reader.faults) settings.now edits.items
         (CausesNoHold T.claims T.meaning settings.now packed_refs.now) files.old files.new
-        failure.error) }
-    ensures removed { IfErr result (λ failure. RemovesAgain F.honest F.means F.faults settings.now
-        edits.items failure.locks_left files.old files.new) }
-    ensures room { IfErr result (λ failure. vec_len failure.locks_left
-        < vec_capacity failure.locks_left) }
+        r.0.error) }
+    ensures removed { IfErr result (λ r. RemovesAgain F.honest F.means F.faults settings.now
+        edits.items r.0.locks_left files.old files.new) }
+    ensures room { IfErr result (λ r. vec_len r.0.locks_left < vec_capacity r.0.locks_left) }
+    ensures edits { IfErr result (λ r. r.1.items ≡ updates edits.items) }
     ensures takes { OnlyTakes F.honest F.means F.faults (edit_locks settings.now edits.items)
         files.old files.new }
 {
@@ -197,15 +245,18 @@ fn find_and_lock<F: Files, T: Find>(
             edits,
             remains,
         ),
-        Err(error) => Err(Failure {
-            error,
-            locks_left: remains.left,
-        }),
+        Err(error) => {
+            let failure = Failure {
+                error,
+                locks_left: remains.left,
+            };
+            Err((failure, give_back(edits, remains.edits)))
+        }
     }
 }
 
 /// Takes the lock of `packed-refs` where it is due, finds the records of all edits, and takes the locks of these; or removes those
-/// that it took.
+/// that it took, and hands back the edits.
 pub fn lock_edits<F: Files, T: Find>(
     alloc: Global,
     files: &mut F,
@@ -213,7 +264,7 @@ pub fn lock_edits<F: Files, T: Find>(
     packed_refs: &PackedRefs<T>,
     edits: Vec<Edit>,
     remains: Remains,
-) -> Result<HeldLocks, Failure<Error>>
+) -> Result<HeldLocks, (Failure<Error>, Vec<RefEdit>)>
     requires ready { AreReady (setting_of settings.now) settings.now.kind edits.items }
     requires room { HasRoom edits remains }
     ensures held { IfOk result (λ held. HoldAllDue F.honest settings.now (mode_in packed_refs.now)
@@ -228,12 +279,13 @@ pub fn lock_edits<F: Files, T: Find>(
     ensures packed { IfOk
         result (λ held. HoldsPackedLock F.honest (setting_of settings.now) (mode_in packed_refs.now)
         (F.means files.old).tree (F.means files.new).tree (updates edits.items) held.packed) }
-    ensures refused { IfErr result (λ failure. NoneIsHeld F.honest F.means F.faults
+    ensures refused { IfErr result (λ r. NoneIsHeld F.honest F.means F.faults
         (HasReadFault F.Reader.faults) settings.now edits.items
         (CausesNoLock T.claims T.meaning settings.now packed_refs.now) files.old files.new
-        failure.error) }
-    ensures removed { IfErr result (λ failure. RemovesDueAgain F.honest F.means F.faults
-        settings.now (mode_in packed_refs.now) edits.items failure.locks_left files.old files.new) }
+        r.0.error) }
+    ensures removed { IfErr result (λ r. RemovesDueAgain F.honest F.means F.faults
+        settings.now (mode_in packed_refs.now) edits.items r.0.locks_left files.old files.new) }
+    ensures edits { IfErr result (λ r. r.1.items ≡ updates edits.items) }
     ensures takes { OnlyTakes F.honest F.means F.faults
         (due_locks settings.now (mode_in packed_refs.now) (F.means files.old).tree edits.items)
         files.old files.new }
@@ -241,10 +293,11 @@ pub fn lock_edits<F: Files, T: Find>(
     let packed = match take_packed(alloc, files, settings, packed_refs.packing(), &edits) {
         Ok(packed) => packed,
         Err(error) => {
-            return Err(Failure {
+            let failure = Failure {
                 error,
                 locks_left: remains.left,
-            });
+            };
+            return Err((failure, give_back(edits, remains.edits)));
         }
     };
     let known_missing = known_missing(settings, &edits, &packed);
@@ -265,9 +318,9 @@ pub fn lock_edits<F: Files, T: Find>(
                 remains,
             })
         }
-        Err(mut failure) => {
+        Err((mut failure, edits)) => {
             release_packed(files, packed, &mut failure.locks_left);
-            Err(failure)
+            Err((failure, edits))
         }
     }
 }

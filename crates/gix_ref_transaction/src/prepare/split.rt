@@ -1,5 +1,5 @@
 //! The splits of edits that follow symbolic references.
-ghost use Rattle.std.specs.Prelude.{◌≡◌, ◌<◌, ◌+◌, ◌^◌, ◌⊎◌, true, OnOk, IfOk, IfErr, MatchBool, All, length, vec_len};
+ghost use Rattle.std.specs.Prelude.{◌≡◌, ◌<◌, ◌+◌, ◌^◌, ◌⊎◌, true, OnOk, IfOk, IfErr, MatchBool, MatchResult, All, length, vec_len};
 ghost use Rattle.std.specs.Option.{option_map};
 ghost use Rattle.gix_ref_name.specs.Names.{full_bytes, full_ref_bytes};
 ghost use Rattle.gix_ref_target.specs.Targets.{target_name, target_value};
@@ -201,15 +201,17 @@ fn split_round<F: Files>(
     Ok(children)
 }
 
-/// Edits as they are given, of which none was split from another.
-fn unsplit(alloc: Global, edits: Vec<RefEdit>) -> Result<SplitEdits, AllocError>
-    ensures edits { IfOk result (λ split. split.edits ≡ edits) }
+/// Edits as they are given, of which none was split from another. The error says that there was no memory, and hands the edits back.
+fn unsplit(alloc: Global, edits: Vec<RefEdit>) -> Result<SplitEdits, Vec<RefEdit>>
+    ensures edits { MatchResult result (λ split. split.edits ≡ edits) (λ given. given ≡ edits) }
     ensures parents { IfOk result (λ split. split.parents.items
         ≡ parents_given (values_of edits.items)) }
     ensures len { IfOk result (λ split. vec_len split.parents ≡ vec_len split.edits) }
 {
-    let parents = vec![in alloc; None; edits.len()]?;
-    Ok(SplitEdits { edits, parents })
+    match vec![in alloc; None; edits.len()] {
+        Ok(parents) => Ok(SplitEdits { edits, parents }),
+        Err(_) => Err(edits),
+    }
 }
 
 /// How many rounds there are: children of the last one are too many.
@@ -232,7 +234,9 @@ fn split_in_rounds<F: Files>(
         edits: Vec::with_capacity(alloc, edits.len())?,
         parents: Vec::with_capacity(alloc, edits.len())?,
     };
-    let mut level = unsplit(alloc, edits)?;
+    let Ok(mut level) = unsplit(alloc, edits) else {
+        return Err(Error::Memory);
+    };
     for _round in 0..ROUNDS {
         let first = done.edits.len();
         let children = split_round(alloc, files, settings, &mut level.edits, first)?;
@@ -250,7 +254,7 @@ fn split_in_rounds<F: Files>(
 }
 
 /// Whether no edit follows symbolic references.
-fn none_follow(edits: &[RefEdit]) -> bool
+pub fn none_follow(edits: &[RefEdit]) -> bool
     ensures { MatchBool result (AreDirect edits.now) (AreDirect edits.now → ⊥) }
 {
     edits.iter().all(|edit| !edit.deref)
@@ -258,23 +262,30 @@ fn none_follow(edits: &[RefEdit]) -> bool
 
 /// The split list of edits (`extend_with_splits_of_symbolic_refs` over the files of the store): an edit that follows
 /// symbolic references is looked up, and where its reference is symbolic it becomes an edit of the log alone, followed by the
-/// edit of the reference that it leads to. Each name is checked before it is looked up.
+/// edit of the reference that it leads to. Each name is checked before it is looked up. A refusal of edits of which none follows
+/// hands them back.
 pub fn split_edits<F: Files>(
     alloc: Global,
     files: &mut F,
     settings: &Settings<'_>,
     edits: Vec<RefEdit>,
-) -> Result<SplitEdits, Error>
+) -> Result<SplitEdits, (Error, Vec<RefEdit>)>
     ensures split { IfOk result (IsSplitOf F.honest (setting_of settings.now) settings.now.kind
         (F.means files.old).tree edits.items) }
-    ensures refused { IfErr result (IsNotSplit F.honest F.means F.faults
-        (setting_of settings.now) edits.items files.old files.new) }
+    ensures refused { IfErr result (λ r. IsNotSplit F.honest F.means F.faults
+        (setting_of settings.now) edits.items files.old files.new r.0) }
     ensures reads { OnlyReads F.honest F.means F.faults files.old files.new }
-    ensures direct { AreDirect edits.items → IfOk result
-        (λ split. split.edits.items ≡ edits.items) }
+    ensures direct { AreDirect edits.items → MatchResult result
+        (λ split. split.edits.items ≡ edits.items) (λ r. r.1.items ≡ edits.items) }
 {
     if none_follow(&edits) {
-        return Ok(unsplit(alloc, edits)?);
+        return match unsplit(alloc, edits) {
+            Ok(split) => Ok(split),
+            Err(edits) => Err((Error::Memory, edits)),
+        };
     }
-    split_in_rounds(alloc, files, settings, edits)
+    match split_in_rounds(alloc, files, settings, edits) {
+        Ok(split) => Ok(split),
+        Err(error) => Err((error, Vec::new(alloc))),
+    }
 }

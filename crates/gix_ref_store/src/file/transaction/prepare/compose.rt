@@ -1,5 +1,5 @@
 //! Edits whose names are composed (`core.precomposeUnicode` of `git config`).
-ghost use Rattle.std.specs.Prelude.{◌≡◌, IfOk, MatchOption};
+ghost use Rattle.std.specs.Prelude.{◌≡◌, false, IfOk, IsOk, MatchOption};
 ghost use Rattle.gix_ref_name.specs.Names.{full_bytes, full_ref_bytes};
 ghost use Rattle.gix_ref_store.specs.ComposedEdits.{composed_full, IsComposedEdit, AreComposedEdits, AreAskedAs};
 
@@ -48,13 +48,14 @@ fn compose_edits(alloc: Global, edits: Vec<RefEdit>) -> Result<Vec<RefEdit>, All
 }
 
 /// The edits that a store is asked for: of the composed names, where it composes names. A name of ASCII bytes stays as it is.
-/// The error says that there was no memory.
+/// The error says that there was no memory for the names.
 pub(crate) fn compose_names(
     alloc: Global,
     composes: bool,
     edits: Vec<RefEdit>,
 ) -> Result<Vec<RefEdit>, AllocError>
-    ensures { IfOk result (λ asked. AreAskedAs composes edits.items asked.items) }
+    ensures asked { IfOk result (λ asked. AreAskedAs composes edits.items asked.items) }
+    ensures as_given { composes ≡ false → IsOk result }
 {
     if composes {
         compose_edits(alloc, edits)

@@ -25,20 +25,20 @@ loop-round-init g c =
     let given = values_of c.args.edits.items in
     record {
       done = λ h. ap values_of c.in_ok-with_capacity.ensures.items ∙ done_none find given;
-      next = λ h. ap (λ edits. values_of edits.items) c.in_ok-level.ensures.edits ∙ level_none find given;
+      next = λ h. ap (λ edits. values_of edits.items) c.in-Ok.ensures.edits ∙ level_none find given;
       done_parents = λ h. c.in_ok-with_capacity-2.ensures.items ∙ first_parents_none find given;
-      next_parents = λ h. c.in_ok-level.ensures.parents ∙ level_parents_none find given;
+      next_parents = λ h. c.in-Ok.ensures.parents ∙ level_parents_none find given;
       done_len = omega (arith, c.in_ok-with_capacity.ensures.len, c.in_ok-with_capacity-2.ensures.len);
-      next_len = c.in_ok-level.ensures.len;
+      next_len = c.in-Ok.ensures.len;
       can_follow = λ h. can_none find (CanFollow s) given;
       reads = reads_none F.honest F.means F.faults c.args.files.now;
       valid = λ valid. (
         subst (λ l. All (IsValidValue s kind) (values_of l)) (sym c.in_ok-with_capacity.ensures.items) (All-nil (IsValidValue s kind)),
-        subst (λ edits. All (IsSoundValue s kind) (values_of edits.items)) (sym c.in_ok-level.ensures.edits) (given_sound s kind [] c.args.edits.items valid),
+        subst (λ edits. All (IsSoundValue s kind) (values_of edits.items)) (sym c.in-Ok.ensures.edits) (given_sound s kind [] c.args.edits.items valid),
       );
       updates = λ updates. (
         subst (λ l. All IsUpdateValue (values_of l)) (sym c.in_ok-with_capacity.ensures.items) (All-nil IsUpdateValue),
-        subst (λ edits. All IsUpdateValue (values_of edits.items)) (sym c.in_ok-level.ensures.edits) (given_updates c.args.edits.items updates),
+        subst (λ edits. All IsUpdateValue (values_of edits.items)) (sym c.in-Ok.ensures.edits) (given_updates c.args.edits.items updates),
       );
     }
 

@@ -1,4 +1,4 @@
-use Rattle.std.proofs.Common.{◌≡◌, List, [], sym, ap, subst, ◌∙◌}
+use Rattle.std.proofs.Common.{◌≡◌, List, [], Vec, Global, sym, ap, subst, ◌∙◌}
 use Rattle.gix_ref_packed.specs.OpenFiles.{HasReadFault}
 use Rattle.gix_ref_edits.specs.declared.transaction.RefEdit.{RefEdit}
 use Rattle.gix_ref_transaction.specs.Causes.{AllValid, IsCounted}
@@ -37,10 +37,10 @@ returns-in-Ok-clause-refused g c =
     let new = c.lock_split.new.self in
     let read = HasReadFault g.F.Reader.ReadAt.faults in
     let same = c.in-Ok.ensures.same in
-    if_err c.lock_split.result (λ (failure : Failure Error) refused.
-    let left = paths_of failure.locks_left.items in
-    refused_on F.honest F.means F.faults (mode_in c.args.packed_refs.now) old (files_of c.split.new.self) c.in-Ok.ensures.reads read (OfFinder g.T.Find.claims c.args.packed_refs.now) (ends_of g.T.Find.meaning c.args.packed_refs.now) new c.args.edits.items split failure.error left c.in-Ok.ensures.splits
-    (subst (λ (st : Store g.row.F.Denot). RefusesSplit F.honest read F.means F.faults (OfFinder g.T.Find.claims c.args.packed_refs.now) (ends_of g.T.Find.meaning c.args.packed_refs.now) (mode_in c.args.packed_refs.now) st new split failure.error left) same refused)
+    if_err c.lock_split.result (λ (r : Failure Error × Vec RefEdit Global) refused.
+    let left = paths_of r.0.locks_left.items in
+    refused_on F.honest F.means F.faults (mode_in c.args.packed_refs.now) old (files_of c.split.new.self) c.in-Ok.ensures.reads read (OfFinder g.T.Find.claims c.args.packed_refs.now) (ends_of g.T.Find.meaning c.args.packed_refs.now) new c.args.edits.items split r.0.error left c.in-Ok.ensures.splits
+    (subst (λ (st : Store g.row.F.Denot). RefusesSplit F.honest read F.means F.faults (OfFinder g.T.Find.claims c.args.packed_refs.now) (ends_of g.T.Find.meaning c.args.packed_refs.now) (mode_in c.args.packed_refs.now) st new split r.0.error left) same refused)
     (λ h. subst (λ (st : Store g.row.F.Denot). LosesNothing F.means (mode_in c.args.packed_refs.now) st new split) same (c.lock_split.ensures.lost h)))
     c.lock_split.ensures.refused
 
@@ -58,6 +58,10 @@ returns-in-Err-clause-refused g c =
     (refused_before F.honest F.means F.faults (mode_in c.args.packed_refs.now) old files c.in-Err.ensures.reads read (OfFinder g.T.Find.claims c.args.packed_refs.now) (ends_of g.T.Find.meaning c.args.packed_refs.now) given error left (ap paths_of c.refused_before_locks.ensures.none)
     (λ h. subst (IsSplitCause (meaning_of old) (kind_of old) (tree_of F.means old) given) (sym is) (c.in-Err.ensures.refused h))
     (subst (IsCounted (F.faults (files_of old)) (F.faults files)) (sym is) c.in-Err.ensures.counted))
+
+pub returns-in-Ok-clause-direct : goal.returns-in-Ok-clause-direct
+returns-in-Ok-clause-direct g c direct =
+    if_err c.lock_split.result (λ (r : Failure Error × Vec RefEdit Global) (same : r.1.items ≡ c.in-Ok.split.edits.items). same ∙ c.in-Ok.ensures.splits.direct direct) c.lock_split.ensures.edits
 
 pub returns-in-Ok-clause-parents : goal.returns-in-Ok-clause-parents
 returns-in-Ok-clause-parents g c h =

@@ -11,13 +11,13 @@ pub returns-in-Ok-clause-held : goal.returns-in-Ok-clause-held
 returns-in-Ok-clause-held g c =
     let F = g.F.Files in
     let e = c.check_and_lock.ensures in
-    holds_given F.honest F.means F.faults (OfFinder g.T.Find.claims c.args.packed_refs.now) (ends_of g.T.Find.meaning c.args.packed_refs.now) (mode_in c.args.packed_refs.now) c.args.self.now c.check_and_lock.new.self c.args.edits.items c.in-Ok.asked.items c.in-Ok.ensures c.check_and_lock.result
+    holds_given F.honest F.means F.faults (OfFinder g.T.Find.claims c.args.packed_refs.now) (ends_of g.T.Find.meaning c.args.packed_refs.now) (mode_in c.args.packed_refs.now) c.args.self.now c.check_and_lock.new.self c.args.edits.items c.in-Ok.asked.items c.in-Ok.ensures.asked c.check_and_lock.result
     e.splits e.parents e.held
 
 pub returns-in-Ok-clause-refused : goal.returns-in-Ok-clause-refused
 returns-in-Ok-clause-refused g c =
     let F = g.F.Files in
-    refuses_given F.honest F.means F.faults (OfFinder g.T.Find.claims c.args.packed_refs.now) (ends_of g.T.Find.meaning c.args.packed_refs.now) (mode_in c.args.packed_refs.now) c.args.self.now c.check_and_lock.new.self c.args.edits.items c.in-Ok.asked.items c.in-Ok.ensures (HasReadFault g.F.Reader.ReadAt.faults) c.check_and_lock.result c.check_and_lock.ensures.refused
+    refuses_given F.honest F.means F.faults (OfFinder g.T.Find.claims c.args.packed_refs.now) (ends_of g.T.Find.meaning c.args.packed_refs.now) (mode_in c.args.packed_refs.now) c.args.self.now c.check_and_lock.new.self c.args.edits.items c.in-Ok.asked.items c.in-Ok.ensures.asked (HasReadFault g.F.Reader.ReadAt.faults) c.check_and_lock.result c.check_and_lock.ensures.refused
 
 pub returns-in-Err-clause-refused : goal.returns-in-Err-clause-refused
 returns-in-Err-clause-refused g c =

@@ -7,7 +7,7 @@ use Rattle.gix_ref_transaction.specs.PrepareSteps.{lock_paths, updates}
 use Rattle.gix_ref_transaction.specs.OwnLocks.{paths_of, is_in, times}
 use Rattle.gix_ref_transaction.specs.declared.edit.Edit.{Edit}
 use Rattle.gix_ref_transaction.proofs.Removals.{RemovesOn}
-use Rattle.gix_ref_transaction.proofs.release.release_locks.Given as goal
+use Rattle.gix_ref_transaction.proofs.release.release_each.Given as goal
 
 -- a lock that is not among the rest is gone, renamed or left
 abbrev pub invariant-loop-edit : goal.invariant-loop-edit
@@ -28,7 +28,7 @@ invariant-loop-edit g l =
       room_left : vec_capacity l.remains.left ≡ vec_capacity l.fn.remains.left;
       bound : vec_len l.edits ≤ vec_len l.fn.edits;
       renamed : ((k : ℕ) → k < vec_len l.fn.edits → stays_at all l.done k ≡ false) → l.files ≡ l.fn.files;
-      front : (tail : List Edit) × (all ≡ l.edits.items ++ tail) × (l.remains.edits.items ≡ reverse (updates tail));
+      front : (tail : List Edit) × (all ≡ l.edits.items ++ tail) × (l.remains.edits.items ≡ l.fn.remains.edits.items ++ reverse (updates tail));
       place : l.done < vec_len l.fn.edits → vec_len l.edits ≤ l.done → l.remains.place.items ≡ place_at all l.done;
       log : l.done < vec_len l.fn.edits → vec_len l.edits ≤ l.done → l.remains.log.items ≡ path_in (log_at all l.done);
       ours : (q : Path) → is_in left q ≡ true → (is_in before q ≡ true) ⊎ (is_in (lock_paths all) q ≡ true);
