@@ -1,5 +1,5 @@
 -- The plan of a commit: its steps with their syncs, each with what it is about.
-use Rattle.std.specs.Prelude.{ℕ, ◌+◌, List, [], ◌∷◌, ◌++◌, map, Option, Some, None, Bool, true, false, ◌<◌, if◌then◌else◌}
+use Rattle.std.specs.Prelude.{◌≡◌, ℕ, ◌+◌, List, [], ◌∷◌, ◌++◌, map, Option, Some, None, Bool, true, false, ◌<◌, if◌then◌else◌}
 use Rattle.gix_ref_files.specs.Tree.{Path}
 use Rattle.gix_ref_files.specs.Disk.{folder_of}
 use Rattle.gix_ref_files.specs.Lock.{lock_of}
@@ -129,6 +129,11 @@ abbrev pub planned_entries : Dirs → List Edit → Option Path → Rewrite → 
 planned_entries dirs edits packed rewrite =
     each (update_entries dirs) 0 edits ++ (each log_removal_entry 0 edits
     ++ (packed_entries dirs packed rewrite ++ each removal_entry 0 edits))
+
+-- this is the plan of these edits, whatever becomes of `packed-refs`
+abbrev pub IsPlanOf : Dirs → List Edit → List Entry → Type 0
+IsPlanOf dirs edits plan = (packed : Option Path) × (rewrite : Rewrite)
+    × (plan ≡ planned_entries dirs edits packed rewrite)
 
 -- the steps of entries, with their syncs
 abbrev pub steps_in : List Entry → List Synced

@@ -1,5 +1,5 @@
 -- The run of a plan: that all of it was run, or where and why it ended early.
-use Rattle.std.specs.Prelude.{◌≡◌, ◌≢◌, List, [], ◌∷◌, ◌++◌, get_or}
+use Rattle.std.specs.Prelude.{◌≡◌, ◌≢◌, List, [], ◌∷◌, ◌++◌, get_or, Result, Ok, Err}
 use Rattle.gix_ref_files.specs.Tree.{Tree}
 use Rattle.gix_ref_files.specs.Files.{Meaning, disk_of, Leaves, Passes, FaultCounts, NoFewer, IsMet}
 use Rattle.gix_ref_files.specs.Steps.{IsAfter, IsLeftBy, EndsBy}
@@ -74,6 +74,11 @@ module _ {F : Type 0} (honest : Type 0) (means : F → Meaning) (faults : F → 
     pub ended : EndsIn honest entries (means old).tree (means new).tree unfinished
     -- a fault of files was counted
     pub counted : IsRaised (faults old) (faults new) unfinished
+
+  -- how the run of these entries ended: all were run, or it ended early
+  abbrev pub RunsTo : (entries : List Entry) → (old new : F) → Result (Unit {0}) Unfinished → Type 0
+  RunsTo entries old new (Ok done) = RunsAll honest entries (means old) (means new)
+  RunsTo entries old new (Err unfinished) = StopsEarly entries old new unfinished
 
 -- the paths above which empty folders are tried: those of all that the plan removes, or none where no step was begun
 abbrev pub tried_after : {A : Type 0} → Unfinished → List A → List A

@@ -4,15 +4,16 @@ ghost use Rattle.gix_ref_files.specs.ReadOnly.{OnlyReads};
 ghost use Rattle.gix_ref_transaction.specs.PrepareSteps.{setting_of};
 ghost use Rattle.gix_ref_commit.specs.Cleared.{AllInWay, folder_lists};
 ghost use Rattle.gix_ref_commit.specs.Decided.{DecidesPacked, LeavesUndecided, OnlyFillsPacked};
-ghost use Rattle.gix_ref_commit.specs.Entries.{planned_entries};
+ghost use Rattle.gix_ref_commit.specs.Entries.{IsPlanOf, entries};
 ghost use Rattle.gix_ref_commit.specs.Failures.{IsOfListing};
 
 use crate::error as commit;
 use crate::failure::unlisted;
 use crate::folders::{EmptyDirs, find_empty_dirs_in_the_way};
-use crate::plan::plan_commit;
+use crate::plan::About;
 use gix_ref_files::files::Files;
 use gix_ref_files::lock::LockFile;
+use gix_ref_files::steps::Planned;
 use gix_ref_lookup::folders::Dirs;
 use gix_ref_lookup::settings::Settings;
 use gix_ref_packed_text::outcome::Rewrite;
@@ -84,27 +85,23 @@ pub fn decide_packed<F: Files>(
     }
 }
 
-/// The folders that are in the way of what a commit writes, whose logs and `packed-refs` are decided: before each step of its plan those that
-/// are removed first. No file changes.
+/// The folders that are in the way of what a commit writes, whose plan is made: before each of its steps those that are removed first. No
+/// file changes.
 pub fn decide_folders<F: Files>(
     alloc: Global,
     files: &mut F,
     dirs: &Dirs,
     edits: &[Edit],
-    packed: &Option<LockFile>,
-    rewrite: &Rewrite,
+    plan: &[Planned<'_, About>],
 ) -> Result<Vec<EmptyDirs>, commit::Error>
-    ensures in_way { F.honest →
-        IfOk result (λ ways. AllInWay edits.now dirs.now (F.means files.old).tree
-        (folder_lists ways.items) (planned_entries dirs.now edits.now packed.now rewrite.now)) }
+    requires { IsPlanOf dirs.now edits.now (entries plan.now) }
+    ensures in_way { F.honest → IfOk result (λ ways. AllInWay edits.now dirs.now
+        (F.means files.old).tree (folder_lists ways.items) (entries plan.now)) }
     ensures failed { IfErr result
         (IsOfListing edits.now (F.faults files.old) (F.faults files.new)) }
     ensures reads { OnlyReads F.honest F.means F.faults files.old files.new }
 {
-    let Ok(plan) = plan_commit(alloc, dirs, edits, packed, rewrite) else {
-        return Err(commit::Error::Memory);
-    };
-    match find_empty_dirs_in_the_way(alloc, files, dirs, edits, &plan) {
+    match find_empty_dirs_in_the_way(alloc, files, dirs, edits, plan) {
         Ok(ways) => Ok(ways),
         Err(unfinished) => Err(unlisted(alloc, edits, unfinished)),
     }

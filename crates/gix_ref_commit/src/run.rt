@@ -1,16 +1,13 @@
 //! The run of the plan of a commit.
-ghost use Rattle.std.specs.Prelude.{◌<◌, OnOk, IfErr, length};
-ghost use Rattle.gix_ref_commit.specs.Cleared.{commit_entries};
-ghost use Rattle.gix_ref_commit.specs.Unfinished.{IsStepAt, RunsAll, RunsOnly, StopsEarly};
+ghost use Rattle.std.specs.Prelude.{◌<◌, length};
+ghost use Rattle.gix_ref_commit.specs.Cleared.{cleared, folder_lists};
+ghost use Rattle.gix_ref_commit.specs.Entries.{entries};
+ghost use Rattle.gix_ref_commit.specs.Unfinished.{IsStepAt, RunsOnly, RunsTo};
 
 use crate::folders::{EmptyDirs, clear};
-use crate::plan::{About, plan_commit};
+use crate::plan::About;
 use gix_ref_files::files::{FileError, Files};
-use gix_ref_files::lock::LockFile;
 use gix_ref_files::steps::{Cause, Ended, Planned, run_steps};
-use gix_ref_lookup::folders::Dirs;
-use gix_ref_packed_text::outcome::Rewrite;
-use gix_ref_transaction::edit::Edit;
 use std::alloc::Global;
 
 /// Why the plan of a commit was not run to its end.
@@ -38,27 +35,19 @@ fn step_of_end(plan: &[Planned<'_, About>], ended: Ended) -> Unfinished
     }
 }
 
-/// Plans the steps of a commit, each after the removals of the folders that are in its way, and runs them, up to the first that fails or
-/// finds something in its way. Takes memory for the plan alone, before the first step. (`commit` of `git update-ref --stdin`)
-pub fn run_plan<F: Files>(
+/// Runs the steps of a plan, each after the removals of the folders that are in its way, up to the first that fails or finds something in
+/// its way. Takes memory before the first step alone, and none where no folder is in the way. (`commit` of `git update-ref --stdin`)
+pub fn run_plan<'p, F: Files>(
     alloc: Global,
     files: &mut F,
-    dirs: &Dirs,
-    edits: &[Edit],
-    packed: &Option<LockFile>,
-    rewrite: &Rewrite,
-    ways: &[EmptyDirs],
+    plan: Vec<Planned<'p, About>>,
+    ways: &'p [EmptyDirs],
 ) -> Result<(), Unfinished>
-    ensures finished { OnOk result (RunsAll F.honest (commit_entries dirs.now edits.now packed.now
-        rewrite.now ways.now) (F.means files.old) (F.means files.new)) }
-    ensures stopped { IfErr result (StopsEarly F.honest F.means F.faults
-        (commit_entries dirs.now edits.now packed.now rewrite.now ways.now) files.old files.new) }
+    ensures ended { RunsTo F.honest F.means F.faults
+        (cleared (folder_lists ways.now) (entries plan.entry.items)) files.old files.new result }
     ensures runs { RunsOnly F.honest F.means F.faults
-        (commit_entries dirs.now edits.now packed.now rewrite.now ways.now) files.old files.new }
+        (cleared (folder_lists ways.now) (entries plan.entry.items)) files.old files.new }
 {
-    let Ok(plan) = plan_commit(alloc, dirs, edits, packed, rewrite) else {
-        return Err(Unfinished::Memory);
-    };
     let Ok(steps) = clear(alloc, plan, ways) else {
         return Err(Unfinished::Memory);
     };

@@ -18,17 +18,19 @@ use Rattle.gix_ref_packed_transaction.specs.Refusals.{IsBadLine}
 use Rattle.gix_ref_packed_transaction.specs.declared.error.Error.TheVariants as repack
 use Rattle.gix_ref_commit.specs.declared.error.Error.{Error}
 use Rattle.gix_ref_commit.specs.declared.error.Error.TheVariants.{CreateOrUpdateRefLog, LockCommit, PackedTransactionCommit, Memory}
-use Rattle.gix_ref_commit.specs.Cleared.{AllInWay, all_removed, folder_lists}
-use Rattle.gix_ref_commit.specs.Decided.{IsFilled}
+use Rattle.gix_ref_commit.specs.Cleared.{AllInWay, all_removed, commit_entries, folder_lists}
+use Rattle.gix_ref_commit.specs.Decided.{IsFilled, OnlyFillsPacked}
 use Rattle.gix_ref_commit.specs.Entries.{planned_entries}
 use Rattle.gix_ref_commit.specs.Failures.{IsNameAt}
+use Rattle.gix_ref_commit.specs.Unfinished.{RunsOnly, RunsTo}
+use Rattle.gix_ref_commit.specs.declared.folders.EmptyDirs.{EmptyDirs}
 use Rattle.gix_ref_reflog.specs.declared.create_or_update.Error.TheVariants.{Append}
 use Rattle.gix_ref_store.specs.CommitLines.{LinesPass, line_rules, log_path_at}
 use Rattle.gix_ref_store.specs.CommitResult.{IsFaultBetween, IsPackedEmpty, RepacksFrom}
 use Rattle.gix_ref_store.specs.Prepared.{disk_in, tree_of}
-use Rattle.gix_ref_store.specs.Store.{files_of, kind_of, meaning_of}
+use Rattle.gix_ref_store.specs.Store.{files_of, kind_of, meaning_of, with_files}
 use Rattle.gix_ref_store.specs.declared.file.store.Store.{Store}
-use Rattle.gix_ref_store.specs.declared.file.transaction.commit.decide.Decisions.{Decisions}
+use Rattle.gix_ref_store.specs.declared.file.transaction.commit.decide.Published.{Published}
 use Rattle.gix_ref_packed_text.specs.declared.outcome.Rewrite.{Rewrite}
 use Rattle.gix_ref_files.specs.Tree.{Path}
 use Rattle.gix_ref_transaction.specs.OwnLocks.{paths_of}
@@ -88,14 +90,34 @@ module _ {F : Type 0} (honest : Type 0) (means : F → Meaning) (faults : F → 
     pub wholes : honest → IsPackedEmpty honest means faults start packed → (locks : List Path) →
         AreWholeLocks (disk_in means start) locks → AreWholeLocks (disk_in means new) locks
 
-  -- All that a commit decides before its first write.
+  -- All that a commit decides before its first write, with the folders that are removed before each step.
   pub record AllIsDecided (start new : Store F) (committer : Option SignatureRef)
-      (packed : Option Path) (held ran : List Edit) (decided : Decisions) : Type 0 where
+      (packed : Option Path) (held ran : List Edit) (published : Published)
+      (ways : List EmptyDirs) : Type 0 where
     -- what becomes of logs and of `packed-refs`
-    pub texts : TextsAreDecided start new committer packed held ran decided.rewrite
-        decided.path.items
+    pub texts : TextsAreDecided start new committer packed held ran published.rewrite
+        published.path.items
     -- the paths of the logs and loose files that are removed
-    pub removed : paths_of decided.removed.items ≡ all_removed ran
-    -- the folders that are removed before each step
-    pub in_way : honest → AllInWay ran start.dirs (tree_of means new)
-        (folder_lists decided.ways.items) (planned_entries start.dirs ran packed decided.rewrite)
+    pub removed : paths_of published.removed.items ≡ all_removed ran
+    -- the folders that are in the way
+    pub in_way : honest → AllInWay ran start.dirs (tree_of means new) (folder_lists ways)
+        (planned_entries start.dirs ran packed published.rewrite)
+
+  -- A commit that was decided, and whose steps were then run, to their end or not.
+  pub record IsPublished (start new : Store F) (committer : Option SignatureRef)
+      (packed : Option Path) (held ran : List Edit) (published : Published) : Type 0 where
+    -- the files before its first write
+    pub before : F
+    -- until then nothing was written but the lock of `packed-refs`
+    pub fills : OnlyFillsPacked honest means faults packed (files_of start) before
+    -- and all was decided
+    pub ways : List EmptyDirs
+    pub decided : AllIsDecided start (with_files start before) committer packed held ran published
+        ways
+    -- then nothing but these steps was run
+    pub runs : RunsOnly honest means faults
+        (commit_entries start.dirs ran packed published.rewrite ways) before (files_of new)
+    -- all of them, or up to the one at which the run ended
+    pub ended : RunsTo honest means faults
+        (commit_entries start.dirs ran packed published.rewrite ways) before (files_of new)
+        published.ended

@@ -7,7 +7,7 @@ ghost use Rattle.gix_ref_store.specs.Decisions.{left_in};
 ghost use Rattle.gix_ref_store.specs.Store.{files_of, with_files};
 
 use crate::file::store::Store;
-use crate::file::transaction::commit::decide::Decisions;
+use crate::file::transaction::commit::decide::Published;
 use gix_ref_commit::error::Error;
 use gix_ref_commit::failure::{failure, is_renamed, still_held};
 use gix_ref_commit::tidy::remove_empty_folders;
@@ -41,13 +41,13 @@ impl<F: Files> Store<F> {
             packed edits.items (left_in result) }
         ensures same { self.new ≡ with_files self.old (files_of self.new) }
     {
-        let Decisions {
+        let Published {
             rewrite,
             path,
-            ways,
             removed,
-        } = match self.decide(alloc, committer, &mut edits, &packed) {
-            Ok(decided) => decided,
+            ended,
+        } = match self.publish(alloc, committer, &mut edits, &packed) {
+            Ok(published) => published,
             Err(error) => {
                 let remains = release_all(&mut self.files, 0, packed, edits, remains);
                 return Err(Failure {
@@ -56,7 +56,7 @@ impl<F: Files> Store<F> {
                 });
             }
         };
-        if let Err(unfinished) = self.publish(alloc, &edits, &packed, &rewrite, &ways) {
+        if let Err(unfinished) = ended {
             let done = unfinished.done(edits.len());
             let packed = still_held(packed, unfinished.is_packed_renamed(&rewrite));
             let Remains {

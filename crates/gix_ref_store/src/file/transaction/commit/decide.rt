@@ -1,10 +1,8 @@
 //! What a commit decides before its first write, and the run of its steps, from a store.
-ghost use Rattle.std.specs.Prelude.{◌≡◌, OnOk, IfOk, IfErr};
+ghost use Rattle.std.specs.Prelude.{◌≡◌, IfOk, IfErr};
 ghost use Rattle.gix_ref_reflog.specs.AskedEdits.{all_but_logs};
-ghost use Rattle.gix_ref_commit.specs.Cleared.{commit_entries};
 ghost use Rattle.gix_ref_commit.specs.Decided.{OnlyFillsPacked};
-ghost use Rattle.gix_ref_commit.specs.Unfinished.{RunsAll, RunsOnly, StopsEarly};
-ghost use Rattle.gix_ref_store.specs.Decisions.{AllIsDecided, IsUndecided, TextsAreDecided};
+ghost use Rattle.gix_ref_store.specs.Decisions.{IsPublished, IsUndecided, TextsAreDecided};
 ghost use Rattle.gix_ref_store.specs.Store.{files_of, with_files};
 
 use crate::file::settings::settings;
@@ -12,7 +10,7 @@ use crate::file::store::Store;
 use gix_ref_commit::decide::{NewPacked, decide_folders, decide_packed};
 use gix_ref_commit::error::Error;
 use gix_ref_commit::failure::{undecided, unlogged};
-use gix_ref_commit::folders::EmptyDirs;
+use gix_ref_commit::plan::plan_commit;
 use gix_ref_commit::run::{Unfinished, run_plan};
 use gix_ref_commit::tidy::removed_paths;
 use gix_ref_files::files::Files;
@@ -23,17 +21,17 @@ use gix_ref_reflog::decide::decide_logs;
 use gix_ref_transaction::edit::Edit;
 use std::alloc::Global;
 
-/// What a commit decides before its first write.
+/// A commit whose steps were run: what was decided of it before its first write, and how the run ended.
 #[derive(Drop)]
-pub(crate) struct Decisions {
-    /// What becomes of `packed-refs`. A new text is in its lock already.
+pub(crate) struct Published {
+    /// What became of `packed-refs`. A new text was in its lock before the run.
     pub rewrite: Rewrite,
     /// The path of `packed-refs`, where its lock is held; empty where it is not.
     pub path: Vec<u8>,
-    /// The folders that are removed before each step.
-    pub ways: Vec<EmptyDirs>,
     /// The paths of the logs and loose files that are removed.
     pub removed: Vec<Vec<u8>>,
+    /// Why the steps were not run to their end, if they were not.
+    pub ended: Result<(), Unfinished>,
 }
 
 impl<F: Files> Store<F> {
@@ -68,67 +66,41 @@ impl<F: Files> Store<F> {
     }
 
     /// Decides all of a commit before its first write: what becomes of the log of each edit, and of `packed-refs`, whose new text is put into
-    /// its lock, and which folders are in the way of its writes. No other file changes.
-    pub(crate) fn decide(
+    /// its lock, and which folders are in the way of its writes. Then it runs the steps, up to the first that fails or finds something in its
+    /// way. Where the decisions fail, no other file has changed.
+    pub(crate) fn publish(
         &mut self,
         alloc: Global,
         committer: Option<SignatureRef<'_>>,
         edits: &mut Vec<Edit>,
         packed: &Option<LockFile>,
-    ) -> Result<Decisions, Error>
+    ) -> Result<Published, Error>
         ensures alike { all_but_logs edits.new.items ≡ all_but_logs edits.old.items }
-        ensures decided { IfOk result (AllIsDecided F.honest F.means F.faults self.old self.new
+        ensures published { IfOk result (IsPublished F.honest F.means F.faults self.old self.new
             committer.entry packed.now edits.old.items edits.new.items) }
         ensures failed { IfErr result (IsUndecided F.honest F.means F.faults self.old self.new
             committer.entry edits.old.items) }
-        ensures fills { OnlyFillsPacked F.honest F.means F.faults packed.now (files_of self.old)
-            (files_of self.new) }
+        ensures fills { IfErr result (λ _. OnlyFillsPacked F.honest F.means F.faults packed.now
+            (files_of self.old) (files_of self.new)) }
         ensures same { self.new ≡ with_files self.old (files_of self.new) }
     {
         let NewPacked { rewrite, path } = self.decide_texts(alloc, committer, edits, packed)?;
         let Ok(removed) = removed_paths(alloc, edits) else {
             return Err(Error::Memory);
         };
-        let ways = match decide_folders(
-            alloc,
-            &mut self.files,
-            &self.dirs,
-            edits,
-            packed,
-            &rewrite,
-        ) {
+        let Ok(plan) = plan_commit(alloc, &self.dirs, edits, packed, &rewrite) else {
+            return Err(Error::Memory);
+        };
+        let ways = match decide_folders(alloc, &mut self.files, &self.dirs, edits, &plan) {
             Ok(ways) => ways,
             Err(error) => return Err(error),
         };
-        Ok(Decisions {
+        let ended = run_plan(alloc, &mut self.files, plan, &ways);
+        Ok(Published {
             rewrite,
             path,
-            ways,
             removed,
+            ended,
         })
-    }
-
-    /// Runs the steps of a commit whose logs and `packed-refs` are decided, up to the first that fails or finds something in its
-    /// way.
-    pub(crate) fn publish(
-        &mut self,
-        alloc: Global,
-        edits: &[Edit],
-        packed: &Option<LockFile>,
-        rewrite: &Rewrite,
-        ways: &[EmptyDirs],
-    ) -> Result<(), Unfinished>
-        ensures finished { OnOk result (RunsAll F.honest
-            (commit_entries self.old.dirs edits.now packed.now rewrite.now ways.now)
-            (F.means (files_of self.old)) (F.means (files_of self.new))) }
-        ensures stopped { IfErr result (StopsEarly F.honest F.means F.faults
-            (commit_entries self.old.dirs edits.now packed.now rewrite.now ways.now)
-            (files_of self.old) (files_of self.new)) }
-        ensures runs { RunsOnly F.honest F.means F.faults (commit_entries self.old.dirs edits.now
-            packed.now rewrite.now ways.now) (files_of self.old) (files_of self.new) }
-        ensures same { self.new ≡ with_files self.old (files_of self.new) }
-    {
-        let dirs = &self.dirs;
-        run_plan(alloc, &mut self.files, dirs, edits, packed, rewrite, ways)
     }
 }
