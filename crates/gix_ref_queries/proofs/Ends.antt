@@ -8,22 +8,22 @@ use Rattle.gix_ref_files.specs.declared.files.ReadAt.{Ghosts}
 use Rattle.gix_ref_target.specs.PackedRecords.{Record}
 use Rattle.gix_ref_store.specs.Lookup.{AreRecordsIn, LooksUp}
 use Rattle.gix_ref_store.specs.declared.file.store.Store.{Store}
-use Rattle.gix_ref_queries.specs.Resolving.{TargetsByName, NameEnd, EndsBy, EndFails, FollowsTo, resolved, targets_in}
+use Rattle.gix_ref_queries.specs.Resolving.{TargetsByName, NameEnd, EndsBy, EndFails, FollowsTo, SeesEnds, targets_in}
 use Rattle.gix_ref_queries.specs.Resolving.NameEnd.{Reached, Missing, TooDeep}
 use Rattle.gix_ref_queries.specs.declared.answer.Answer.{Answer}
 use Rattle.gix_ref_queries.specs.declared.resolve.End.{End}
 use Rattle.gix_ref_queries.specs.declared.resolve.End.TheVariants as ends
-use Rattle.gix_ref_queries.proofs.Names.{same_finds, same_records, unfollowed_by}
+use Rattle.gix_ref_queries.proofs.Names.{follows_to, same_finds, same_records, unfollowed_by}
 use Rattle.gix_ref_queries.proofs.ShortLemmas.{unshort_before}
 
 module _ {F R : Type 0} (G : Ghosts R) (honest : Type 0) (means : F → Meaning) (faults : F → FaultCounts) (old : Store F) where
   -- what is answered where the following of a name ended so
-  pub verified : (first last name : List ℕ) (of : End) (a : Answer) → first ≡ name → (honest → (records : List Record) → AreRecordsIn means old records → EndsBy (targets_in means old records) first last of) → EndFails G honest means faults old last of → EndVerified of name a → VerifiesFull G honest means faults old name a
-  verified first last name (ends.Object id) a same by fails said = inr (Reached last id, (λ h records are. sym (by h records are) ∙ ap (resolved (targets_in means old records) 5) same), said)
-  verified first last name ends.Absent a same by fails said = inr (Missing last, (λ h records are. sym (by h records are) ∙ ap (resolved (targets_in means old records) 5) same), said)
-  verified first last name ends.TooDeep a same by fails said = inr (TooDeep, (λ h records are. sym (by h records are) ∙ ap (resolved (targets_in means old records) 5) same), said)
-  verified first last name (ends.Unread error) a same by fails said = inl ((error, unfollowed_by G honest means faults old first last name (ends.Unread error) error refl same by fails), said)
-  verified first last name ends.Memory a same by fails said = absurd said
+  pub verified : (first last name : List ℕ) (of : End) (a : Answer) → first ≡ name → (honest → (records : List Record) → AreRecordsIn means old records → EndsBy (targets_in means old records) first last of) → (honest → SeesEnds means old first last of) → EndFails G honest means faults old last of → EndVerified of name a → VerifiesFull G honest means faults old name a
+  verified first last name (ends.Object id) a same by sees fails said = inr (Reached last id, follows_to honest means old first last name (ends.Object id) (ends.Object id) (Reached last id) same refl refl by sees, said)
+  verified first last name ends.Absent a same by sees fails said = inr (Missing last, follows_to honest means old first last name ends.Absent ends.Absent (Missing last) same refl refl by sees, said)
+  verified first last name ends.TooDeep a same by sees fails said = inr (TooDeep, follows_to honest means old first last name ends.TooDeep ends.TooDeep TooDeep same refl refl by sees, said)
+  verified first last name (ends.Unread error) a same by sees fails said = inl ((error, unfollowed_by G honest means faults old first last name (ends.Unread error) error refl same by sees fails), said)
+  verified first last name ends.Memory a same by sees fails said = absurd said
 
   module _ (mid : Store F) (looked : LooksUp honest means old mid) where
     -- a name as it is shown, once the store was looked at

@@ -13,10 +13,8 @@ use Rattle.std.specs.Option.{is_none}
 use Rattle.gix_ref_files.specs.Files.{Meaning, FaultCounts}
 use Rattle.gix_ref_files.specs.declared.files.ReadAt.{Ghosts}
 use Rattle.gix_ref_name.specs.NameGrammar.{full_error}
-use Rattle.gix_ref_target.specs.PackedRecords.{Record}
 use Rattle.gix_ref_queries.specs.Answers.{Says}
-use Rattle.gix_ref_queries.specs.Resolving.{TargetsByName, NameEnd, EndsBy, targets_in, resolved}
-use Rattle.gix_ref_queries.specs.declared.resolve.End.{End}
+use Rattle.gix_ref_queries.specs.Resolving.{NameEnd, FollowsTo}
 use Rattle.gix_ref_files.specs.Tree.{Content, Tree, is_file, bytes_of}
 use Rattle.gix_ref_log.specs.LogCuts.{log_lines}
 use Rattle.gix_ref_log.specs.LogForward.{ForwardStep}
@@ -29,7 +27,7 @@ use Rattle.gix_ref_lookup.specs.Lookups.{meaning_in}
 use Rattle.gix_ref_lookup.specs.Reflogs.{IsNoLog, count_by}
 use Rattle.gix_ref_lookup.specs.declared.reflog.error.Error.{Error as LogError}
 use Rattle.gix_ref_lookup.specs.declared.settings.Settings.{Settings}
-use Rattle.gix_ref_store.specs.Lookup.{AreRecordsIn, LooksUp}
+use Rattle.gix_ref_store.specs.Lookup.{LooksUp}
 use Rattle.gix_ref_store.specs.Reflogs.{IsNoReflog, reflog_at}
 use Rattle.gix_ref_store.specs.Store as stores
 use Rattle.gix_ref_store.specs.declared.file.store.Store.{Store}
@@ -156,9 +154,6 @@ module _ {F : Type 0} (honest : Type 0) (means : F → Meaning) (faults : F → 
   own_shown name last label count text answer same says shows = inr (text.items, says, (λ h. let s = shows h in (s.0, inl (s.1, s.2), s.3 ∙ ap (λ (n : List ℕ). entry_lines n 0 (newest count s.0)) same)))
 
   -- what is answered where the following ended so
-  pub answered : {R : Type 0} (G : Ghosts R) (name : List ℕ) (count : Option ℕ) (answer : Answer) (end : NameEnd) → full_error name ≡ None → (honest → (records : List Record) → AreRecordsIn means old records → end ≡ resolved (targets_in means old records) 5 name) →
+  pub answered : {R : Type 0} (G : Ghosts R) (name : List ℕ) (count : Option ℕ) (answer : Answer) (end : NameEnd) → full_error name ≡ None → FollowsTo honest means old name end →
       ShowsByEnd honest means faults old new end name count answer → ShowAnswer honest means faults G old new name count answer
   answered G name count answer end valid leads shows = inr (ap is_none valid, inr (end, leads, shows))
-
-pub ended_at : (find : TargetsByName) (owned full name last : List ℕ) (done of : End) (end : NameEnd) → owned ≡ full → full ≡ name → EndsBy find owned last done → done ≡ of → (EndsBy find owned last of → resolved find 5 owned ≡ end) → end ≡ resolved find 5 name
-ended_at find owned full name last done of end p q by is so = sym (so (subst (λ (d : End). EndsBy find owned last d) is by)) ∙ ap (resolved find 5) (p ∙ q)

@@ -3,7 +3,7 @@ ghost use Rattle.std.specs.Prelude.{◌≡◌};
 ghost use Rattle.gix_ref_name.specs.Names.{full_bytes, full_ref_bytes};
 ghost use Rattle.gix_ref_store.specs.Lookup.{LooksUp};
 ghost use Rattle.gix_ref_store.specs.Store.{files_of};
-ghost use Rattle.gix_ref_queries.specs.Resolving.{OfTargets, ReadsAs, ReadFails, EndsAs, EndFails, IfFollowed, IfRead};
+ghost use Rattle.gix_ref_queries.specs.Resolving.{OfTargets, ReadsAs, ReadFails, EndsAs, EndFails, IfFollowed, IfRead, SeesEnds, SeesRead};
 
 use gix_ref_files::files::Files;
 use gix_ref_hash::hash::ObjectId;
@@ -33,6 +33,8 @@ pub enum NameRead {
 pub fn read_name<F: Files>(alloc: Global, store: &mut Store<F>, name: FullNameRef<'_>) -> NameRead
     ensures reads { OfTargets F.honest F.means store.old
         (λ find. ReadsAs (find (full_ref_bytes name.entry)) result) }
+    ensures seen { F.honest → SeesRead F.means store.old
+        (full_ref_bytes name.entry) result }
     ensures failed { ReadFails F.Reader.ReadAt F.honest F.means F.faults store.old
         (full_ref_bytes name.entry) result }
     ensures no_fault { IfRead result (F.faults (files_of store.new)
@@ -73,6 +75,8 @@ pub struct Followed {
 pub fn follow<F: Files>(alloc: Global, store: &mut Store<F>, name: FullName) -> Followed
     ensures ends { OfTargets F.honest F.means store.old
         (λ find. EndsAs find (full_bytes name) result) }
+    ensures seen { F.honest → SeesEnds F.means store.old (full_bytes name)
+        (full_bytes result.name) result.end }
     ensures failed { EndFails F.Reader.ReadAt F.honest F.means F.faults store.old
         (full_bytes result.name) result.end }
     ensures no_fault { IfFollowed result.end (F.faults (files_of store.new)

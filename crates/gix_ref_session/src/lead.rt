@@ -7,7 +7,7 @@ ghost use Rattle.gix_ref_name.specs.Names.{full_bytes, full_ref_bytes};
 ghost use Rattle.gix_ref_store.specs.Lookup.{LooksUp};
 ghost use Rattle.gix_ref_queries.specs.Resolving.{IsUnfollowedBy, IsUnreadBy, OfTargets, resolved};
 ghost use Rattle.gix_ref_session.specs.Clashes.{AreClear, IsFindFailure, IsHeadUnread, IsLookFailure, IsOwnUnread};
-ghost use Rattle.gix_ref_session.specs.Leading.{AreLed, LeadsIn, LeadsTo, branch_of, is_followed, is_through_head, last_of, next_of, updates};
+ghost use Rattle.gix_ref_session.specs.Leading.{AreLed, LeadsIn, LeadsTo, SeesBranch, SeesLast, SeesLed, SeesNext, SeesThrough, branch_of, is_followed, is_through_head, last_of, next_of, updates};
 ghost use Rattle.gix_ref_session.specs.declared.fatal.Fatal.TheVariants.{Memory};
 
 use crate::clash::check_names;
@@ -29,6 +29,8 @@ fn next_name<F: Files>(
 ) -> Result<Option<FullName>, Fatal>
     ensures reads { OfTargets F.honest F.means store.old (λ find. IfOk result
         (λ next. option_map full_bytes next ≡ next_of (find (full_ref_bytes name.entry)))) }
+    ensures seen { F.honest → IfOk result (λ next. SeesNext F.means store.old
+        (full_ref_bytes name.entry) (option_map full_bytes next)) }
     ensures unchanged { LooksUp F.honest F.means store.old store.new }
     ensures fails { IfErr result
         (IsFindFailure (IsUnreadBy F.Reader.ReadAt F.honest F.means F.faults store.old
@@ -51,6 +53,8 @@ fn end_of_chain<F: Files>(
 ) -> Result<Option<FullName>, Fatal>
     ensures ends { OfTargets F.honest F.means store.old (λ find. IfOk result
         (λ last. option_map full_bytes last ≡ last_of (resolved find 5 (full_bytes name.now)))) }
+    ensures seen { F.honest → IfOk result (λ last. SeesLast F.means store.old
+        (full_bytes name.now) (option_map full_bytes last)) }
     ensures unchanged { LooksUp F.honest F.means store.old store.new }
     ensures fails { IfErr result
         (IsFindFailure (IsUnfollowedBy F.Reader.ReadAt F.honest F.means F.faults store.old
@@ -86,6 +90,8 @@ fn head_branch<F: Files>(
 ) -> Result<Option<FullName>, Fatal>
     ensures branch { OfTargets F.honest F.means store.old (λ find. IfOk result
         (λ branch. option_map full_bytes branch ≡ branch_of find writes_lines)) }
+    ensures seen { F.honest → IfOk result (λ branch. SeesBranch F.means store.old writes_lines
+        (option_map full_bytes branch)) }
     ensures unchanged { LooksUp F.honest F.means store.old store.new }
     ensures fails { IfErr result
         (IsFindFailure (IsHeadUnread F.honest F.means F.faults F.Reader.ReadAt store.old
@@ -126,7 +132,9 @@ fn is_through_head<F: Files>(
     branch: &Option<FullName>,
 ) -> Result<bool, Fatal>
     ensures through { OfTargets F.honest F.means store.old (λ find. IfOk result (λ through. through
-        ≡ is_through_head find (option_map full_bytes branch.now) edit.now)) }
+        ≡ is_through_head (find (name_of edit.now)) (option_map full_bytes branch.now) edit.now)) }
+    ensures seen { F.honest → IfOk result (SeesThrough F.means store.old
+        (option_map full_bytes branch.now) edit.now) }
     ensures unchanged { LooksUp F.honest F.means store.old store.new }
     ensures fails { IfErr result
         (IsFindFailure (IsUnreadBy F.Reader.ReadAt F.honest F.means F.faults store.old
@@ -157,6 +165,8 @@ fn led_edit<F: Files>(
 ) -> Result<RefEdit, Fatal>
     ensures leads { OfTargets F.honest F.means store.old (λ find. IfOk result
         (LeadsTo find (option_map full_bytes branch.now) edit.now)) }
+    ensures seen { F.honest → IfOk result (SeesLed F.means store.old
+        (option_map full_bytes branch.now) edit.now) }
     ensures change { IfOk result (λ led. SameChange edit.now.change led.change) }
     ensures unchanged { LooksUp F.honest F.means store.old store.new }
     ensures fails { IfErr result

@@ -22,4 +22,4 @@ returns-in-Unread-clause-failed g c =
     let F = g.F.Files in
     let done = c.follow-last.result in
     let error = c.in-Unread.field-0 in
-    ((error, unfollowed_by g.F.Reader.ReadAt F.honest F.means F.faults c.args.store.now (full_bytes c.in_ok-owned.owned) (full_bytes done.name) (full_ref_bytes c.args.name) done.end error c.in-Unread.is c.in_ok-owned.ensures c.follow-last.ensures.ends c.follow-last.ensures.failed), refl)
+    ((error, unfollowed_by g.F.Reader.ReadAt F.honest F.means F.faults c.args.store.now (full_bytes c.in_ok-owned.owned) (full_bytes done.name) (full_ref_bytes c.args.name) done.end error c.in-Unread.is c.in_ok-owned.ensures c.follow-last.ensures.ends c.follow-last.ensures.seen c.follow-last.ensures.failed), refl)

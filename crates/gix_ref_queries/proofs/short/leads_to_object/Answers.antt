@@ -28,6 +28,6 @@ returns-in-Unread-clause-failed g c =
     let done = c.follow-end.result in
     record {
       full = c.args.name.now;
-      unfollowed = unfollowed_by g.F.Reader.ReadAt F.honest F.means F.faults c.args.store.now (full_bytes c.in_ok-owned.owned) (full_bytes done.name) c.args.name.now done.end c.in-Unread.error c.in-Unread.is (c.in_ok-owned.ensures ∙ c.in-Ok.ensures.0) c.follow-end.ensures.ends c.follow-end.ensures.failed;
+      unfollowed = unfollowed_by g.F.Reader.ReadAt F.honest F.means F.faults c.args.store.now (full_bytes c.in_ok-owned.owned) (full_bytes done.name) c.args.name.now done.end c.in-Unread.error c.in-Unread.is (c.in_ok-owned.ensures ∙ c.in-Ok.ensures.0) c.follow-end.ensures.ends c.follow-end.ensures.seen c.follow-end.ensures.failed;
       asked = λ h records are. refl;
     }

@@ -9,5 +9,5 @@ returns-clause-answers g c =
     let F = g.F.Files in
     let a = c.in_ok-answer.answer in
     let done = c.follow-end.result in
-    verified g.F.Reader.ReadAt F.honest F.means F.faults c.args.store.now (full_bytes c.in_ok-owned.owned) (full_bytes done.name) (full_ref_bytes c.args.name) done.end a c.in_ok-owned.ensures c.follow-end.ensures.ends c.follow-end.ensures.failed
+    verified g.F.Reader.ReadAt F.honest F.means F.faults c.args.store.now (full_bytes c.in_ok-owned.owned) (full_bytes done.name) (full_ref_bytes c.args.name) done.end a c.in_ok-owned.ensures c.follow-end.ensures.ends c.follow-end.ensures.seen c.follow-end.ensures.failed
     (subst (λ (n : List ℕ). EndVerified done.end n a) c.to_path.ensures.bytes c.in_ok-answer.ensures)

@@ -28,4 +28,4 @@ returns-in-Unread-clause-fails g c =
     let F = g.F.Files in
     let done = c.follow-last.result in
     let same : full_bytes c.in_ok-clone.field-0 ≡ full_bytes c.args.name.now = search rules in
-    unfollowed_by g.F.Reader.ReadAt F.honest F.means F.faults c.args.store.now (full_bytes c.in_ok-clone.field-0) (full_bytes done.name) (full_bytes c.args.name.now) done.end c.in-Unread.error c.in-Unread.is same c.follow-last.ensures.ends c.follow-last.ensures.failed
+    unfollowed_by g.F.Reader.ReadAt F.honest F.means F.faults c.args.store.now (full_bytes c.in_ok-clone.field-0) (full_bytes done.name) (full_bytes c.args.name.now) done.end c.in-Unread.error c.in-Unread.is same c.follow-last.ensures.ends c.follow-last.ensures.seen c.follow-last.ensures.failed

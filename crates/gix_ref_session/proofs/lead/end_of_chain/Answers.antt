@@ -1,6 +1,7 @@
-use Rattle.std.proofs.Common.{rules, ◌≡◌, ◌∙◌, ap, sym, List, ℕ}
+use Rattle.std.proofs.Common.{rules, ◌≡◌, ◌∙◌, ap, refl, subst, sym, List, ℕ}
 use Rattle.gix_ref_name.specs.Names.{full_bytes}
-use Rattle.gix_ref_queries.specs.Resolving.{targets_in, resolved}
+use Rattle.gix_ref_queries.specs.Resolving.{SeesEnd, targets_in, resolved}
+use Rattle.gix_ref_queries.specs.Resolving.NameEnd.{Missing, Reached}
 use Rattle.gix_ref_queries.proofs.Names.{unfollowed_by}
 use Rattle.gix_ref_session.specs.Leading.{last_of}
 use Rattle.gix_ref_session.proofs.lead.end_of_chain.Goals as goal
@@ -28,4 +29,16 @@ returns-in-Unread-clause-fails g c =
     let F = g.F.Files in
     let done = c.follow-last.result in
     let same : full_bytes c.in_ok-clone.field-0 ≡ full_bytes c.args.name.now = search rules in
-    unfollowed_by g.F.Reader.ReadAt F.honest F.means F.faults c.args.store.now (full_bytes c.in_ok-clone.field-0) (full_bytes done.name) (full_bytes c.args.name.now) done.end c.in-Unread.error c.in-Unread.is same c.follow-last.ensures.ends c.follow-last.ensures.failed
+    unfollowed_by g.F.Reader.ReadAt F.honest F.means F.faults c.args.store.now (full_bytes c.in_ok-clone.field-0) (full_bytes done.name) (full_bytes c.args.name.now) done.end c.in-Unread.error c.in-Unread.is same c.follow-last.ensures.ends c.follow-last.ensures.seen c.follow-last.ensures.failed
+
+pub returns-in-Object-clause-seen : goal.returns-in-Object-clause-seen
+returns-in-Object-clause-seen g c h =
+    let end = Reached (full_bytes c.follow-last.result.name) c.in-Object.field-0 in
+    let same : full_bytes c.in_ok-clone.field-0 ≡ full_bytes c.args.name.now = search rules in
+    (end, subst (λ (n : List ℕ). SeesEnd g.F.Files.means c.args.store.now 5 n end) same (rw c.in-Object.is at (c.follow-last.ensures.seen h)), refl)
+
+pub returns-in-Absent-clause-seen : goal.returns-in-Absent-clause-seen
+returns-in-Absent-clause-seen g c h =
+    let end = Missing (full_bytes c.follow-last.result.name) in
+    let same : full_bytes c.in_ok-clone.field-0 ≡ full_bytes c.args.name.now = search rules in
+    (end, subst (λ (n : List ℕ). SeesEnd g.F.Files.means c.args.store.now 5 n end) same (rw c.in-Absent.is at (c.follow-last.ensures.seen h)), refl)

@@ -12,7 +12,7 @@ pub returns-in-Ok-clause-through : goal.returns-in-Ok-clause-through
 returns-in-Ok-clause-through g c h records are =
     let find = targets_in g.F.Files.means c.args.store.now records in
     let none : c.is_none.result ≡ is_none c.in-Ok.next = search rules in
-    rw c.in-Some.is (through_by find (full_bytes c.in-Some.branch) c.args.edit.now c.is_none.result (c.eq_bytes.ensures.0 c.if-not-eq_bytes.false ∙ c.to_path.ensures.bytes) (sym c.updates.ensures ∙ c.if-not-updates.false) c.if-edit.false
+    rw c.in-Some.is (through_by (find (name_of c.args.edit.now)) (full_bytes c.in-Some.branch) c.args.edit.now c.is_none.result (c.eq_bytes.ensures.0 c.if-not-eq_bytes.false ∙ c.to_path.ensures.bytes) (sym c.updates.ensures ∙ c.if-not-updates.false) c.if-edit.false
     (none ∙ (none_mapped c.in-Ok.next ∙ (ap is_none (c.in-Ok.ensures.reads h records are) ∙ ap (λ (name : List ℕ). is_none (next_of (find name))) c.as_ref.ensures))))
 
 pub returns-in-Err-clause-fails : goal.returns-in-Err-clause-fails

@@ -1,9 +1,11 @@
 use Rattle.std.proofs.Common.{subst, sym, List, []}
+use Rattle.std.specs.Option.{option_map}
+use Rattle.gix_ref_name.specs.Names.{full_bytes}
 use Rattle.gix_ref_edits.specs.declared.transaction.RefEdit.{RefEdit}
 use Rattle.gix_ref_session.specs.Leading.{AreLed, IsLed, LeadsIn}
 use Rattle.gix_ref_session.specs.Clashes.{IsLookFailure}
 use Rattle.gix_ref_session.proofs.ClashLemmas.{clash_look, head_look_before, own_look_before, told}
-use Rattle.gix_ref_session.proofs.LeadLemmas.{branch_in, leads_in, led_more}
+use Rattle.gix_ref_session.proofs.LeadLemmas.{branch_in, leads_in, led_more, sees_branch_before}
 use Rattle.gix_ref_session.proofs.Looking.{looks_on}
 use Rattle.gix_ref_session.proofs.lead.led_edits.Goals as goal
 
@@ -16,6 +18,7 @@ loop-edit-init g c =
       looks_on F.honest F.means first at c.head_branch.new.store looked c.head_branch.ensures.unchanged,
       subst (λ (led : List RefEdit). AreLed (LeadsIn F.honest F.means first c.args.writes_lines) [] led) (sym c.new-led.ensures.items) tt,
       branch_in F.honest F.means first at looked c.args.writes_lines c.in_ok-branch.branch c.in_ok-branch.ensures.branch,
+      (λ h. sees_branch_before F.honest F.means first at looked h c.args.writes_lines (option_map full_bytes c.in_ok-branch.branch) (c.in_ok-branch.ensures.seen h)),
     )
 
 pub loop-edit-preserved : goal.loop-edit-preserved
@@ -29,8 +32,9 @@ loop-edit-preserved g c =
       looks_on F.honest F.means first mid c.led_edit.new.store looked c.led_edit.ensures.unchanged,
       led_more Leads c.args.edits.now c.loop-edit.edit-index c.edit-item.result c.loop-edit.led.items c.push_edit.new.edits.items c.in_ok-edit.edit c.loop-edit-test.true c.loop-edit.invariant.1
           (subst (λ (e : RefEdit). IsLed Leads e c.in_ok-edit.edit) c.edit-item.is
-          (record { change = c.in_ok-edit.ensures.change; leads = leads_in F.honest F.means first mid looked c.args.writes_lines c.loop-edit.branch-1 c.edit-item.result c.in_ok-edit.edit branch c.in_ok-edit.ensures.leads })) c.in_ok-push_edit.ensures,
+          (record { change = c.in_ok-edit.ensures.change; leads = leads_in F.honest F.means first mid looked c.args.writes_lines c.loop-edit.branch-1 c.edit-item.result c.in_ok-edit.edit branch c.in_ok-edit.ensures.leads c.loop-edit.invariant.3 c.in_ok-edit.ensures.seen })) c.in_ok-push_edit.ensures,
       branch,
+      c.loop-edit.invariant.3,
     )
 
 pub returns-in_err-branch-clause-fails : goal.returns-in_err-branch-clause-fails
