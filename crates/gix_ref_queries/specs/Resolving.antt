@@ -117,7 +117,8 @@ module _ (settings : Settings) (view : View) where
       ⊎ ((view (s.place name) ≡ None) × OfKey s name (λ key. OfKeptText (λ kind text.
       (found : Found) × HitsRecord kind text key found × (target ≡ object_id found.target))))
 
-  -- none: there is no loose file; and it has no key, or there is no `packed-refs`, or that has a line of the form of a record
+  -- none: there is no loose file; and it has no key, or there is no `packed-refs`, or that is empty, or has a line of the form of a
+  -- record
   abbrev pub IsUnseen : (name : List ℕ) → Type 0
   IsUnseen name =
       let s = meaning_in settings in

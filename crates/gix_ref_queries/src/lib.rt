@@ -8,6 +8,8 @@
 //!   (`IsAnswerTo`, `IsAnswered` in `Asks.antt`)
 //! - what is printed, and the status, by what lookups find: `show-ref --verify` by `verify::verify` (`VerifiesAs` in `Answers.antt`),
 //!   `symbolic-ref` by `verify::symbolic` (`SymbolicAs`), `reflog exists` by `reflog::log_exists` (`ExistsAs`)
+//! - where a following leads, on any text of `packed-refs`: by what each lookup saw: `resolve::follow` (`SeesEnd`, `FollowsTo` in
+//!   `Resolving.antt`)
 //! - the short name of a reference: what comes after the longest front, where no other name that Git takes it for leads to an object:
 //!   `short::short_name` (`Shortening.antt`)
 //! - each entry of a log that can be read, newest first, with its place: `reflog::show_log` (`ShowAnswer` in `LogRows.antt`)
