@@ -7,18 +7,15 @@ use Rattle.gix_ref_hash.specs.declared.hash.ObjectId.{ObjectId}
 use Rattle.gix_ref_hash.specs.declared.hash.ObjectId.TheVariants as ids
 use Rattle.gix_ref_hash.specs.declared.hash.Kind.{Kind}
 use Rattle.gix_ref_target.specs.PackedRecords.{Record, id_read, id_in, id_with}
-use Rattle.gix_ref_target.specs.Targets.{TargetValue, stripped_target, target_value}
+use Rattle.gix_ref_target.specs.Targets.{TargetValue, stripped_target}
 use Rattle.gix_ref_target.specs.Targets.TargetValue.{object_id, symbolic_name}
-use Rattle.gix_ref_theory.specs.Readings.{Store, as_read, reading_among, reading_by, reading_of_loose}
+use Rattle.gix_ref_theory.specs.Readings.{Store, as_read, reading_by, reading_of_loose}
 use Rattle.gix_ref_theory.specs.Readings.Reading.{Is, Fault}
 use Rattle.gix_ref_theory.specs.Lookups.{hit_name, hit_peeled}
 use Rattle.gix_ref_theory.specs.Views.{View}
 use Rattle.gix_ref_packed_text.specs.declared.raw.Reference.{Reference}
-use Rattle.gix_ref_name.specs.Names.{full_bytes}
-use Rattle.gix_ref_name.specs.declared.name.FullName.{FullName}
-use Rattle.gix_ref_target.specs.declared.target.Target.{Target}
 use Rattle.gix_ref_name.specs.DeviceNames.{is_device}
-use Rattle.gix_ref_lookup.specs.Lookups.{IsLooseTarget, IsCandidate, IsByRecord}
+use Rattle.gix_ref_lookup.specs.Lookups.{IsLooseHit, IsCandidate, IsByRecord}
 use Rattle.gix_ref_target.specs.Layout.{Layout, LiesIn, below}
 use Rattle.gix_ref_lookup.specs.StoreLayout.{git_options}
 use Rattle.gix_ref_lookup.specs.LooseText.{HoldsTarget}
@@ -47,15 +44,12 @@ digits_read digits id reads =
     whole (ids.Sha256 bytes) len = ap (λ n. if n == 20 then Some (ids.Sha1 bytes) else if n == 32 then Some (ids.Sha256 bytes) else None) len
 
 -- a candidate by its loose file
-pub loose_candidate : (s : Store) (view : View) (rs : List Record) (name : List ℕ) (n : FullName) (target : Target) →
-    s.is_prohibited (s.place name) ≡ false → IsLooseTarget s (view (s.place name)) (Some target) → full_bytes n ≡ name →
-    (full_bytes n ≡ hit_name s name (s.key name) (view (s.place name)))
-    × (reading_among s view rs name ≡ Is (target_value target))
-    × (None ≡ hit_peeled (s.key name) (view (s.place name)) rs)
-loose_candidate s view rs name n target allowed loose named = (
-  named ∙ ap (hit_name s name (s.key name)) (sym loose.1),
-  ap (λ b. if b then Fault else reading_by s (s.key name) (view (s.place name)) rs) allowed ∙ (ap (λ file. reading_by s (s.key name) file rs) loose.1 ∙ loose.2),
-  ap (λ file. hit_peeled (s.key name) file rs) (sym loose.1),
+pub loose_candidate : (s : Store) (view : View) (rs : List Record) (name : List ℕ) (r : Reference) →
+    s.is_prohibited (s.place name) ≡ false → IsLooseHit s view name r → IsCandidate s view rs name (Some r)
+loose_candidate s view rs name r allowed hit = (
+  hit.0 ∙ ap (hit_name s name (s.key name)) (sym hit.1.1),
+  ap (λ b. if b then Fault else reading_by s (s.key name) (view (s.place name)) rs) allowed ∙ (ap (λ file. reading_by s (s.key name) file rs) hit.1.1 ∙ hit.1.2),
+  hit.2 ∙ ap (λ file. hit_peeled (s.key name) file rs) (sym hit.1.1),
 )
 
 -- and by its record

@@ -1,10 +1,12 @@
 pub mod Answering
 pub mod Composing
 pub mod FolderLemmas
+pub mod Heads
 pub mod Laying
 pub mod Looking
 pub mod LooseLemmas
 pub mod Missing
 pub mod NamedRecords
 pub mod Opening
+pub mod Steps
 pub mod Stripping

@@ -8,7 +8,6 @@ use Rattle.gix_ref_theory.specs.Readings.Reading.{Is, Absent, Fault}
 use Rattle.gix_ref_theory.specs.Lookups.{Hit, first_hit, hit, is_there}
 use Rattle.gix_ref_packed_text.specs.declared.raw.Reference.{Reference}
 use Rattle.gix_ref_lookup.specs.Lookups.{ReturnsHit, IsCandidate, FailsAt, Among, IsPassed, AreAsked, IsNotRead, CandidateFails, IsFaultOf, IsHit, IsLooseTarget, AreHonest, AreStillAsked, IsSearched, OfSearched, OfKey, meaning_in}
-use Rattle.std.specs.Prelude.{option_to_list}
 use Rattle.gix_ref_lookup.specs.LooseFiles.{IsUndecodable}
 use Rattle.gix_ref_lookup.specs.StoreLayout.{namespace_text}
 use Rattle.gix_ref_lookup.specs.declared.settings.Settings.{Settings}
@@ -67,7 +66,7 @@ pub fails_later : (Passed Fails : List ℕ → Type 0) (names : List (List ℕ))
 fails_later Passed Fails names i n next passed later = subst (FailsAt Passed Fails) next (inr (passed, later))
 
 -- why a candidate failed after others were passed is why the lookup fails
-not_read_from : (honest : Type 0) (kind : Kind) (s : Store) (T T' : Tree) (before before' now : FaultCounts) (name : List ℕ) (error : Error) → (honest → T' ≡ T) → before' ≡ before →
+pub not_read_from : (honest : Type 0) (kind : Kind) (s : Store) (T T' : Tree) (before before' now : FaultCounts) (name : List ℕ) (error : Error) → (honest → T' ≡ T) → before' ≡ before →
     IsNotRead honest kind s (view_of T') before' now name error → IsNotRead honest kind s (view_of T) before now name error
 not_read_from honest kind s T T' before before' now name (ReadFileContents (File source) path) same count why = (subst (λ b. IsMet source b now) count why.0, why.1, why.2)
 not_read_from honest kind s T T' before before' now name (ReadFileContents DeviceName path) same count why = why
@@ -159,11 +158,6 @@ among_front P (n ∷ names) tail (inr later) = inr (among_front P names tail lat
 pub among_behind : (P : List ℕ → Type 0) (names tail : List (List ℕ)) → Among P tail → Among P (names ++ tail)
 among_behind P [] tail h = h
 among_behind P (n ∷ names) tail h = inr (among_behind P names tail h)
-
-pub fails_one : (Passed Passed' Fails Fails' : List ℕ → Type 0) (head : Option (List ℕ)) → ((n : List ℕ) → Fails n → Fails' n) → FailsAt Passed Fails (option_to_list head) → FailsAt Passed' Fails' (option_to_list head)
-fails_one Passed Passed' Fails Fails' None f why = absurd why
-fails_one Passed Passed' Fails Fails' (Some n) f (inl here) = inl (f n here)
-fails_one Passed Passed' Fails Fails' (Some n) f (inr later) = absurd later.1
 
 pub among_wider : (P Q : List ℕ → Type 0) (names : List (List ℕ)) → ((n : List ℕ) → P n → Q n) → Among P names → Among Q names
 among_wider P Q [] wider why = absurd why

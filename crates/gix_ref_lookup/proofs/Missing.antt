@@ -1,12 +1,10 @@
 -- Why nothing is found on any text of `packed-refs`.
-use Rattle.std.proofs.Common.{◌≡◌, inl, inr, ⊎_elim, ℕ, List, [], ◌∷◌, Option, Some, None, true, false, ◌∙◌, Result, Ok, Err, refl, sym, subst, IfOk, IfNone, IfSome, MatchOption}
+use Rattle.std.proofs.Common.{◌≡◌, inl, inr, ⊎_elim, ℕ, List, Option, Some, None, true, false, ◌∙◌, Result, Ok, Err, refl, sym, subst, IfOk, IfNone, IfSome, MatchOption}
 use Rattle.gix_ref_hash.specs.declared.hash.Kind.{Kind}
 use Rattle.gix_ref_target.specs.PackedRecords.{Record}
 use Rattle.gix_ref_files.specs.Tree.{Tree, Content, is_file, bytes_of, file_of}
 use Rattle.gix_ref_files.specs.Tree.Content.{File, Folder}
 use Rattle.gix_ref_files.specs.declared.files.ReadAt.{Ghosts}
-use Rattle.std.specs.List.{AllByRecursion}
-use Rattle.gix_ref_theory.specs.Views.{View}
 use Rattle.gix_ref_theory.specs.OnRealTrees.{view_of}
 use Rattle.gix_ref_packed_text.specs.Positions.{IsNotMalformed}
 use Rattle.gix_ref_packed_text.specs.declared.packed.window.Found.{Found}
@@ -15,7 +13,7 @@ use Rattle.gix_ref_packed.specs.Buffers.{buffer_kind, buffer_text}
 use Rattle.gix_ref_packed.specs.declared.packed.file.PackedFile.{PackedFile}
 use Rattle.gix_ref_packed.specs.OpenFiles.{OpenedFile, packed_file_kind, packed_file_text}
 use Rattle.gix_ref_packed_text.specs.OpenedText.{OpensTo}
-use Rattle.gix_ref_lookup.specs.Lookups.{meaning_in, AreAsked, FindsNone, IsMissing, IsOpenable, IsOpenedText, IsReady, IsSearched, SearchesNone, as_found}
+use Rattle.gix_ref_lookup.specs.Lookups.{AreAsked, FindsNone, IsMissing, IsOpenable, IsOpenedText, IsReady, IsSearched, SearchesNone, as_found}
 use Rattle.gix_ref_lookup.specs.declared.settings.Settings.{Settings}
 use Rattle.gix_ref_lookup.specs.declared.find.records.Records.{Records as Asked}
 use Rattle.gix_ref_lookup.specs.declared.find.records.Records.TheVariants as sources
@@ -28,12 +26,6 @@ pub found_seen : {N N' : Type 0} {P Q : Found → Type 0} (found : Result (Optio
 found_seen (Ok None) none some nothing hit = none nothing
 found_seen (Ok (Some f)) none some nothing hit = some f hit
 found_seen (Err error) none some nothing hit = tt
-
--- candidates that are nothing have no loose files
-pub no_loose_files : {R : Type 0} {G : Ghosts R} (settings : Settings) (view : View) (records : Asked R G) (names : List (List ℕ)) → AllByRecursion (IsMissing settings view records) names →
-    AllByRecursion (λ n. view ((meaning_in settings).place n) ≡ None) names
-no_loose_files settings view records [] all = tt
-no_loose_files settings view records (n ∷ names) all = (all.0.loose, no_loose_files settings view records names all.1)
 
 -- no file is there
 pub no_file : (content : Option Content) → is_file content ≡ false → file_of content ≡ None

@@ -154,6 +154,10 @@ pub on_ok_of : {X E : Type 0} (S : Type 0) (Q : E → Type 0) (r : Result X E) �
 on_ok_of S Q (Ok x) holds = holds
 on_ok_of S Q (Err e) holds = tt
 
+pub on_ok : {X E S : Type 0} (r : Result X E) → S → OnOk r S
+on_ok (Ok x) holds = holds
+on_ok (Err e) holds = tt
+
 -- nothing is changed where a result is had, and an error has this
 pub same_or_err : {X E S : Type 0} {P Q : E → Type 0} (r : Result X E) → S → ((e : E) → P e → Q e) → IfErr r P → MatchResult r (λ x. S) Q
 same_or_err (Ok x) same wider holds = same

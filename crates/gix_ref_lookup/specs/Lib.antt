@@ -1,4 +1,5 @@
 pub mod CleanPaths
+pub mod LookupCalls
 pub mod Lookups
 pub mod LooseFiles
 pub mod LooseText

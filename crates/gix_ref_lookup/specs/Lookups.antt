@@ -337,14 +337,19 @@ ReturnsHit (Some hit) (Some r) = (full_bytes r.name ≡ hit.name)
     × (hit.reading ≡ Is (target_value r.target)) × (r.peeled ≡ hit.peeled)
 ReturnsHit found answer = ⊥
 
+-- a reference by the loose file of a name: it has this name, the target of the file, and no peeled id
+abbrev pub IsLooseHit : Store → View → List ℕ → Reference → Type 0
+IsLooseHit s view name r =
+    (full_bytes r.name ≡ name) × IsLooseTarget s (view (s.place name)) (Some r.target)
+    × (r.peeled ≡ None)
+
 -- on any text of `packed-refs`: a candidate has a loose file with this target; or it has none, and a record of its key
 -- that begins a line
 abbrev pub IsHit : {R : Type 0} {G : Ghosts R} → Settings → View → Records R G → List ℕ →
     Reference → Type 0
 IsHit settings view records name r =
     let s = meaning_in settings in
-    ((full_bytes r.name ≡ name) × IsLooseTarget s (view (s.place name)) (Some r.target)
-    × (r.peeled ≡ None))
+    IsLooseHit s view name r
     ⊎ ((view (s.place name) ≡ None) × IsRecordHit settings view records name r)
 
 -- on any text of `packed-refs`: a candidate as a result

@@ -10,9 +10,10 @@ ghost use Rattle.gix_ref_theory.specs.OnRealTrees.{contents};
 ghost use Rattle.gix_ref_lookup.specs.StoreLayout.{namespace_text};
 ghost use Rattle.gix_ref_packed_text.specs.Positions.{CannotRead};
 ghost use Rattle.gix_ref_packed.specs.OpenFiles.{HasReadFault};
-ghost use Rattle.gix_ref_lookup.specs.Lookups.{AreAsked, AreHonest, AreStillAsked, AreStillAskedWith, CandidateFails, FindsNone, HasNoRecord, IsByRecord, IsCandidate, IsFaultOrMemory, IsHitOfKey, IsLooseTarget, IsNotPacked, IsNotRead, IsNotReadAt, IsOfKey, IsReady, IsRecordHit, IsSeen, IsSound, OfAsked, OfNames, OfSearched, RecordFails, meaning_in, packed_refs_in};
+ghost use Rattle.gix_ref_lookup.specs.Lookups.{AreAsked, AreHonest, AreStillAsked, FindsNone, IsFaultOrMemory, IsHitOfKey, IsLooseTarget, IsNotPacked, IsNotReadAt, IsOfKey, IsReady, OfSearched, meaning_in};
 ghost use Rattle.gix_ref_files.specs.ReadOnly.{OnlyReads};
 
+use crate::find::lookup::Lookup;
 use crate::find::loose::{Loose, loose_at};
 use crate::find::records::Records;
 use crate::find::{Error, ReadError, strip};
@@ -68,27 +69,6 @@ pub fn read_at<F: Files>(
     }
 }
 
-/// The target in the loose file of a name, less the namespace; `None` where there is no such file.
-fn read_loose<F: Files>(
-    alloc: Global,
-    files: &mut F,
-    settings: Settings<'_>,
-    name: FullNameRef<'_>,
-) -> Result<Option<Target>, Error>
-    ensures found { F.honest → IfOk result (IsLooseTarget (meaning_in settings.entry) (contents
-        F.means files.old ((meaning_in settings.entry).place (full_ref_bytes name.entry)))) }
-    ensures allowed { OnOk result ((meaning_in settings.entry).is_prohibited
-        ((meaning_in settings.entry).place (full_ref_bytes name.entry)) ≡ false) }
-    ensures failed { IfErr result (IsNotRead F.honest settings.entry.kind
-        (meaning_in settings.entry) (contents F.means files.old) (F.faults files.old)
-        (F.faults files.new) (full_ref_bytes name.entry)) }
-    ensures no_fault { OnOk result (F.faults files.new ≡ F.faults files.old) }
-    ensures reads { OnlyReads F.honest F.means F.faults files.old files.new }
-{
-    let place = settings.place(alloc, name)?;
-    read_at(alloc, files, settings, name, place)
-}
-
 /// Takes the namespace off a name.
 fn strip_name(name: &mut FullName, namespace: &Option<Namespace>)
     ensures { full_bytes name.new ≡ stripped (namespace_text namespace.now) (full_bytes name.old) }
@@ -141,96 +121,82 @@ fn find_key<R: ReadAt + Drop>(
     }
 }
 
-/// The reference of a key, and so of each name that has it, among the records of `packed-refs`, which is opened if it is
-/// asked for the first time.
-fn find_at_key<F: Files>(
-    alloc: Global,
-    files: &mut F,
-    settings: Settings<'_>,
-    key: FullNameRef<'_>,
-    records: &mut Records<'_, F::Reader>,
-) -> Result<Option<Reference>, Error>
-    ensures found { OfAsked settings.entry (F.means files.old) F.honest records.old (λ rs. OfNames
-        settings.entry (full_ref_bytes key.entry) (λ name. MatchResult result
-        (IsByRecord (meaning_in settings.entry) rs name) IsFaultOrMemory)) }
-    ensures seen { F.honest → AreHonest records.old → OfNames settings.entry
-        (full_ref_bytes key.entry) (λ name. IfOk result (λ r. MatchOption r
-        (FindsNone settings.entry.kind (packed_refs_in settings.entry (F.means files.old))
-        records.old) (IsRecordHit settings.entry (contents F.means files.old) records.old name))) }
-    ensures failed { OfNames settings.entry (full_ref_bytes key.entry) (λ name. MatchResult result
-        (λ _. F.faults files.new ≡ F.faults files.old)
-        (RecordFails F.honest settings.entry (F.means files.old).tree records.old
-        (F.faults files.old) (F.faults files.new) name)) }
-    ensures still { F.honest → AreStillAskedWith settings.entry (F.means files.old)
-        records.old records.new }
-    ensures reads { OnlyReads F.honest F.means F.faults files.old files.new }
-{
-    match records.open(alloc, files, settings) {
-        Ok(()) => find_key(alloc, settings.namespace, records, key),
-        Err(error) => Err(error),
-    }
-}
+impl<F: Files> Lookup<'_, '_, '_, F> {
+    ghost use Rattle.std.specs.Prelude.{OnOk};
+    ghost use Rattle.gix_ref_name.specs.Names.{full_ref_bytes};
+    ghost use Rattle.gix_ref_lookup.specs.Lookups.{OfNames};
+    ghost use Rattle.gix_ref_lookup.specs.LookupCalls.{FailsAtCandidate, FailsAtLoose, FailsAtRecord, FindsCandidate, FindsLoose, FindsRecord, IsAllowed, LooksOn, SeesCandidate, SeesRecord};
 
-/// The reference of a name by its record in `packed-refs`, which is opened if it is asked for the first time.
-fn find_packed<F: Files>(
-    alloc: Global,
-    files: &mut F,
-    settings: Settings<'_>,
-    name: FullNameRef<'_>,
-    records: &mut Records<'_, F::Reader>,
-) -> Result<Option<Reference>, Error>
-    ensures found { OfAsked settings.entry (F.means files.old) F.honest records.old (λ rs.
-        MatchResult result (IsByRecord (meaning_in settings.entry) rs (full_ref_bytes name.entry))
-        IsFaultOrMemory) }
-    ensures seen { F.honest → AreHonest records.old → IfOk result (λ r. MatchOption r
-        (HasNoRecord settings.entry (contents F.means files.old) records.old
-        (full_ref_bytes name.entry)) (IsRecordHit settings.entry (contents F.means files.old)
-        records.old (full_ref_bytes name.entry))) }
-    ensures failed { MatchResult result (λ _. F.faults files.new ≡ F.faults files.old)
-        (RecordFails F.honest settings.entry (F.means files.old).tree records.old
-        (F.faults files.old) (F.faults files.new) (full_ref_bytes name.entry)) }
-    ensures still { F.honest → AreStillAskedWith settings.entry (F.means files.old)
-        records.old records.new }
-    ensures reads { OnlyReads F.honest F.means F.faults files.old files.new }
-{
-    if settings.key_is_name(name) {
-        return find_at_key(alloc, files, settings, name, records);
+    /// The reference of a name by its loose file, less the namespace; `None` where there is no such file. `ReadFileContents`
+    /// where it cannot be read, or has the name of a device and the store prohibits these; `ReferenceCreation` where it holds
+    /// no target; and `Memory`.
+    pub(crate) fn find_loose(&mut self, name: FullNameRef<'_>) -> Result<Option<Reference>, Error>
+        ensures found { FindsLoose F.honest F.means self.old (full_ref_bytes name.entry) result }
+        ensures allowed { OnOk result (IsAllowed self.old.settings (full_ref_bytes name.entry)) }
+        ensures failed { FailsAtLoose F.honest F.means F.faults self.old self.new
+            (full_ref_bytes name.entry) result }
+        ensures leaves { LooksOn F.honest F.means F.faults self.old self.new }
+    {
+        let place = self.settings.place(self.alloc, name)?;
+        match read_at(self.alloc, self.files, self.settings, name, place) {
+            Ok(Some(target)) => Ok(Some(Reference {
+                name: name.to_owned(self.alloc)?,
+                target,
+                peeled: None,
+            })),
+            Ok(None) => Ok(None),
+            Err(error) => Err(error),
+        }
     }
-    match settings.key_name(alloc, name)? {
-        Some(key) => find_at_key(alloc, files, settings, key.as_ref(), records),
-        None => Ok(None),
-    }
-}
 
-/// The reference of a candidate: by its loose file, and else by its record. `ReadFileContents` where the loose file cannot
-/// be read, `ReferenceCreation` where it holds no target, `PackedOpen` where `packed-refs` cannot be opened or read,
-/// `PackedRef` where a malformed line was met and nothing was found or the record cannot be read, and `Memory`.
-pub fn find_candidate<F: Files>(
-    alloc: Global,
-    files: &mut F,
-    settings: Settings<'_>,
-    name: FullNameRef<'_>,
-    records: &mut Records<'_, F::Reader>,
-) -> Result<Option<Reference>, Error>
-    ensures found { OfAsked settings.entry (F.means files.old) F.honest records.old (λ rs.
-        MatchResult result (IsCandidate (meaning_in settings.entry)
-        (contents F.means files.old) rs (full_ref_bytes name.entry)) IsSound) }
-    ensures seen { F.honest → AreHonest records.old → IfOk result (IsSeen settings.entry
-        (contents F.means files.old) records.old (full_ref_bytes name.entry)) }
-    ensures failed { MatchResult result (λ _. F.faults files.new ≡ F.faults files.old)
-        (CandidateFails F.honest settings.entry (F.means files.old).tree records.old
-        (F.faults files.old) (F.faults files.new) (full_ref_bytes name.entry)) }
-    ensures still { F.honest → AreStillAskedWith settings.entry (F.means files.old)
-        records.old records.new }
-    ensures reads { OnlyReads F.honest F.means F.faults files.old files.new }
-{
-    match read_loose(alloc, files, settings, name) {
-        Ok(Some(target)) => Ok(Some(Reference {
-            name: name.to_owned(alloc)?,
-            target,
-            peeled: None,
-        })),
-        Ok(None) => find_packed(alloc, files, settings, name, records),
-        Err(error) => Err(error),
+    /// The reference of a key, and so of each name that has it, among the records of `packed-refs`, which is opened if it is
+    /// asked for the first time.
+    fn find_at_key(&mut self, key: FullNameRef<'_>) -> Result<Option<Reference>, Error>
+        ensures found { OfNames self.old.settings (full_ref_bytes key.entry)
+            (λ name. FindsRecord F.honest F.means self.old name result) }
+        ensures seen { OfNames self.old.settings (full_ref_bytes key.entry)
+            (λ name. SeesRecord F.honest F.means self.old name result) }
+        ensures failed { OfNames self.old.settings (full_ref_bytes key.entry)
+            (λ name. FailsAtRecord F.honest F.means F.faults self.old self.new name result) }
+        ensures leaves { LooksOn F.honest F.means F.faults self.old self.new }
+    {
+        match self.records.open(self.alloc, self.files, self.settings) {
+            Ok(()) => find_key(self.alloc, self.settings.namespace, self.records, key),
+            Err(error) => Err(error),
+        }
+    }
+
+    /// The reference of a name by its record in `packed-refs`, which is opened if it is asked for the first time.
+    fn find_packed(&mut self, name: FullNameRef<'_>) -> Result<Option<Reference>, Error>
+        ensures found { FindsRecord F.honest F.means self.old (full_ref_bytes name.entry) result }
+        ensures seen { SeesRecord F.honest F.means self.old (full_ref_bytes name.entry) result }
+        ensures failed { FailsAtRecord F.honest F.means F.faults self.old self.new
+            (full_ref_bytes name.entry) result }
+        ensures leaves { LooksOn F.honest F.means F.faults self.old self.new }
+    {
+        if self.settings.key_is_name(name) {
+            return self.find_at_key(name);
+        }
+        match self.settings.key_name(self.alloc, name)? {
+            Some(key) => self.find_at_key(key.as_ref()),
+            None => Ok(None),
+        }
+    }
+
+    /// The reference of a candidate: by its loose file, and else by its record. `ReadFileContents` where the loose file cannot
+    /// be read, `ReferenceCreation` where it holds no target, `PackedOpen` where `packed-refs` cannot be opened or read,
+    /// `PackedRef` where a malformed line was met and nothing was found or the record cannot be read, and `Memory`.
+    pub fn find_candidate(&mut self, name: FullNameRef<'_>) -> Result<Option<Reference>, Error>
+        ensures found { FindsCandidate F.honest F.means self.old (full_ref_bytes name.entry) result }
+        ensures seen { SeesCandidate F.honest F.means self.old (full_ref_bytes name.entry) result }
+        ensures failed { FailsAtCandidate F.honest F.means F.faults self.old self.new
+            (full_ref_bytes name.entry) result }
+        ensures leaves { LooksOn F.honest F.means F.faults self.old self.new }
+    {
+        match self.find_loose(name) {
+            Ok(None) => self.find_packed(name),
+            Ok(Some(reference)) => Ok(Some(reference)),
+            Err(error) => Err(error),
+        }
     }
 }

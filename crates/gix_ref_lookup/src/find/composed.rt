@@ -1,15 +1,11 @@
 //! Lookups of names in composed Unicode (`core.precomposeUnicode` of `git config`).
-ghost use Rattle.std.specs.Prelude.{◌≡◌, IfOk, OnOk, MatchResult};
+ghost use Rattle.std.specs.Prelude.{◌≡◌, IfOk};
 ghost use Rattle.gix_ref_name.specs.ComposedNames.{decomposed};
 ghost use Rattle.gix_ref_name.specs.Names.{full_bytes, partial_ref_bytes};
-ghost use Rattle.gix_ref_files.specs.ReadOnly.{OnlyReads};
-ghost use Rattle.gix_ref_theory.specs.OnRealTrees.{contents};
-ghost use Rattle.gix_ref_lookup.specs.Lookups.{AreHonest, AreStillAskedWith, Finds, IsAnswerOf, IsComposedName, IsFaultAmong, IsGivenOf, OfAsked, asked_names, lookup_of, meaning_in, name_asked};
+ghost use Rattle.gix_ref_lookup.specs.Lookups.{IsComposedName, IsGivenOf};
 
 use crate::find::Error;
-use crate::find::lookup::find_asked;
-use crate::find::records::Records;
-use crate::settings::Settings;
+use crate::find::lookup::Lookup;
 use gix_ref_files::files::Files;
 use gix_ref_name::name::compose::{compose, decompose};
 use gix_ref_name::name::{PartialName, PartialNameRef};
@@ -56,36 +52,34 @@ fn given(alloc: Global, found: Result<Option<Reference>, Error>) -> Result<Optio
     }
 }
 
-/// The reference that a partial name is short for (`gitrevisions`). Where names are composed, the name is asked in composed
-/// form, and where that is another name, the reference is given under its decomposed name (`core.precomposeUnicode` of
-/// `git config`).
-pub fn find_reference<F: Files>(
-    alloc: Global,
-    files: &mut F,
-    settings: Settings<'_>,
-    composes: bool,
-    name: PartialNameRef<'_>,
-    records: &mut Records<'_, F::Reader>,
-) -> Result<Option<Reference>, Error>
-    ensures found { OfAsked settings.entry (F.means files.old) F.honest records.old (λ rs. Finds
-        (lookup_of composes (meaning_in settings.entry) (contents F.means files.old) rs
-        (partial_ref_bytes name.entry)) result) }
-    ensures seen { F.honest → AreHonest records.old → IfOk result (IsAnswerOf composes
-        settings.entry (contents F.means files.old) records.old (partial_ref_bytes name.entry)) }
-    ensures failed { MatchResult result (λ _. F.faults files.new ≡ F.faults files.old)
-        (IsFaultAmong F.honest settings.entry (F.means files.old).tree records.old
-        (F.faults files.old) (F.faults files.new)
-        (asked_names (name_asked composes (partial_ref_bytes name.entry)))) }
-    ensures asked { F.honest → OnOk result (AreStillAskedWith settings.entry (F.means files.old)
-        records.old records.new) }
-    ensures reads { OnlyReads F.honest F.means F.faults files.old files.new }
-{
-    match composed_name(alloc, composes, name) {
-        Ok(None) => find_asked(alloc, files, settings, name, records),
-        Ok(Some(composed)) => {
-            let found = find_asked(alloc, files, settings, composed.as_ref(), records);
-            given(alloc, found)
+impl<F: Files> Lookup<'_, '_, '_, F> {
+    ghost use Rattle.gix_ref_name.specs.Names.{partial_ref_bytes};
+    ghost use Rattle.gix_ref_lookup.specs.Lookups.{asked_names, name_asked};
+    ghost use Rattle.gix_ref_lookup.specs.LookupCalls.{FailsAtNames, FindsReference, LooksOn, SeesReference};
+
+    /// The reference that a partial name is short for (`gitrevisions`). Where names are composed, the name is asked in composed
+    /// form, and where that is another name, the reference is given under its decomposed name (`core.precomposeUnicode` of
+    /// `git config`). The errors are those of `find_candidate`, of the first candidate that fails.
+    pub fn find_reference(
+        &mut self,
+        composes: bool,
+        name: PartialNameRef<'_>,
+    ) -> Result<Option<Reference>, Error>
+        ensures found { FindsReference F.honest F.means self.old composes
+            (partial_ref_bytes name.entry) result }
+        ensures seen { SeesReference F.honest F.means self.old composes
+            (partial_ref_bytes name.entry) result }
+        ensures failed { FailsAtNames F.honest F.means F.faults self.old self.new
+            (asked_names (name_asked composes (partial_ref_bytes name.entry))) result }
+        ensures leaves { LooksOn F.honest F.means F.faults self.old self.new }
+    {
+        match composed_name(self.alloc, composes, name) {
+            Ok(None) => self.find_asked(name),
+            Ok(Some(composed)) => {
+                let found = self.find_asked(composed.as_ref());
+                given(self.alloc, found)
+            }
+            Err(_) => Err(Error::Memory),
         }
-        Err(_) => Err(Error::Memory),
     }
 }

@@ -1,14 +1,5 @@
-//! The lookup of a partial name (`gitrevisions`): its candidates, one after the other.
-ghost use Rattle.std.specs.Prelude.{◌≡◌, None, IfOk, OnOk, MatchOption, MatchResult};
-ghost use Rattle.gix_ref_name.specs.Candidates.{candidates, remote_head};
-ghost use Rattle.gix_ref_name.specs.Names.{partial_ref_bytes};
-ghost use Rattle.gix_ref_files.specs.ReadOnly.{OnlyReads};
-ghost use Rattle.gix_ref_theory.specs.Lookups.{first_hit, hit_or_head};
-ghost use Rattle.gix_ref_theory.specs.OnRealTrees.{contents};
-ghost use Rattle.gix_ref_lookup.specs.Lookups.{AreHonest, AreMissing, AreSeen, AreStillAskedWith, FailsAmong, Finds, IsFaultAmong, IsHitAmong, OfAsked, asked_names, head_names, lookup_as, meaning_in};
-
+//! A lookup, and that of a partial name (`gitrevisions`): its candidates, one after the other.
 use crate::find::Error;
-use crate::find::candidate::find_candidate;
 use crate::find::records::Records;
 use crate::settings::Settings;
 use gix_ref_files::files::Files;
@@ -17,92 +8,101 @@ use gix_ref_name::name::candidates::{lookup_prefixes, remote_head, with_prefix};
 use gix_ref_packed::raw::Reference;
 use std::alloc::Global;
 
-/// The first candidate of a name that exists.
-fn find_first<F: Files>(
-    alloc: Global,
-    files: &mut F,
-    settings: Settings<'_>,
-    name: PartialNameRef<'_>,
-    records: &mut Records<'_, F::Reader>,
-) -> Result<Option<Reference>, Error>
-    ensures found { OfAsked settings.entry (F.means files.old) F.honest records.old (λ rs. Finds
-        (first_hit (meaning_in settings.entry) (contents F.means files.old) rs
-        (candidates (partial_ref_bytes name.entry))) result) }
-    ensures seen { F.honest → AreHonest records.old → IfOk result (AreSeen settings.entry
-        (contents F.means files.old) records.old (candidates (partial_ref_bytes name.entry))) }
-    ensures failed { MatchResult result (λ _. F.faults files.new ≡ F.faults files.old)
-        (FailsAmong F.honest settings.entry (F.means files.old).tree records.old
-        (F.faults files.old) (F.faults files.new) (candidates (partial_ref_bytes name.entry))) }
-    ensures asked { F.honest → OnOk result (AreStillAskedWith settings.entry (F.means files.old)
-        records.old records.new) }
-    ensures reads { OnlyReads F.honest F.means F.faults files.old files.new }
-{
-    let fronts = lookup_prefixes(name);
-    for front in fronts {
-        let Ok(candidate) = with_prefix(alloc, front, name) else {
-            return Err(Error::Memory);
-        };
-        match find_candidate(alloc, files, settings, candidate.as_ref(), records) {
-            Ok(None) => {}
-            Ok(Some(reference)) => return Ok(Some(reference)),
-            Err(error) => return Err(error),
-        }
-    }
-    Ok(None)
+/// A lookup: the files and the settings of a store, and the records that are asked.
+#[derive(Drop)]
+pub struct Lookup<'l, 'r, 'b, F: Files> {
+    /// Allocates names, paths and texts.
+    pub alloc: Global,
+    /// The files of the store.
+    pub files: &'l mut F,
+    /// Its settings.
+    pub settings: Settings<'l>,
+    /// The records that are asked where a name has no loose file. They stay open for the next lookup.
+    pub records: &'r mut Records<'b, F::Reader>,
 }
 
-/// The `HEAD` of the remote that a name may be: its loose file alone.
-fn find_head<F: Files>(
-    alloc: Global,
-    files: &mut F,
-    settings: Settings<'_>,
-    name: PartialNameRef<'_>,
-) -> Result<Option<Reference>, Error>
-    ensures found { F.honest → Finds (hit_or_head (meaning_in settings.entry)
-        (contents F.means files.old) None (remote_head (partial_ref_bytes name.entry))) result }
-    ensures seen { F.honest → IfOk result (AreSeen {G = F.Reader.ReadAt} settings.entry
-        (contents F.means files.old) Records.None (head_names (partial_ref_bytes name.entry))) }
-    ensures failed { MatchResult result (λ _. F.faults files.new ≡ F.faults files.old)
-        (IsFaultAmong {G = F.Reader.ReadAt} F.honest settings.entry
-        (F.means files.old).tree Records.None (F.faults files.old) (F.faults files.new)
-        (head_names (partial_ref_bytes name.entry))) }
-    ensures reads { OnlyReads F.honest F.means F.faults files.old files.new }
-{
-    match remote_head(alloc, name) {
-        Ok(Some(head)) => {
-            find_candidate(alloc, files, settings, head.as_ref(), &mut Records::None)
+impl<'l, 'r, 'b, F: Files> Lookup<'l, 'r, 'b, F> {
+    ghost use Rattle.std.specs.Prelude.{◌≡◌};
+
+    /// A lookup over these files, with these settings, that asks these records.
+    pub fn new(
+        alloc: Global,
+        files: &'l mut F,
+        settings: Settings<'l>,
+        records: &'r mut Records<'b, F::Reader>,
+    ) -> Self
+        ensures same_files { result.files.ghost_name ≡ files.entry.ghost_name }
+        ensures files { result.files.now ≡ files.old }
+        ensures settings { result.settings ≡ settings.entry }
+        ensures same_records { result.records.ghost_name ≡ records.entry.ghost_name }
+        ensures records { result.records.now ≡ records.old }
+    {
+        Lookup {
+            alloc,
+            files,
+            settings,
+            records,
         }
-        Ok(None) => Ok(None),
-        Err(_) => Err(Error::Memory),
     }
 }
 
-/// The reference that a partial name is short for: the first of its candidates that exists, or else the `HEAD` of a remote
-/// of this name, as a loose file alone (`gitrevisions`). The name is asked as it is.
-pub fn find_asked<F: Files>(
-    alloc: Global,
-    files: &mut F,
-    settings: Settings<'_>,
-    name: PartialNameRef<'_>,
-    records: &mut Records<'_, F::Reader>,
-) -> Result<Option<Reference>, Error>
-    ensures found { OfAsked settings.entry (F.means files.old) F.honest records.old (λ rs. Finds
-        (lookup_as (meaning_in settings.entry) (contents F.means files.old) rs
-        (partial_ref_bytes name.entry)) result) }
-    ensures seen { F.honest → AreHonest records.old → IfOk result (λ r. MatchOption r
-        (AreMissing settings.entry (contents F.means files.old) records.old
-        (partial_ref_bytes name.entry)) (IsHitAmong settings.entry (contents F.means files.old)
-        records.old (asked_names (partial_ref_bytes name.entry)))) }
-    ensures failed { MatchResult result (λ _. F.faults files.new ≡ F.faults files.old)
-        (IsFaultAmong F.honest settings.entry (F.means files.old).tree records.old
-        (F.faults files.old) (F.faults files.new) (asked_names (partial_ref_bytes name.entry))) }
-    ensures asked { F.honest → OnOk result (AreStillAskedWith settings.entry (F.means files.old)
-        records.old records.new) }
-    ensures reads { OnlyReads F.honest F.means F.faults files.old files.new }
-{
-    match find_first(alloc, files, settings, name, records) {
-        Ok(None) => find_head(alloc, files, settings, name),
-        Ok(Some(reference)) => Ok(Some(reference)),
-        Err(error) => Err(error),
+impl<F: Files> Lookup<'_, '_, '_, F> {
+    ghost use Rattle.gix_ref_name.specs.Candidates.{candidates};
+    ghost use Rattle.gix_ref_name.specs.Names.{partial_ref_bytes};
+    ghost use Rattle.gix_ref_lookup.specs.Lookups.{asked_names};
+    ghost use Rattle.gix_ref_lookup.specs.LookupCalls.{FailsAtFirst, FailsAtHead, FailsAtNames, FindsAsked, FindsFirst, FindsHead, LooksOn, SeesAsked, SeesFirst, SeesHead};
+
+    /// The first candidate of a name that exists.
+    fn find_first(&mut self, name: PartialNameRef<'_>) -> Result<Option<Reference>, Error>
+        ensures found { FindsFirst F.honest F.means self.old (partial_ref_bytes name.entry) result }
+        ensures seen { SeesFirst F.honest F.means self.old (partial_ref_bytes name.entry) result }
+        ensures failed { FailsAtFirst F.honest F.means F.faults self.old self.new
+            (candidates (partial_ref_bytes name.entry)) result }
+        ensures leaves { LooksOn F.honest F.means F.faults self.old self.new }
+    {
+        let fronts = lookup_prefixes(name);
+        for front in fronts {
+            let Ok(candidate) = with_prefix(self.alloc, front, name) else {
+                return Err(Error::Memory);
+            };
+            match self.find_candidate(candidate.as_ref()) {
+                Ok(None) => {}
+                Ok(Some(reference)) => return Ok(Some(reference)),
+                Err(error) => return Err(error),
+            }
+        }
+        Ok(None)
+    }
+
+    /// The `HEAD` of the remote that a name may be: its loose file alone.
+    fn find_head(&mut self, name: PartialNameRef<'_>) -> Result<Option<Reference>, Error>
+        ensures found { FindsHead F.honest F.means self.old (partial_ref_bytes name.entry) result }
+        ensures seen { SeesHead F.honest F.means self.old (partial_ref_bytes name.entry) result }
+        ensures failed { FailsAtHead F.honest F.means F.faults self.old self.new
+            (partial_ref_bytes name.entry) result }
+        ensures leaves { LooksOn F.honest F.means F.faults self.old self.new }
+    {
+        match remote_head(self.alloc, name) {
+            Ok(Some(head)) => self.find_loose(head.as_ref()),
+            Ok(None) => Ok(None),
+            Err(_) => Err(Error::Memory),
+        }
+    }
+
+    /// The reference that a partial name is short for: the first of its candidates that exists, or else the `HEAD` of a remote
+    /// of this name, as a loose file alone (`gitrevisions`). The name is asked as it is. The errors are those of
+    /// `find_candidate`, of the first candidate that fails.
+    pub fn find_asked(&mut self, name: PartialNameRef<'_>) -> Result<Option<Reference>, Error>
+        ensures found { FindsAsked F.honest F.means self.old (partial_ref_bytes name.entry) result }
+        ensures seen { SeesAsked F.honest F.means self.old (partial_ref_bytes name.entry) result }
+        ensures failed { FailsAtNames F.honest F.means F.faults self.old self.new
+            (asked_names (partial_ref_bytes name.entry)) result }
+        ensures leaves { LooksOn F.honest F.means F.faults self.old self.new }
+    {
+        match self.find_first(name) {
+            Ok(None) => self.find_head(name),
+            Ok(Some(reference)) => Ok(Some(reference)),
+            Err(error) => Err(error),
+        }
     }
 }

@@ -1,4 +1,4 @@
-use Rattle.std.proofs.Common.{inr, None}
+use Rattle.std.proofs.Common.{inr, None, refl}
 use Rattle.gix_ref_name.specs.Names.{full_ref_bytes}
 use Rattle.gix_ref_packed_text.specs.Positions.{CannotRead}
 use Rattle.gix_ref_lookup.specs.StoreLayout.{namespace_text}
@@ -8,48 +8,57 @@ use Rattle.gix_ref_packed.specs.Buffers.{IsRefusedFile}
 use Rattle.gix_ref_lookup.proofs.NamedRecords.{of_key}
 use Rattle.gix_ref_lookup.proofs.Opening.{if_ok, both_ways, same_or_err, none_or_some, hit_wider, searched_wider, not_packed_wider}
 use Rattle.gix_ref_lookup.proofs.Missing.{any_asked, any_file, any_searched, none_wider}
-use Rattle.gix_ref_lookup.proofs.find.candidate.find_at_key.Goals as goal
+use Rattle.gix_ref_lookup.proofs.find.lookup.Lookup.find_at_key.Goals as goal
 
 pub returns-in-Ok-clause-found : goal.returns-in-Ok-clause-found
-returns-in-Ok-clause-found g c h rs are name keyed =
-    both_ways c.find_key.result (λ found is. of_key c.args.settings rs name (full_ref_bytes c.args.key) found keyed is) (λ error is. is)
-    (c.find_key.ensures.found c.args.settings.kind rs (c.in-Ok.ensures.asked h rs are))
+returns-in-Ok-clause-found g c name keyed h rs are =
+    let settings = c.args.self.now.settings in
+    both_ways c.find_key.result (λ found is. of_key settings rs name (full_ref_bytes c.args.key) found keyed is) (λ error is. is)
+    (c.find_key.ensures.found settings.kind rs (c.in-Ok.ensures.asked h rs are))
 
 pub returns-in-Ok-clause-seen : goal.returns-in-Ok-clause-seen
-returns-in-Ok-clause-seen g c h honest name keyed =
-    let settings = c.args.settings in
+returns-in-Ok-clause-seen g c name keyed h honest =
+    let settings = c.args.self.now.settings in
     let key = full_ref_bytes c.args.key in
-    let file = packed_refs_in settings (g.F.Files.means c.args.files.now) in
+    let file = packed_refs_in settings (g.F.Files.means c.args.self.now.files.now) in
     let opened = c.in-Ok.ensures.opened h in
     if_ok c.find_key.result
-    (λ found. none_or_some found (none_wider settings.kind None file c.open.new.self c.args.records.now opened.none opened.searched)
-    (λ r hit. (key, keyed, hit_wider settings.kind None file c.open.new.self c.args.records.now (namespace_text settings.namespace.now) key r opened.searched hit)))
+    (λ found. none_or_some found (λ none. inr (none_wider settings.kind None file c.open.new.self c.args.self.now.records.now opened.none opened.searched none))
+    (λ r hit. (key, keyed, hit_wider settings.kind None file c.open.new.self c.args.self.now.records.now (namespace_text settings.namespace.now) key r opened.searched hit)))
     (c.find_key.ensures.seen (opened.readers honest) settings.kind)
 
-pub returns-in-Ok-clause-still : goal.returns-in-Ok-clause-still
-returns-in-Ok-clause-still g c h =
-    let kind = c.args.settings.kind in
-    let file = packed_refs_in c.args.settings (g.F.Files.means c.args.files.now) in
-    let opened = c.in-Ok.ensures.opened h in
+pub returns-in-Ok-clause-leaves : goal.returns-in-Ok-clause-leaves
+returns-in-Ok-clause-leaves g c =
+    let settings = c.args.self.now.settings in
+    let kind = settings.kind in
+    let file = packed_refs_in settings (g.F.Files.means c.args.self.now.files.now) in
     let found = c.find_key.ensures.still kind in
     record {
-      asked = λ rs are. any_asked kind None file c.find_key.new.records rs c.find_key.ensures.ready (found.asked rs (c.in-Ok.ensures.asked h rs are));
-      readers = λ honest. found.readers (opened.readers honest);
-      searched = λ k text is. opened.searched k text (found.searched k text (any_searched kind file None c.find_key.new.records k text c.find_key.ensures.ready is));
-      none = λ none. opened.none (found.none (any_file file None c.find_key.new.records c.find_key.ensures.ready none));
+      files = refl;
+      records = refl;
+      settings = refl;
+      reads = c.in-Ok.ensures.reads;
+      asked = λ h.
+          let opened = c.in-Ok.ensures.opened h in
+          record {
+            asked = λ rs are. any_asked kind None file c.find_key.new.records rs c.find_key.ensures.ready (found.asked rs (c.in-Ok.ensures.asked h rs are));
+            readers = λ honest. found.readers (opened.readers honest);
+            searched = λ k text is. opened.searched k text (found.searched k text (any_searched kind file None c.find_key.new.records k text c.find_key.ensures.ready is));
+            none = λ none. opened.none (found.none (any_file file None c.find_key.new.records c.find_key.ensures.ready none));
+          };
     }
 
 pub returns-in-Ok-clause-failed : goal.returns-in-Ok-clause-failed
 returns-in-Ok-clause-failed g c name keyed =
-    let settings = c.args.settings in
+    let settings = c.args.self.now.settings in
     let s = meaning_in settings in
-    let old = c.args.records.now in
+    let old = c.args.self.now.records.now in
     let new = c.open.new.self in
-    let before = g.F.Files.means c.args.files.now in
+    let before = g.F.Files.means c.args.self.now.files.now in
     let file = packed_refs_in settings before in
     let key = full_ref_bytes c.args.key in
     let fault = HasReadFault g.F.Reader.ReadAt.faults in
-    let either = IsFaultOf g.F.Reader.ReadAt.faults (g.F.Files.faults c.args.files.now) (g.F.Files.faults c.open.new.files) in
+    let either = IsFaultOf g.F.Reader.ReadAt.faults (g.F.Files.faults c.args.self.now.files.now) (g.F.Files.faults c.open.new.files) in
     same_or_err c.find_key.result c.in-Ok.ensures.refused
     (λ error why. not_packed_wider (AreHonest {R = g.row.F-Reader.Denot} {G = g.F.Reader.ReadAt} new) (g.F.Files.honest × AreHonest {R = g.row.F-Reader.Denot} {G = g.F.Reader.ReadAt} old)
     fault either

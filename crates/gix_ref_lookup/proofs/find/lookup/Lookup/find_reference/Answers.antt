@@ -10,12 +10,12 @@ use Rattle.gix_ref_lookup.specs.declared.find.error.Error.{Error}
 use Rattle.gix_ref_lookup.specs.declared.find.error.Error.TheVariants.{Memory}
 use Rattle.gix_ref_lookup.proofs.Composing.{answers_same, given_answers, given_seen, given_err, hit_as_asked}
 use Rattle.gix_ref_lookup.proofs.Opening.{if_ok, both_ways, none_or_some}
-use Rattle.gix_ref_lookup.proofs.find.composed.find_reference.Goals as goal
+use Rattle.gix_ref_lookup.proofs.find.lookup.Lookup.find_reference.Goals as goal
 
 pub returns-in-Ok-None-clause-found : goal.returns-in-Ok-None-clause-found
 returns-in-Ok-None-clause-found g c h rs are =
-    let s = meaning_in c.args.settings in
-    let view = view_of (g.F.Files.means c.args.files.now).tree in
+    let s = meaning_in c.args.self.now.settings in
+    let view = view_of (g.F.Files.means c.args.self.now.files.now).tree in
     let p = partial_ref_bytes c.args.name in
     let as_is : name_asked c.args.composes p ≡ p = rw c.in-Ok-None.field-0-is at c.in-Ok-None.ensures in
     subst (λ asked. Finds (option_map (hit_given asked p) (lookup s view rs (candidates asked) (remote_head asked))) c.find_asked.result) (sym as_is)
@@ -23,28 +23,28 @@ returns-in-Ok-None-clause-found g c h rs are =
 
 pub returns-in-Ok-None-clause-seen : goal.returns-in-Ok-None-clause-seen
 returns-in-Ok-None-clause-seen g c h honest =
-    let settings = c.args.settings in
-    let view = view_of (g.F.Files.means c.args.files.now).tree in
+    let settings = c.args.self.now.settings in
+    let view = view_of (g.F.Files.means c.args.self.now.files.now).tree in
     let p = partial_ref_bytes c.args.name in
     let as_is : name_asked c.args.composes p ≡ p = rw c.in-Ok-None.field-0-is at c.in-Ok-None.ensures in
     if_ok c.find_asked.result (λ found. none_or_some found
-    (λ missing. subst (λ asked. AreMissing {R = g.row.F-Reader.Denot} {G = g.F.Reader.ReadAt} settings view c.args.records.now asked) (sym as_is) missing)
-    (λ r hit. hit_as_asked {R = g.row.F-Reader.Denot} {G = g.F.Reader.ReadAt} c.args.composes settings view c.args.records.now p as_is r hit))
+    (λ missing. subst (λ asked. AreMissing {R = g.row.F-Reader.Denot} {G = g.F.Reader.ReadAt} settings view c.args.self.now.records.now asked) (sym as_is) missing)
+    (λ r hit. hit_as_asked {R = g.row.F-Reader.Denot} {G = g.F.Reader.ReadAt} c.args.composes settings view c.args.self.now.records.now p as_is r hit))
     (c.find_asked.ensures.seen h honest)
 
 pub returns-in-Ok-None-clause-failed : goal.returns-in-Ok-None-clause-failed
 returns-in-Ok-None-clause-failed g c =
     let p = partial_ref_bytes c.args.name in
     let as_is : name_asked c.args.composes p ≡ p = rw c.in-Ok-None.field-0-is at c.in-Ok-None.ensures in
-    let before = g.F.Files.faults c.args.files.now in
-    let now = g.F.Files.faults c.find_asked.new.files in
-    subst (λ asked. MatchResult c.find_asked.result (λ found. now ≡ before) (λ error. (error ≡ Memory) ⊎ FailsAmong {R = g.row.F-Reader.Denot} {G = g.F.Reader.ReadAt} g.F.Files.honest c.args.settings (g.F.Files.means c.args.files.now).tree c.args.records.now
+    let before = g.F.Files.faults c.args.self.now.files.now in
+    let now = g.F.Files.faults c.find_asked.new.self.files.now in
+    subst (λ asked. MatchResult c.find_asked.result (λ found. now ≡ before) (λ error. (error ≡ Memory) ⊎ FailsAmong {R = g.row.F-Reader.Denot} {G = g.F.Reader.ReadAt} g.F.Files.honest c.args.self.now.settings (g.F.Files.means c.args.self.now.files.now).tree c.args.self.now.records.now
     before now (asked_names asked) error)) (sym as_is) c.find_asked.ensures.failed
 
 pub returns-in-Ok-Some-clause-found : goal.returns-in-Ok-Some-clause-found
 returns-in-Ok-Some-clause-found g c h rs are =
-    let s = meaning_in c.args.settings in
-    let view = view_of (g.F.Files.means c.args.files.now).tree in
+    let s = meaning_in c.args.self.now.settings in
+    let view = view_of (g.F.Files.means c.args.self.now.files.now).tree in
     let p = partial_ref_bytes c.args.name in
     let asked = name_asked c.args.composes p in
     let composed : (partial_bytes c.in-Ok-Some.composed ≡ asked) × (asked ≢ p) = rw c.in-Ok-Some.field-0-is at c.in-Ok-Some.ensures in
@@ -53,15 +53,15 @@ returns-in-Ok-Some-clause-found g c h rs are =
 
 pub returns-in-Ok-Some-clause-seen : goal.returns-in-Ok-Some-clause-seen
 returns-in-Ok-Some-clause-seen g c h honest =
-    let settings = c.args.settings in
-    let view = view_of (g.F.Files.means c.args.files.now).tree in
+    let settings = c.args.self.now.settings in
+    let view = view_of (g.F.Files.means c.args.self.now.files.now).tree in
     let p = partial_ref_bytes c.args.name in
     let composes = c.args.composes in
     let asked = name_asked composes p in
     let composed : (partial_bytes c.in-Ok-Some.composed ≡ asked) × (asked ≢ p) = rw c.in-Ok-Some.field-0-is at c.in-Ok-Some.ensures in
-    let Missing = λ (n : List ℕ). AreMissing {R = g.row.F-Reader.Denot} {G = g.F.Reader.ReadAt} settings view c.args.records.now n in
-    let Hits = λ (n : List ℕ) (r : Reference). IsHitAmong {R = g.row.F-Reader.Denot} {G = g.F.Reader.ReadAt} settings view c.args.records.now (asked_names n) r in
-    given_seen asked p composed.1 (Missing asked) (Hits asked) (IsHitOf {R = g.row.F-Reader.Denot} {G = g.F.Reader.ReadAt} composes settings view c.args.records.now p)
+    let Missing = λ (n : List ℕ). AreMissing {R = g.row.F-Reader.Denot} {G = g.F.Reader.ReadAt} settings view c.args.self.now.records.now n in
+    let Hits = λ (n : List ℕ) (r : Reference). IsHitAmong {R = g.row.F-Reader.Denot} {G = g.F.Reader.ReadAt} settings view c.args.self.now.records.now (asked_names n) r in
+    given_seen asked p composed.1 (Missing asked) (Hits asked) (IsHitOf {R = g.row.F-Reader.Denot} {G = g.F.Reader.ReadAt} composes settings view c.args.self.now.records.now p)
     c.find_asked-found.result c.given.result c.given.ensures
     (λ r given hit form. (r, hit, form))
     (subst (λ (n : List ℕ). IfOk c.find_asked-found.result (λ r. MatchOption r (Missing n) (Hits n))) (c.as_ref.ensures ∙ composed.0) (c.find_asked-found.ensures.seen h honest))
@@ -71,9 +71,9 @@ returns-in-Ok-Some-clause-failed g c =
     let p = partial_ref_bytes c.args.name in
     let asked = name_asked c.args.composes p in
     let composed : (partial_bytes c.in-Ok-Some.composed ≡ asked) × (asked ≢ p) = rw c.in-Ok-Some.field-0-is at c.in-Ok-Some.ensures in
-    let before = g.F.Files.faults c.args.files.now in
-    let now = g.F.Files.faults c.find_asked-found.new.files in
-    let Fails : List ℕ → Error → Type 0 = λ n error. (error ≡ Memory) ⊎ FailsAmong {R = g.row.F-Reader.Denot} {G = g.F.Reader.ReadAt} g.F.Files.honest c.args.settings (g.F.Files.means c.args.files.now).tree c.args.records.now
+    let before = g.F.Files.faults c.args.self.now.files.now in
+    let now = g.F.Files.faults c.find_asked-found.new.self.files.now in
+    let Fails : List ℕ → Error → Type 0 = λ n error. (error ≡ Memory) ⊎ FailsAmong {R = g.row.F-Reader.Denot} {G = g.F.Reader.ReadAt} g.F.Files.honest c.args.self.now.settings (g.F.Files.means c.args.self.now.files.now).tree c.args.self.now.records.now
     before now (asked_names n) error in
     given_err (now ≡ before) (Fails asked) (inl refl) c.find_asked-found.result c.given.result c.given.ensures
     (subst (λ (n : List ℕ). MatchResult c.find_asked-found.result (λ found. now ≡ before) (Fails n)) (c.as_ref.ensures ∙ composed.0) c.find_asked-found.ensures.failed)
