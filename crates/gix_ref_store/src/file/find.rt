@@ -7,8 +7,7 @@ use crate::file::settings::settings;
 use crate::file::store::Store;
 use crate::raw::Reference;
 use gix_ref_files::files::Files;
-use gix_ref_lookup::find::candidate::find_candidate;
-use gix_ref_lookup::find::composed::find_reference;
+use gix_ref_lookup::find::lookup::Lookup;
 pub use gix_ref_lookup::find::records::Records;
 pub use gix_ref_lookup::find::{Error, ReadError, existing};
 use gix_ref_lookup::loose;
@@ -64,7 +63,7 @@ impl<F: Files> Store<F> {
     {
         let composes = self.composes(asks_records);
         let settings = settings!(self);
-        find_reference(alloc, &mut self.files, settings, composes, partial, asked)
+        Lookup::new(alloc, &mut self.files, settings, asked).find_reference(composes, partial)
     }
 
     /// As `find`, and with its errors, where these records are asked: a caller with many lookups keeps them, and `packed-refs` is opened
@@ -200,13 +199,8 @@ impl<F: Files> Store<F> {
         ensures unchanged { LooksUp F.honest F.means self.old self.new }
     {
         let settings = settings!(self);
-        find_candidate(
-            alloc,
-            &mut self.files,
-            settings,
-            name,
-            &mut Records::Unopened,
-        )
+        let mut records = Records::Unopened;
+        Lookup::new(alloc, &mut self.files, settings, &mut records).find_candidate(name)
     }
 
     /// As `try_find`, among loose files alone: the name is looked for as it is, also with `precompose_unicode`. One read for each
