@@ -3,7 +3,7 @@ use Rattle.std.proofs.Common.{◌≡◌, ℕ, List, refl, sym, ◌∙◌, ap, su
 use Rattle.gix_ref_files.specs.Files.{FaultCounts, Meaning}
 use Rattle.gix_ref_files.specs.Tree.{Tree}
 use Rattle.gix_ref_files.specs.declared.files.ReadAt.{Ghosts}
-use Rattle.gix_ref_files.proofs.ReadOnly.{reads_none, reads_more}
+use Rattle.gix_ref_files.proofs.ReadOnly.{reads_more}
 use Rattle.gix_ref_theory.specs.OnRealTrees.{view_of}
 use Rattle.std.specs.Prelude.{IfOk, MatchResult}
 use Rattle.gix_ref_lookup.specs.Lookups.{AreAsked, AreStillAsked, CandidateFails, IsCandidate, IsSeen, IsSound, meaning_in}
@@ -24,16 +24,6 @@ as_made {F} {R} {G} lookup files settings records same_files same_settings same_
     subst (λ (f : F). P f settings records) same_files (subst (λ (s : Settings). P lookup.files.now s records) same_settings (subst (λ (r : Asked R G). P lookup.files.now lookup.settings r) same_records is))
 
 module _ {F R : Type 0} {G : Ghosts R} (honest : Type 0) (means : F → Meaning) (faults : F → FaultCounts) where
-  -- no step
-  pub looks_none : (a : Lookup F R G) → LooksOn honest means faults a a
-  looks_none a = record {
-    files = refl;
-    records = refl;
-    settings = refl;
-    reads = reads_none honest means faults a.files.now;
-    asked = λ h. record { asked = λ rs are. are; readers = λ is. is; searched = λ k text is. is; none = λ is. is };
-  }
-
   -- a step, and then another one
   pub looks_more : (a b d : Lookup F R G) → LooksOn honest means faults a b → LooksOn honest means faults b d → LooksOn honest means faults a d
   looks_more a b d first next = record {

@@ -122,6 +122,10 @@ pub record AreStillAsked {R : Type 0} {G : Ghosts R} (kind : Kind) (file : Optio
       IsSearched kind file old of_kind text
   pub none : SearchesNone file new → SearchesNone file old
 
+-- what a search leaves of records that are ready
+abbrev pub LeavesReady : {R : Type 0} {G : Ghosts R} → (old new : Records R G) → Type 0
+LeavesReady old new = IsReady new × ((kind : Kind) → AreStillAsked kind None old new)
+
 -- some text that is searched has this
 pub record OfSearched {R : Type 0} {G : Ghosts R} (kind : Kind) (file : Option (List ℕ))
     (records : Records R G) (P : Kind → List ℕ → Type 0) : Type 0 where
@@ -254,6 +258,19 @@ pub record IsHitOfKey {R : Type 0} {G : Ghosts R} (kind : Kind) (file : Option (
     (records : Records R G) (namespace key : List ℕ) (r : Reference) : Type 0 where
   pub name : full_bytes r.name ≡ stripped namespace key
   pub searched : OfSearched kind file records (λ k text. IsRecordIn k text key r)
+
+-- on any text: the reference of a key as a result, among records that are ready
+abbrev pub SeesKey : {R : Type 0} {G : Ghosts R} → Kind → Records R G → (namespace key : List ℕ) →
+    Option Reference → Type 0
+SeesKey kind records namespace key found = MatchOption found (FindsNone kind None records)
+    (IsHitOfKey kind None records namespace key)
+
+-- why none is found: a fault of their reader; a text that cannot be read where the record is sought; no memory
+abbrev pub SearchFails : {R : Type 0} {G : Ghosts R} → Kind → Records R G → (key : List ℕ) →
+    Error → Type 0
+SearchFails {R} {G} kind records key =
+    IsNotPacked (AreHonest records) (HasReadFault G.faults)
+    (OfSearched kind None records (λ of_kind text. CannotRead of_kind text key)) (λ error. ⊥)
 
 -- a candidate without a loose file as a result, by its record
 abbrev pub IsByRecord : Store → List Record → List ℕ → Option Reference → Type 0

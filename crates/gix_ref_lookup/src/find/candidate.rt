@@ -1,5 +1,5 @@
 //! One candidate of a lookup: its loose file, or else its record in `packed-refs`.
-ghost use Rattle.std.specs.Prelude.{◌≡◌, false, List, Option, None, IfOk, IfErr, IfNone, IfSome, OnOk, MatchOption, MatchResult};
+ghost use Rattle.std.specs.Prelude.{◌≡◌, false, List, Option, None, IfOk, IfErr, OnOk, MatchResult};
 ghost use Rattle.gix_ref_hash.specs.declared.hash.Kind.{Kind};
 ghost use Rattle.gix_ref_name.specs.Names.{full_bytes, full_ref_bytes};
 ghost use Rattle.gix_ref_name.specs.Namespaces.{stripped};
@@ -8,9 +8,7 @@ ghost use Rattle.gix_ref_target.specs.Targets.{target_value};
 ghost use Rattle.gix_ref_target.specs.Targets.TargetValue.{object_id};
 ghost use Rattle.gix_ref_theory.specs.OnRealTrees.{contents};
 ghost use Rattle.gix_ref_lookup.specs.StoreLayout.{namespace_text};
-ghost use Rattle.gix_ref_packed_text.specs.Positions.{CannotRead};
-ghost use Rattle.gix_ref_packed.specs.OpenFiles.{HasReadFault};
-ghost use Rattle.gix_ref_lookup.specs.Lookups.{AreAsked, AreHonest, AreStillAsked, FindsNone, IsFaultOrMemory, IsHitOfKey, IsLooseTarget, IsNotPacked, IsNotReadAt, IsOfKey, IsReady, OfSearched, meaning_in};
+ghost use Rattle.gix_ref_lookup.specs.Lookups.{AreAsked, AreHonest, IsFaultOrMemory, IsLooseTarget, IsNotReadAt, IsOfKey, IsReady, LeavesReady, SearchFails, SeesKey, meaning_in};
 ghost use Rattle.gix_ref_files.specs.ReadOnly.{OnlyReads};
 
 use crate::find::lookup::Lookup;
@@ -104,15 +102,11 @@ fn find_key<R: ReadAt + Drop>(
     ensures found { (kind : Kind) (rs : List Record) → AreAsked kind None records.old rs →
         MatchResult result (IsOfKey (namespace_text namespace.now) rs (full_ref_bytes key.entry))
         IsFaultOrMemory }
-    ensures seen { AreHonest records.old → (kind : Kind) →
-        IfOk result (λ r. MatchOption r (FindsNone kind None records.old)
-        (IsHitOfKey kind None records.old (namespace_text namespace.now)
-        (full_ref_bytes key.entry))) }
+    ensures seen { AreHonest records.old → (kind : Kind) → IfOk result
+        (SeesKey kind records.old (namespace_text namespace.now) (full_ref_bytes key.entry)) }
     ensures failed { (kind : Kind) → IfErr result
-        (IsNotPacked (AreHonest records.old) (HasReadFault R.faults) (OfSearched kind
-        None records.old (λ k text. CannotRead k text (full_ref_bytes key.entry))) (λ error. ⊥)) }
-    ensures still { (kind : Kind) → AreStillAsked kind None records.old records.new }
-    ensures ready { IsReady records.new }
+        (SearchFails kind records.old (full_ref_bytes key.entry)) }
+    ensures leaves { LeavesReady records.old records.new }
 {
     match records.find(key) {
         Ok(Some(found)) => Ok(Some(packed_reference(namespace, key.to_owned(alloc)?, found))),

@@ -32,7 +32,7 @@ returns-in-Ok-clause-leaves g c =
     let settings = c.args.self.now.settings in
     let kind = settings.kind in
     let file = packed_refs_in settings (g.F.Files.means c.args.self.now.files.now) in
-    let found = c.find_key.ensures.still kind in
+    let found = c.find_key.ensures.leaves.1 kind in
     record {
       files = refl;
       records = refl;
@@ -41,10 +41,10 @@ returns-in-Ok-clause-leaves g c =
       asked = λ h.
           let opened = c.in-Ok.ensures.opened h in
           record {
-            asked = λ rs are. any_asked kind None file c.find_key.new.records rs c.find_key.ensures.ready (found.asked rs (c.in-Ok.ensures.asked h rs are));
+            asked = λ rs are. any_asked kind None file c.find_key.new.records rs c.find_key.ensures.leaves.0 (found.asked rs (c.in-Ok.ensures.asked h rs are));
             readers = λ honest. found.readers (opened.readers honest);
-            searched = λ k text is. opened.searched k text (found.searched k text (any_searched kind file None c.find_key.new.records k text c.find_key.ensures.ready is));
-            none = λ none. opened.none (found.none (any_file file None c.find_key.new.records c.find_key.ensures.ready none));
+            searched = λ k text is. opened.searched k text (found.searched k text (any_searched kind file None c.find_key.new.records k text c.find_key.ensures.leaves.0 is));
+            none = λ none. opened.none (found.none (any_file file None c.find_key.new.records c.find_key.ensures.leaves.0 none));
           };
     }
 
