@@ -9,7 +9,9 @@ pub mod ItemRuns
 pub mod MemorySearches
 pub mod NamesInTurn
 pub mod OneItem
+pub mod OrderLemmas
 pub mod OwedRecords
+pub mod PartLemmas
 pub mod PrefixBuffers
 pub mod PrefixParts
 pub mod PrefixRuns

@@ -1,5 +1,5 @@
 -- Records that were read, each with its bytes, in the order of their names.
-use Rattle.std.proofs.Common.{◌≡◌, ℕ, ◌+◌, ◌<◌, ◌==◌, eqb-true, Bool, true, false, cond, List, [], ◌∷◌, ◌++◌, map, length, get_or, take, refl, sym, ◌∙◌, ap, subst, arith, is_lt, suc, append-nil, append_assoc}
+use Rattle.std.proofs.Common.{◌≡◌, ℕ, ◌+◌, ◌<◌, Bool, true, false, cond, List, [], ◌∷◌, ◌++◌, map, length, get_or, take, refl, sym, ◌∙◌, ap, subst, arith, is_lt, suc, append-nil, append_assoc}
 use Rattle.std.specs.List.{All, filter, flat_map}
 use Rattle.std.specs.List.Sorted.{IsPermutation, IsSortedByKey, IsStableByKey, ties}
 use Rattle.std.specs.Cmp.Lexicographic.{slice_cmp}
@@ -14,7 +14,7 @@ use Rattle.gix_ref_target.specs.PackedRecords.{Record}
 use Rattle.gix_ref_packed_text.specs.RecordGrammar.{Takes, Records, Below, Rising}
 use Rattle.gix_ref_packed_text.specs.OpenedText.{Piece, IsPiece, SortsByName, SortsText, is_lower, records_in, bytes_in, Fronts, lines_of, line_count}
 use Rattle.gix_ref_packed.specs.internal.Entries.{entry_record, entry_piece, entry_ref_name, entry_bytes}
-use Rattle.gix_ref_packed_text.proofs.RecordBytes.{lines_taken, front_is, records_stop, fronts_more, fronts_all, lines_more}
+use Rattle.gix_ref_packed_text.proofs.RecordBytes.{lines_taken, front_is, records_stop, fronts_more, lines_more}
 use Rattle.gix_ref_packed_text.proofs.LowerBounds.{below_or}
 
 pub piece_taken : (k : Kind) (e : Entry) (t rest : List ℕ) (n : ℕ) → Takes k t (entry_record e) rest → entry_bytes e ≡ take n t → n + length rest ≡ length t → IsPiece k (entry_piece e)
@@ -130,59 +130,3 @@ keeps_text k t rs h up =
       before = records;
       after = records;
     }
-
--- ---- records, read one by one
-
-pub no_bytes : (t : List ℕ) → (length t == 0) ≡ true → t ≡ []
-no_bytes [] none = refl
-no_bytes (b ∷ t) none = let bad : length (b ∷ t) ≡ 0 = eqb-true _ _ none in absurd (omega arith)
-
-abbrev pub last_name : List Record → List ℕ
-last_name [] = []
-last_name (r ∷ []) = r.name
-last_name (r ∷ s ∷ rs) = last_name (s ∷ rs)
-
--- what was read of the text, the last name in it, and that names rise where that is said
-pub record Reads (k : Kind) (t rest last : List ℕ) (rises : Bool) (first line : ℕ) : Type 0 where
-  pub read : List Record
-  pub fronts : Fronts k t read rest
-  pub number : line ≡ first + line_count read
-  pub last_is : last ≡ last_name read
-  pub rise : rises ≡ true → Rising read
-
-pub nothing_read : (k : Kind) (t : List ℕ) (first : ℕ) → Reads k t t [] true first first
-nothing_read k t first = record { read = []; fronts = refl; number = omega arith; last_is = refl; rise = λ so. tt }
-
-last_more : (rs : List Record) (r : Record) → last_name (rs ++ r ∷ []) ≡ r.name
-last_more [] r = refl
-last_more (s ∷ []) r = refl
-last_more (s ∷ u ∷ rs) r = last_more (u ∷ rs) r
-
-not_below_last : (r : Record) (rs : List Record) (x : Record) → All (λ s. Below s.name x.name → ⊥) (r ∷ rs) → Below (last_name (r ∷ rs)) x.name → ⊥
-not_below_last r [] x all = All-head (λ s. Below s.name x.name → ⊥) r [] all
-not_below_last r (s ∷ rs) x all = not_below_last s rs x (All-tail (λ s. Below s.name x.name → ⊥) r (s ∷ rs) all)
-
-rising_more : (rs : List Record) (r : Record) → Rising rs → (Below r.name (last_name rs) → ⊥) → Rising (rs ++ r ∷ [])
-rising_more [] r up above = (All-nil (λ s. Below s.name r.name → ⊥), tt)
-rising_more (x ∷ []) r up above = (All-cons (λ s. Below s.name x.name → ⊥) r [] above (All-nil (λ s. Below s.name x.name → ⊥)), (All-nil (λ s. Below s.name r.name → ⊥), tt))
-rising_more (x ∷ y ∷ rs) r up above =
-    let P : Record → Type 0 = λ s. Below s.name x.name → ⊥ in
-    (All-append P (y ∷ rs) (r ∷ []) up.0 (All-cons P r [] (λ below. above (below_or r.name x.name (last_name (y ∷ rs)) below (not_below_last y rs x up.0))) (All-nil P)), rising_more (y ∷ rs) r up.1 above)
-
-pub reads_more : (k : Kind) (t mid last : List ℕ) (rises : Bool) (first line : ℕ) (r : Record) (rest name : List ℕ) (still : Bool) (count : ℕ) → Reads k t mid last rises first line → Takes k mid r rest → count ≡ line + lines_of r → name ≡ r.name
-    → (still ≡ true → (rises ≡ true) × (Below name last → ⊥)) → Reads k t rest name still first count
-reads_more k t mid last rises first line r rest name still count was takes sum is above =
-    let lines = lines_more was.read r in
-    let number = was.number in
-    record {
-      read = was.read ++ r ∷ [];
-      fronts = fronts_more k t was.read mid r rest was.fronts takes;
-      number = omega arith;
-      last_is = is ∙ sym (last_more was.read r);
-      rise = λ so.
-          let both = above so in
-          rising_more was.read r (was.rise both.0) (λ below. both.1 (subst (λ (n : List ℕ). Below n last) (sym is) (subst (λ (n : List ℕ). Below r.name n) (sym was.last_is) below)));
-    }
-
-pub read_all : (k : Kind) (t last rest : List ℕ) (rises : Bool) (first line : ℕ) → Reads k t rest last rises first line → rest ≡ [] → (rs : List Record) × Records k t rs × (rises ≡ true → Rising rs)
-read_all k t last rest rises first line was end = (was.read, fronts_all k t was.read rest end was.fronts, was.rise)

@@ -1,12 +1,12 @@
 -- A `packed-refs` that is searched where it is.
 use Rattle.std.specs.Prelude.{◌≡◌, ◌⊎◌, ℕ, List, drop, Option}
 use Rattle.gix_ref_files.specs.declared.files.ReadAt.{Ghosts}
-use Rattle.gix_ref_files.specs.Files.{FaultCounts, no_faults, count_with}
+use Rattle.gix_ref_files.specs.Files.{FaultCounts, count_with}
 use Rattle.gix_ref_files.specs.declared.files.FileError.{FileError}
 use Rattle.gix_ref_hash.specs.declared.hash.Kind.{Kind}
 use Rattle.gix_ref_packed.specs.declared.packed.sorted_file.SortedFile.{SortedFile}
 use Rattle.gix_ref_packed.specs.declared.packed.file.PackedFile.{PackedFile}
-use Rattle.gix_ref_packed.specs.declared.packed.file.PackedFile.TheVariants.{InFile, InMemory, Unsorted}
+use Rattle.gix_ref_packed.specs.declared.packed.file.PackedFile.TheVariants.{InFile, Unsorted}
 use Rattle.gix_ref_target.specs.PackedRecords.{Record}
 use Rattle.gix_ref_packed_text.specs.declared.packed.decode.options.Header.{Header}
 use Rattle.gix_ref_packed.specs.declared.packed.buffer.open.Error.{Error}
@@ -14,9 +14,9 @@ use Rattle.gix_ref_packed.specs.declared.packed.buffer.open.Error.TheVariants.{I
 use Rattle.gix_ref_packed.specs.declared.packed.sorted_file.FindError.{FindError}
 use Rattle.gix_ref_packed.specs.declared.packed.sorted_file.FindError.TheVariants.{Read, Parse}
 use Rattle.gix_ref_packed.specs.declared.packed.sorted_file.ReadError.TheVariants as reading
-use Rattle.gix_ref_packed_text.specs.OpenedText.{OpensTo, IsWellFormed}
-use Rattle.gix_ref_packed.specs.Buffers.{buffer_text, buffer_kind, buffer_line, HoldsRecords}
-use Rattle.gix_ref_packed.specs.Unsorted.{unsorted_records, unsorted_text}
+use Rattle.gix_ref_packed_text.specs.OpenedText.{OpensTo, IsWellFormed, line_behind}
+use Rattle.gix_ref_packed.specs.Buffers.{HoldsRecords}
+use Rattle.gix_ref_packed.specs.Unsorted.{unsorted_kind, unsorted_line, unsorted_text}
 
 -- the records in a file, without the header
 abbrev pub sorted_file_text : {R : Type 0} {G : Ghosts R} → SortedFile R G → List ℕ
@@ -29,20 +29,17 @@ IsSameFile {R} {G} old now = (G.bytes now.reader ≡ G.bytes old.reader) × (now
 
 -- the records that are searched
 abbrev pub packed_file_text : {R : Type 0} {G : Ghosts R} → PackedFile R G → List ℕ
-packed_file_text (InFile source kind) = sorted_file_text source
-packed_file_text (InMemory buffer) = buffer_text buffer
+packed_file_text (InFile source kind header) = sorted_file_text source
 packed_file_text (Unsorted records) = unsorted_text records
 
 abbrev pub packed_file_kind : {R : Type 0} {G : Ghosts R} → PackedFile R G → Kind
-packed_file_kind (InFile source kind) = kind
-packed_file_kind (InMemory buffer) = buffer_kind buffer
-packed_file_kind (Unsorted records) = buffer_kind (unsorted_records records)
+packed_file_kind (InFile source kind header) = kind
+packed_file_kind (Unsorted records) = unsorted_kind records
 
--- the number of the records' first line in the file, in which a header says that it is sorted
+-- the number of the records' first line in the file
 abbrev pub packed_file_line : {R : Type 0} {G : Ghosts R} → PackedFile R G → ℕ
-packed_file_line (InFile source kind) = 2
-packed_file_line (InMemory buffer) = buffer_line buffer
-packed_file_line (Unsorted records) = buffer_line (unsorted_records records)
+packed_file_line (InFile source kind header) = line_behind header
+packed_file_line (Unsorted records) = unsorted_line records
 
 -- the same records as before, of the same kind, and their lines have the same numbers
 abbrev pub HasSameRecords : {R : Type 0} {G : Ghosts R} → PackedFile R G → PackedFile R G → Type 0
@@ -50,11 +47,10 @@ HasSameRecords old now = (packed_file_text now ≡ packed_file_text old)
     × (packed_file_kind now ≡ packed_file_kind old)
     × (packed_file_line now ≡ packed_file_line old)
 
--- the faults that were met in reading it; what is in memory is not read
+-- the faults that were met in reading it
 abbrev pub packed_file_faults : {R : Type 0} {G : Ghosts R} → PackedFile R G → FaultCounts
-packed_file_faults {R} {G} (InFile source kind) = G.faults source.reader
-packed_file_faults (InMemory buffer) = no_faults
-packed_file_faults (Unsorted records) = no_faults
+packed_file_faults {R} {G} (InFile source kind header) = G.faults source.reader
+packed_file_faults {R} {G} (Unsorted records) = G.faults records.reader
 
 -- the file with these bytes is open for searches: of all its records where the header says sorted, else of the sorted ones
 pub record OpenedFile {R : Type 0} {G : Ghosts R} (kind : Kind) (bytes : List ℕ)

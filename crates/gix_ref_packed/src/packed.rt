@@ -7,6 +7,8 @@ mod file_header;
 pub mod find;
 pub mod iter;
 pub mod laws;
+mod order;
+mod parts;
 mod prefixed;
 pub mod sorted_file;
 mod sorting;

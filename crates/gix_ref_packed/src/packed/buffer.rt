@@ -3,7 +3,8 @@ ghost use Rattle.std.specs.Prelude.{◌≤◌, ◌<◌, vec_len};
 
 pub mod open;
 
-use crate::packed::sorting::{read_order, sorted_text};
+use crate::packed::order::read_order;
+use crate::packed::sorting::sorted_text;
 use gix_ref_files::files::{FileError, Files, Node};
 use gix_ref_hash::hash::Kind;
 use gix_ref_packed_text::packed::header_end::{

@@ -1,45 +1,49 @@
 //! A `packed-refs` that is searched where it is: opening it, and the search for a full name.
-ghost use Rattle.std.specs.Prelude.{◌≡◌, IfOk, IfErr, Err};
+ghost use Rattle.std.specs.Prelude.{◌≡◌, ◌≤◌, ℕ, List, true, drop, IfOk, IfErr, Err};
+ghost use Rattle.gix_ref_hash.specs.declared.hash.Kind.{Kind};
 ghost use Rattle.gix_ref_files.specs.Files.{FaultCounts};
-ghost use Rattle.gix_ref_packed.specs.Buffers.{IsRefusedText, IsRefusedBytes, count_open};
+ghost use Rattle.gix_ref_target.specs.PackedRecords.{Record};
+ghost use Rattle.gix_ref_packed_text.specs.RecordGrammar.{Records, Rising};
+ghost use Rattle.gix_ref_packed.specs.Buffers.{IsRefusedBytes, count_open};
 ghost use Rattle.gix_ref_packed.specs.FileSearches.{IsNoChange, count_read};
 ghost use Rattle.gix_ref_packed.specs.OpenFiles.{OpenedFile, FailsByRead};
+ghost use Rattle.gix_ref_packed.specs.internal.Parts.{IsUnread};
 
 use crate::packed::buffer::Buffer;
 use crate::packed::buffer::open::Error;
 use crate::packed::file_header::file_header;
-use crate::packed::find::ParseError;
-use crate::packed::sorted_file::{FindError, ReadError, SortedFile, read_window};
-use crate::packed::sorting::read_order;
+use crate::packed::order::{ReadRecords, read_records};
+use crate::packed::parts::read_part;
+use crate::packed::sorted_file::{FindError, ReadError, SortedFile};
 use crate::packed::unsorted::Unsorted;
 use gix_ref_files::files::{FileError, Files, ReadAt};
 use gix_ref_hash::hash::Kind;
 use gix_ref_name::name::FullNameRef;
-use gix_ref_packed_text::packed::header_end::{
-    HeaderEnd, first_line_behind, read_header_end, says_sorted,
-};
-use gix_ref_packed_text::packed::window::{Found, ids_of};
+use gix_ref_packed_text::packed::decode::Header;
+use gix_ref_packed_text::packed::header_end::{HeaderEnd, first_line_behind, says_sorted};
+use gix_ref_packed_text::packed::window::Found;
 use std::alloc::Global;
 
-/// A `packed-refs` that is open for searches: the file itself where its header says that it is sorted, and else its
-/// records in memory. Not in gix-ref, which maps the file into memory and sorts the records at once.
+/// A `packed-refs` that is open for searches. Not in gix-ref, which maps the file into memory, and sorts the records at once where
+/// the header does not say that they are sorted.
 #[derive(Drop)]
 pub enum PackedFile<R: ReadAt + Drop> {
-    /// The file is sorted: a search reads the parts of it that it needs.
-    InFile { source: SortedFile<R>, kind: Kind },
-    /// The file was read as a whole, and its records are in the order of their names.
-    InMemory(Buffer),
-    /// The file was read as a whole, and its records are in another order.
-    Unsorted(Unsorted),
+    /// The header says that the records are sorted, or no name is below the one before it: a search reads the parts of the
+    /// file that it needs.
+    InFile {
+        source: SortedFile<R>,
+        kind: Kind,
+        header: Option<Header>,
+    },
+    /// The names of the records do not rise: a search reads the file up to the record.
+    Unsorted(Unsorted<R>),
 }
-
-/// The number of the first line after a header.
-const LINE_BEHIND_HEADER: u64 = 2;
 
 /// The error of opening for one of reading; a file that is opened has no earlier reads from which it could differ.
 fn refusal(error: ReadError) -> Error
     requires { IsNoChange error }
-    ensures refused { (kind : _) (bytes : _) → IsRefusedBytes kind bytes result }
+    ensures refused { (kind : Kind) (bytes : List ℕ) → IsRefusedBytes kind bytes result }
+    ensures unread { (kind : Kind) (first : ℕ) (text : List ℕ) → IsUnread kind first text result }
     ensures counts { (n : FaultCounts) → count_read error n ≡ count_open (Err result) n }
 {
     match error {
@@ -49,23 +53,46 @@ fn refusal(error: ReadError) -> Error
     }
 }
 
-/// Opens a text as `Buffer::from_bytes` does, but leaves records whose names do not rise in the order of their lines.
-fn open_text<R: ReadAt + Drop>(bytes: Vec<u8>, kind: Kind) -> Result<PackedFile<R>, Error>
-    ensures opened { IfOk result (OpenedFile kind bytes.items) }
-    ensures refused { IfErr result (IsRefusedText kind bytes.items) }
+/// Reads each record of a file from that place on, in parts; whether no name is below the one before it. The first line has the
+/// number `first`. `Iter` at the first line that is no record, `Io` and `Memory`.
+fn file_order<R: ReadAt>(
+    alloc: Global,
+    reader: &mut R,
+    part: &mut Vec<u8>,
+    start: u64,
+    kind: Kind,
+    first: u64,
+) -> Result<bool, Error>
+    requires { first ≤ 2 }
+    ensures same { (R.bytes reader.new ≡ R.bytes reader.old)
+        × (R.size reader.new ≡ R.size reader.old) }
+    ensures failed { IfErr result (FailsByRead R.faults) }
+    ensures order { R.honest → IfOk result (λ rises. (rs : List Record)
+        × Records kind (drop start (R.bytes reader.old)) rs × (rises ≡ true → Rising rs)) }
+    ensures refused { R.honest →
+        IfErr result (IsUnread kind first (drop start (R.bytes reader.old))) }
 {
-    let Some(HeaderEnd { header, start }) = read_header_end(&bytes) else {
-        return Err(Error::HeaderParsing);
-    };
-    let records = Buffer::from_start(bytes, start, kind, first_line_behind(header));
-    if says_sorted(header) {
-        return Ok(PackedFile::InMemory(records));
+    let mut place = start;
+    let mut line = first;
+    let mut last = Vec::new(alloc);
+    let mut rises = true;
+    while place < reader.len() {
+        match read_part(reader, part, place) {
+            Ok(()) => {}
+            Err(error) => return Err(refusal(error)),
+        }
+        let before = ReadRecords {
+            line,
+            last: last.as_slice(),
+            rises,
+        };
+        let read = read_records(before, part.as_slice(), kind)?;
+        place += part.len() as u64;
+        line = read.line;
+        rises = read.rises;
+        last = read.last.to_vec(alloc)?;
     }
-    let rises = read_order(records.as_bytes(), kind, records.first_line())?;
-    if rises {
-        return Ok(PackedFile::InMemory(records));
-    }
-    Ok(PackedFile::Unsorted(Unsorted::new(records)))
+    Ok(rises)
 }
 
 /// Opens the file of a reader.
@@ -78,22 +105,27 @@ fn open_reader<R: ReadAt + Drop>(
     ensures refused { R.honest → IfErr result (IsRefusedBytes kind (R.bytes reader)) }
     ensures failed { IfErr result (FailsByRead R.faults) }
 {
-    let mut bytes = Vec::new(alloc);
-    let heading = match file_header(&mut bytes, &mut reader) {
+    let mut window = Vec::new(alloc);
+    let HeaderEnd { header, start } = match file_header(&mut window, &mut reader) {
         Ok(Some(heading)) => heading,
         Ok(None) => return Err(Error::HeaderParsing),
         Err(error) => return Err(refusal(error)),
     };
-    if says_sorted(heading.header) {
-        let source = SortedFile::with_window_memory(bytes, reader, heading.start as u64);
-        return Ok(PackedFile::InFile { source, kind });
+    let start = start as u64;
+    if !says_sorted(header) {
+        let first = first_line_behind(header);
+        let rises = file_order(alloc, &mut reader, &mut window, start, kind, first)?;
+        if !rises {
+            let records = Unsorted::new(reader, start, kind, header, window);
+            return Ok(PackedFile::Unsorted(records));
+        }
     }
-    let len = reader.len() as usize;
-    match read_window(&mut reader, &mut bytes, 0, len) {
-        Ok(()) => {}
-        Err(error) => return Err(refusal(error)),
-    }
-    open_text(bytes, kind)
+    let source = SortedFile::with_window_memory(window, reader, start);
+    Ok(PackedFile::InFile {
+        source,
+        kind,
+        header,
+    })
 }
 
 impl<R: ReadAt + Drop> PackedFile<R> {
@@ -119,7 +151,7 @@ impl<R: ReadAt + Drop> PackedFile<R> {
     /// ```
     ///
     /// Of a file whose header says `sorted` only the first 1 KB is read, and more where the header's line is longer; any
-    /// other file is read as a whole, as `Buffer::open` reads it. `Io` where the file cannot be read, `HeaderParsing` where
+    /// other file is read to its end, in parts of 64 KB, to learn whether its names rise. `Io` where the file cannot be read, `HeaderParsing` where
     /// it begins with `#` and has no header, `Iter` at the first line that is no record where the header does not say
     /// `sorted`, and `Memory` where there was no memory for what is read.
     pub fn open<F: Files<Reader = R>>(
@@ -151,27 +183,10 @@ impl<R: ReadAt + Drop> PackedFile<R> {
         }
     }
 
-    /// Sorts records that were searched so often that their order is worth it. Where there was no memory for that, they
-    /// stay as they are.
-    fn sort_if_worn(&mut self)
-        ensures same { HasSameRecords self.old self.new }
-        ensures faults { packed_file_faults self.new ≡ packed_file_faults self.old }
-    {
-        let PackedFile::Unsorted(records) = self else {
-            return;
-        };
-        if !records.is_worn() {
-            return;
-        }
-        if let Ok(sorted) = records.sorted() {
-            *self = PackedFile::InMemory(sorted);
-        }
-    }
-
-    /// The ids of the record of a full name; `None` where there is no such record. In a file, by halving: a name among a
+    /// The ids of the record of a full name; `None` where there is no such record. By halving: a name among a
     /// million records costs some seventeen reads of 1 KB. In records that are not in the order of their names, one after the
-    /// other, which costs as much as a fifteenth of sorting them; a later search sorts them, so that many searches cost
-    /// twice the sorting at most. `Read` where the file cannot be read, or there was no memory for what is read; `Parse`
+    /// other in parts of 64 KB, which costs as much as a fifteenth of sorting them; the seventeenth search reads the whole and
+    /// sorts it, so that many searches cost twice the sorting at most. `Read` where the file cannot be read, or there was no memory for what is read; `Parse`
     /// where a line is malformed and nothing was found, or the record that was found cannot be read. As
     /// `Buffer::try_find_key`, without the text in memory.
     ///
@@ -190,15 +205,9 @@ impl<R: ReadAt + Drop> PackedFile<R> {
             ≡ count_found result (packed_file_faults self.old) }
         ensures failed { IfErr result (FailsFindByRead R.faults) }
     {
-        self.sort_if_worn();
         match self {
-            PackedFile::InFile { source, kind } => source.find(*kind, name),
-            PackedFile::InMemory(buffer) => match buffer.try_find_key(name) {
-                Ok(Some(reference)) => Ok(Some(ids_of(reference))),
-                Ok(None) => Ok(None),
-                Err(ParseError) => Err(FindError::Parse),
-            },
-            PackedFile::Unsorted(records) => Ok(records.find(name)),
+            PackedFile::InFile { source, kind, .. } => source.find(*kind, name),
+            PackedFile::Unsorted(records) => records.find(name),
         }
     }
 
@@ -225,11 +234,12 @@ impl<R: ReadAt + Drop> PackedFile<R> {
         ensures failed { IfErr result (FailsReadBy R.faults) }
     {
         match self {
-            PackedFile::InFile { mut source, kind } => {
-                source.read_prefixed(alloc, kind, prefix, LINE_BEHIND_HEADER)
-            }
-            PackedFile::InMemory(buffer) => Ok(buffer),
-            PackedFile::Unsorted(records) => records.sorted(),
+            PackedFile::InFile {
+                mut source,
+                kind,
+                header,
+            } => source.read_prefixed(alloc, kind, prefix, first_line_behind(header)),
+            PackedFile::Unsorted(records) => records.into_sorted(),
         }
     }
 }

@@ -9,7 +9,7 @@ mod error;
 mod parts;
 
 use crate::packed::buffer::Buffer;
-use crate::packed::sorting::line_count;
+use crate::packed::order::line_count;
 pub use error::Error;
 use gix_ref_hash::hash::Kind;
 use gix_ref_packed_text::packed::Reference;

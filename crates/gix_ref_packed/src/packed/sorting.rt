@@ -1,22 +1,20 @@
 //! Records in the order of their names: what opening makes of a text whose header does not say that it is sorted.
-ghost use Rattle.std.specs.Prelude.{◌≡◌, ◌≤◌, List, true, map, MatchBool, IfOk, IfErr, OnOk};
+ghost use Rattle.std.specs.Prelude.{◌≡◌, ◌≤◌, map, IfOk, IfErr, OnOk};
 ghost use Rattle.std.specs.List.{All, flat_map};
 ghost use Rattle.std.specs.List.Sorted.{IsPermutation, IsSortedByKey, IsStableByKey};
 ghost use Rattle.std.specs.Cmp.Lexicographic.{slice_cmp};
 ghost use Rattle.std.specs.Ordering.{nat_cmp};
-ghost use Rattle.gix_ref_target.specs.PackedRecords.{Record};
-ghost use Rattle.gix_ref_packed_text.specs.RecordGrammar.{Records, Below, Rising};
-ghost use Rattle.gix_ref_packed_text.specs.OpenedText.{lines_of, IsPiece, SortsText};
-ghost use Rattle.gix_ref_packed_text.specs.Views.{record_of};
+ghost use Rattle.gix_ref_packed_text.specs.RecordGrammar.{Records};
+ghost use Rattle.gix_ref_packed_text.specs.OpenedText.{IsPiece, SortsText};
 ghost use Rattle.gix_ref_packed.specs.internal.Entries.{entry_record, entry_piece, entry_ref_name, entry_bytes};
 ghost use Rattle.gix_ref_packed.specs.Buffers.{IsStuck};
 
 use crate::packed::buffer::open::Error;
+use crate::packed::order::line_count;
 use gix_ref_hash::hash::Kind;
 use gix_ref_packed_text::packed::Reference;
 use gix_ref_packed_text::packed::decode::take_record;
 use std::alloc::{AllocError, Global};
-use std::cmp::Ordering;
 
 /// A record, with the bytes of its lines.
 #[derive(Clone, Copy)]
@@ -25,48 +23,6 @@ pub struct Entry<'a> {
     pub reference: Reference<'a>,
     /// The lines.
     pub bytes: &'a [u8],
-}
-
-/// How many lines the record has.
-pub fn line_count(reference: &Reference<'_>) -> u64
-    ensures { result ≡ lines_of (record_of reference.now) }
-{
-    match reference.object {
-        Some(_) => 2,
-        None => 1,
-    }
-}
-
-/// Whether no name is below the one before it, where that was so up to here.
-fn still_rises(rises: bool, name: &[u8], last: &[u8]) -> bool
-    ensures { result ≡ true → (rises ≡ true) × (Below name.now last.now → ⊥) }
-{
-    rises && !is_below(name, last)
-}
-
-/// Reads each record of the text; whether no name is below the one before it. The first line has the number `first`; the error is
-/// `Iter` at the first line that is no record.
-pub(crate) fn read_order(text: &[u8], kind: Kind, first: u64) -> Result<bool, Error>
-    requires { first ≤ 2 }
-    ensures order { IfOk result (λ rises. (rs : List Record) × Records kind text.now rs
-        × (rises ≡ true → Rising rs)) }
-    ensures refused { IfErr result (IsStuck kind first text.now) }
-{
-    let mut rest = text;
-    let mut line = first;
-    let mut last: &[u8] = b"";
-    let mut rises = true;
-    while !rest.is_empty() {
-        let Some((reference, after)) = take_record(rest, kind) else {
-            return Err(Error::Iter { line_number: line });
-        };
-        let name = reference.name.to_path();
-        rises = still_rises(rises, name, last);
-        last = name;
-        line += line_count(&reference);
-        rest = after;
-    }
-    Ok(rises)
 }
 
 /// The records of the text, in their order. The first line has the number `first`.
@@ -96,17 +52,6 @@ fn read_entries<'a>(
         rest = after;
     }
     Ok(entries)
-}
-
-/// Whether the name is below the other.
-fn is_below(name: &[u8], other: &[u8]) -> bool
-    ensures { MatchBool result (Below name.now other.now) (Below name.now other.now → ⊥) }
-{
-    match name.cmp(other) {
-        Ordering::Less => true,
-        Ordering::Equal => false,
-        Ordering::Greater => false,
-    }
 }
 
 /// Sorts records by name; those of one name stay in their order.

@@ -3,7 +3,8 @@ use Rattle.gix_ref_packed.specs.internal.Entries.{entry_record, entry_bytes}
 use Rattle.std.specs.List.{flat_map}
 use Rattle.gix_ref_packed_text.specs.Views.{record_of}
 use Rattle.gix_ref_packed_text.proofs.RecordBytes.{fronts_all, lines_fit}
-use Rattle.gix_ref_packed.proofs.SortedPieces.{entries_more, no_bytes}
+use Rattle.gix_ref_packed.proofs.SortedPieces.{entries_more}
+use Rattle.gix_ref_packed.proofs.OrderLemmas.{no_bytes}
 use Rattle.gix_ref_packed.proofs.packed.sorting.read_entries.Goals as goal
 
 pub loop-rest-preserved : goal.loop-rest-preserved
