@@ -1,11 +1,15 @@
 //! Lookups of names in composed Unicode (`core.precomposeUnicode` of `git config`).
-ghost use Rattle.std.specs.Prelude.{◌≡◌, IfOk};
+ghost use Rattle.std.specs.Prelude.{◌≡◌, IfOk, MatchResult};
 ghost use Rattle.gix_ref_name.specs.ComposedNames.{decomposed};
 ghost use Rattle.gix_ref_name.specs.Names.{full_bytes, partial_ref_bytes};
-ghost use Rattle.gix_ref_lookup.specs.Lookups.{IsComposedName, IsGivenOf};
+ghost use Rattle.gix_ref_files.specs.ReadOnly.{OnlyReads};
+ghost use Rattle.gix_ref_theory.specs.OnRealTrees.{contents};
+ghost use Rattle.gix_ref_lookup.specs.Lookups.{AreHonest, AreStillAskedWith, Finds, IsAnswerOf, IsComposedName, IsFaultAmong, IsGivenOf, OfAsked, asked_names, lookup_of, meaning_in, name_asked};
 
 use crate::find::Error;
 use crate::find::lookup::Lookup;
+use crate::find::records::Records;
+use crate::settings::Settings;
 use gix_ref_files::files::Files;
 use gix_ref_name::name::compose::{compose, decompose};
 use gix_ref_name::name::{PartialName, PartialNameRef};
@@ -82,4 +86,36 @@ impl<F: Files> Lookup<'_, '_, '_, F> {
             Err(_) => Err(Error::Memory),
         }
     }
+}
+
+/// As `Lookup::find_reference`, of a lookup over these files, with these settings, that asks these records.
+/// It says what the lookup leaves of the records, for a caller who asks them again.
+pub fn find_reference<F: Files>(
+    alloc: Global,
+    files: &mut F,
+    settings: Settings<'_>,
+    composes: bool,
+    name: PartialNameRef<'_>,
+    records: &mut Records<'_, F::Reader>,
+) -> Result<Option<Reference>, Error>
+    ensures found { OfAsked settings.entry (F.means files.old) F.honest records.old (λ rs. Finds
+        (lookup_of composes (meaning_in settings.entry) (contents F.means files.old) rs
+        (partial_ref_bytes name.entry)) result) }
+    ensures seen { F.honest → AreHonest records.old → IfOk result (IsAnswerOf composes
+        settings.entry (contents F.means files.old) records.old (partial_ref_bytes name.entry)) }
+    ensures failed { MatchResult result (λ _. F.faults files.new ≡ F.faults files.old)
+        (IsFaultAmong F.honest settings.entry (F.means files.old).tree records.old
+        (F.faults files.old) (F.faults files.new)
+        (asked_names (name_asked composes (partial_ref_bytes name.entry)))) }
+    ensures asked { F.honest → AreStillAskedWith settings.entry (F.means files.old)
+        records.old records.new }
+    ensures reads { OnlyReads F.honest F.means F.faults files.old files.new }
+{
+    let mut lookup = Lookup {
+        alloc,
+        files,
+        settings,
+        records,
+    };
+    lookup.find_reference(composes, name)
 }

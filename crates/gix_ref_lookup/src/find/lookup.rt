@@ -25,6 +25,8 @@ impl<'l, 'r, 'b, F: Files> Lookup<'l, 'r, 'b, F> {
     ghost use Rattle.std.specs.Prelude.{◌≡◌};
 
     /// A lookup over these files, with these settings, that asks these records.
+    /// After it the prover knows what became of the files, and not what became of the records: a caller who keeps these takes
+    /// `find::composed::find_reference`.
     pub fn new(
         alloc: Global,
         files: &'l mut F,

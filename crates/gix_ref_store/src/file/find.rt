@@ -7,6 +7,7 @@ use crate::file::settings::settings;
 use crate::file::store::Store;
 use crate::raw::Reference;
 use gix_ref_files::files::Files;
+use gix_ref_lookup::find::composed::find_reference;
 use gix_ref_lookup::find::lookup::Lookup;
 pub use gix_ref_lookup::find::records::Records;
 pub use gix_ref_lookup::find::{Error, ReadError, existing};
@@ -63,7 +64,7 @@ impl<F: Files> Store<F> {
     {
         let composes = self.composes(asks_records);
         let settings = settings!(self);
-        Lookup::new(alloc, &mut self.files, settings, asked).find_reference(composes, partial)
+        find_reference(alloc, &mut self.files, settings, composes, partial, asked)
     }
 
     /// As `find`, and with its errors, where these records are asked: a caller with many lookups keeps them, and `packed-refs` is opened
