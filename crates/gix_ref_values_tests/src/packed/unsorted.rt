@@ -69,7 +69,10 @@ fn opened(rt: &impl Abort, alloc: Global) -> PackedFile<MemoryReader> {
 #[test]
 fn each_of_many_searches_finds_the_record(rt: HostRuntime) {
     let mut packed = opened(&rt, rt.alloc());
-    assert!(rt; matches!(packed, PackedFile::Unsorted(_)), "names do not rise");
+    assert!(rt;
+        matches!(packed, PackedFile::Unsorted(_)),
+        "names do not rise"
+    );
     for _ in 0..8 {
         for &(name, target, object) in ROWS {
             let found = packed.find(full(&rt, name)).expect(&rt, "an answer");
