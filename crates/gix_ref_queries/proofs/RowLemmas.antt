@@ -1,5 +1,5 @@
 -- Rows of references.
-use Rattle.std.proofs.Common.{◌≡◌, ◌⊎◌, inl, inr, true, ◌<◌, ◌+◌, ℕ, List, [], ◌∷◌, ◌++◌, length, get_or, take, map, reverse, codes, Option, Some, None, Result, Ok, Err, Vec, refl, sym, ◌∙◌, ap, subst}
+use Rattle.std.proofs.Common.{◌≡◌, ◌⊎◌, inl, inr, true, ◌<◌, ◌+◌, ℕ, List, [], ◌∷◌, ◌++◌, length, get_or, take, map, reverse, codes, Option, Some, None, Result, Ok, Err, Vec, refl, sym, ◌∙◌, ap, subst, append-nil, append_assoc}
 use Rattle.std.specs.Prelude.{IfOk, IfErr}
 use Rattle.std.specs.List.{cons_option, filter_map}
 use Rattle.std.specs.Option.{option_to_list}
@@ -11,7 +11,9 @@ use Rattle.gix_ref_files.specs.declared.files.ReadAt.{Ghosts}
 use Rattle.gix_ref_hash.specs.declared.hash.ObjectId.{ObjectId}
 use Rattle.gix_ref_name.specs.Names.{full_bytes}
 use Rattle.gix_ref_name.specs.declared.name.FullName.{FullName}
-use Rattle.gix_ref_target.specs.Targets.{target_value}
+use Rattle.gix_ref_target.specs.Targets.{TargetValue, target_value}
+use Rattle.gix_ref_target.specs.Targets.TargetValue.{object_id, symbolic_name}
+use Rattle.gix_ref_target.specs.declared.target.Target.{Target}
 use Rattle.gix_ref_target.specs.declared.target.Target.TheVariants.{Object, Symbolic}
 use Rattle.gix_ref_packed_text.specs.declared.raw.Reference.{Reference}
 use Rattle.gix_ref_target.specs.PackedRecords.{Record}
@@ -19,15 +21,15 @@ use Rattle.gix_ref_store.specs.Lookup.{AreRecordsIn, LooksUp}
 use Rattle.gix_ref_store.specs.declared.file.store.Store.{Store}
 use Rattle.gix_ref_queries.specs.Answers.{path_lines}
 use Rattle.gix_ref_queries.specs.Formats.{row_text}
-use Rattle.gix_ref_queries.specs.Resolving.{TargetsByName, EndsBy, IsUnfollowedBy, IsUnread, targets_in, resolved}
+use Rattle.gix_ref_queries.specs.Resolving.{TargetsByName, EndsBy, IsUnfollowedBy, IsUnread, SeesEnd, SeesEnds, targets_in, resolved}
 use Rattle.gix_ref_queries.specs.Resolving.NameEnd.{Reached, Missing, TooDeep}
-use Rattle.gix_ref_queries.specs.Rows.{IsRowError, IsUnfollowed, IsUnreadRow, IsUnreadShort, followed_row, row_lines, row_of, row_texts, rows_of, shown_short, target_row}
+use Rattle.gix_ref_queries.specs.Rows.{IsRowError, IsShownShort, IsUnfollowed, IsUnreadRow, IsUnreadShort, SeesFollowedRow, SeesRow, SeesRows, SeesTargetRow, followed_row, row_lines, row_of, row_texts, rows_of, shown_short, target_row}
 use Rattle.gix_ref_queries.specs.declared.format.Part.{Part}
 use Rattle.gix_ref_queries.specs.declared.resolve.End.{End}
 use Rattle.gix_ref_queries.specs.declared.resolve.End.TheVariants as ends
 use Rattle.gix_ref_queries.specs.declared.rows.RowError.{RowError}
 use Rattle.gix_ref_queries.specs.declared.rows.RowError.TheVariants as row_error
-use Rattle.gix_ref_queries.proofs.Names.{unfollowed_before, same_finds, same_records}
+use Rattle.gix_ref_queries.proofs.Names.{end_before, unfollowed_before, same_finds, same_records}
 use Rattle.gix_ref_queries.proofs.ShortLemmas.{unshort_before}
 
 pub map_reverse : {X Y : Type 0} (f : X → Y) (xs : List X) → map f (reverse xs) ≡ reverse (map f xs)
@@ -149,3 +151,81 @@ module _ {F R : Type 0} (G : Ghosts R) (honest : Type 0) (means : F → Meaning)
       honest → (records : List Record) → AreRecordsIn means old records → rows ≡ rows_of (targets_in means old records) parts references
   rows_before old mid parts references rows looked made h records are =
       made h records (same_records honest means old mid records looked h are) ∙ ap (λ (f : TargetsByName). rows_of f parts references) (same_finds honest means old mid records looked h)
+
+-- ---- on any text of `packed-refs`
+
+module _ {F : Type 0} (means : F → Meaning) (store : Store F) (parts : List Part) (name short owned last : List ℕ) (same : owned ≡ name) where
+  -- a following that ends at an object
+  pub sees_reached : (shown_name shown_last : List ℕ) (id : ObjectId) (end : End) (text : List ℕ) → SeesEnds means store owned last end → end ≡ ends.Object id → shown_name ≡ name → shown_last ≡ last →
+      text ≡ row_text parts (record { name = shown_name; short = short; id = id; symref = shown_last }) → SeesFollowedRow means store parts name short (Some text)
+  sees_reached shown_name shown_last id end text saw is named ended shows =
+      let reached : SeesEnd means store 5 owned (Reached last id) = subst (λ (e : End). SeesEnds means store owned last e) is saw in (
+        Reached last id,
+        subst (λ (n : List ℕ). SeesEnd means store 5 n (Reached last id)) same reached,
+        ap (λ (t : List ℕ). let o : Option (List ℕ) = Some t in o) (shows ∙ (ap (λ (n : List ℕ). row_text parts (record { name = n; short = short; id = id; symref = shown_last })) named ∙ ap (λ (l : List ℕ). row_text parts (record { name = name; short = short; id = id; symref = l })) ended)),
+      )
+
+  -- one that ends at no reference, or does not end
+  pub sees_missing : (end : End) → SeesEnds means store owned last end → (end ≡ ends.Absent) ⊎ (end ≡ ends.TooDeep) → SeesFollowedRow means store parts name short None
+  sees_missing end saw (inl is) =
+      let missing : SeesEnd means store 5 owned (Missing last) = subst (λ (e : End). SeesEnds means store owned last e) is saw in
+      (Missing last, subst (λ (n : List ℕ). SeesEnd means store 5 n (Missing last)) same missing, refl)
+  sees_missing end saw (inr is) =
+      let missing : SeesEnd means store 5 owned TooDeep = subst (λ (e : End). SeesEnds means store owned last e) is saw in
+      (TooDeep, subst (λ (n : List ℕ). SeesEnd means store 5 n TooDeep) same missing, refl)
+
+-- the row of a reference that is not symbolic
+pub sees_direct : {F : Type 0} (means : F → Meaning) (store : Store F) (parts : List Part) (reference : Reference) (id : ObjectId) (asked shown short text : List ℕ) → reference.target ≡ Object id → asked ≡ full_bytes reference.name → shown ≡ full_bytes reference.name → IsShownShort parts asked short →
+    text ≡ row_text parts (record { name = shown; short = short; id = id; symref = [] }) → SeesRow means store parts reference (Some text)
+sees_direct means store parts reference id asked shown short text is named shows shortens made =
+    let n = full_bytes reference.name in
+    let row : Option (List ℕ) = Some text in
+    let there : row ≡ Some (row_text parts (record { name = n; short = short; id = id; symref = [] })) =
+    ap (λ (t : List ℕ). let o : Option (List ℕ) = Some t in o) (made ∙ ap (λ (m : List ℕ). row_text parts (record { name = m; short = short; id = id; symref = [] })) shows) in (
+      short,
+      subst (λ (m : List ℕ). IsShownShort parts m short) named shortens,
+      subst (λ (t : Target). SeesTargetRow means store parts n short (target_value t) row) (sym is) there,
+    )
+
+module _ {F : Type 0} (honest : Type 0) (means : F → Meaning) (old mid : Store F) (looked : LooksUp honest means old mid) (h : honest) (parts : List Part) where
+  followed_before : (name short : List ℕ) (row : Option (List ℕ)) → SeesFollowedRow means mid parts name short row → SeesFollowedRow means old parts name short row
+  followed_before name short row (end, saw, is) = (end, end_before honest means old mid looked h 5 name end saw, is)
+
+  -- that of a symbolic reference, once the store was looked at
+  pub sees_led : (reference : Reference) (target : FullName) (asked shown short : List ℕ) (row : Option (List ℕ)) → reference.target ≡ Symbolic target → asked ≡ full_bytes reference.name → shown ≡ full_bytes reference.name → IsShownShort parts asked short →
+      SeesFollowedRow means mid parts shown short row → SeesRow means old parts reference row
+  sees_led reference target asked shown short row is named shows shortens saw =
+      let n = full_bytes reference.name in (
+        short,
+        subst (λ (m : List ℕ). IsShownShort parts m short) named shortens,
+        subst (λ (t : Target). SeesTargetRow means old parts n short (target_value t) row) (sym is) (followed_before n short row (subst (λ (m : List ℕ). SeesFollowedRow means mid parts m short row) shows saw)),
+      )
+
+  pub row_before : (reference : Reference) (row : Option (List ℕ)) → SeesRow means mid parts reference row → SeesRow means old parts reference row
+  row_before reference row (short, shown, saw) = (short, shown, by (target_value reference.target) saw)
+    where
+      by : (t : TargetValue) → SeesTargetRow means mid parts (full_bytes reference.name) short t row → SeesTargetRow means old parts (full_bytes reference.name) short t row
+      by (object_id id) is = is
+      by (symbolic_name next) saw = followed_before (full_bytes reference.name) short row saw
+
+  pub seen_before : (references : List Reference) (rows : List (List ℕ)) → SeesRows means mid parts references rows → SeesRows means old parts references rows
+  seen_before [] rows is = is
+  seen_before (reference ∷ references) rows (row, more, saw, later, is) = (row, more, row_before reference row saw, seen_before references more later, is)
+
+module _ {F : Type 0} (means : F → Meaning) (store : Store F) (parts : List Part) where
+  seen_then : (references : List Reference) (rows : List (List ℕ)) (reference : Reference) (row : Option (List ℕ)) → SeesRows means store parts references rows → SeesRow means store parts reference row → SeesRows means store parts (references ++ reference ∷ []) (rows ++ option_to_list row)
+  seen_then [] rows reference row is saw = (row, [], saw, refl, ap (λ (r : List (List ℕ)). r ++ option_to_list row) is ∙ sym (append-nil (option_to_list row)))
+  seen_then (first ∷ references) rows reference row (one, more, has, later, is) saw = (
+    one,
+    more ++ option_to_list row,
+    has,
+    seen_then references more reference row later saw,
+    ap (λ (r : List (List ℕ)). r ++ option_to_list row) is ∙ append_assoc (option_to_list one) more (option_to_list row),
+  )
+
+  -- one reference more
+  pub seen_more : (references : List Reference) (i : ℕ) (reference : Reference) (rows : List (List ℕ)) (row : Option (List ℕ)) → i < length references → reference ≡ get_or references i reference →
+      SeesRows means store parts (take i references) rows → SeesRow means store parts reference row → SeesRows means store parts (take (i + 1) references) (rows ++ option_to_list row)
+  seen_more references i reference rows row lt is so_far saw =
+      subst (λ (rs : List Reference). SeesRows means store parts rs (rows ++ option_to_list row)) (sym (take_more references i reference lt ∙ ap (λ (r : Reference). take i references ++ r ∷ []) (sym is)))
+      (seen_then (take i references) rows reference row so_far saw)

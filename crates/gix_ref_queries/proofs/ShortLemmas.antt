@@ -2,7 +2,8 @@
 use Rattle.std.proofs.Common.{◌≡◌, ◌<◌, ◌+◌, ℕ, Bool, true, false, List, ◌∷◌, ◌++◌, [], Bor, Vec, inl, inr, ◌≢◌, length, take, drop, get_or, Option, Some, None, if◌then◌else◌, sym, ◌∙◌, ap, subst}
 use Rattle.std.specs.Prelude.{◌&&◌, bytes_eq, is_none}
 use Rattle.std.specs.declared.alloc.Global.{Global}
-use Rattle.std.proofs.lemmas.List.{at_drop_more, take-append-drop}
+use Rattle.std.specs.List.{Any}
+use Rattle.std.proofs.lemmas.List.{at_drop_more, get_or-map, length-map, take-append-drop}
 use Rattle.gix_ref_theory.proofs.Writes.{same_true, same as same_text}
 use Rattle.gix_ref_name.specs.NameGrammar.{full_error}
 use Rattle.gix_ref_queries.specs.Resolving.{TargetsByName, EndsBy, resolved, targets_in}
@@ -132,3 +133,9 @@ short_is find strict clear name prefix short names result begins rest are is mad
     ∙ (ap (λ (b : Bool). let o : Option (List ℕ) = if b then Some short else None in o) (is ∙ ap (is_clear_among find strict name) are)
     ∙ (ap (λ (s : List ℕ). let o : Option (List ℕ) = if is_clear_among find strict name (full_names s) then Some s else None in o) rest
     ∙ sym (ap (λ (b : Bool). let o : Option (List ℕ) = if b && is_clear_among find strict name (full_names (drop (length prefix) name)) then Some (drop (length prefix) name) else None in o) begins)))
+
+-- the rest after one of these prefixes
+pub short_by_one : (name short : List ℕ) (prefixes : List (Bor (List ℕ))) (i : ℕ) (none : Bor (List ℕ)) → i < length prefixes → name ≡ (get_or prefixes i none).now ++ short → Any (λ (prefix : List ℕ). name ≡ prefix ++ short) (texts prefixes)
+short_by_one name short prefixes i none within is =
+    let prefix = (get_or prefixes i none).now in
+    (i, prefix, subst (λ (n : ℕ). i < n) (sym (length-map prefixes (λ (word : Bor (List ℕ)). word.now))) within, get_or-map (λ (word : Bor (List ℕ)). word.now) prefixes i none prefix within, is)

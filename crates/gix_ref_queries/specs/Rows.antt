@@ -1,9 +1,9 @@
 -- The rows of `git for-each-ref`: one for each reference that is asked for and leads to an object.
-use Rattle.std.specs.Prelude.{◌≡◌, ◌⊎◌, ℕ, Bool, true, false, List, [], ◌∷◌, ◌++◌, Option, Some, None, Result, Ok, Err, Vec, map, reverse, take, codes, if◌then◌else◌, MatchResult}
+use Rattle.std.specs.Prelude.{◌≡◌, ◌⊎◌, ℕ, Bool, true, false, List, [], ◌∷◌, ◌++◌, Option, Some, None, Result, Ok, Err, Vec, map, reverse, take, codes, if◌then◌else◌, MatchBool, MatchResult}
 use denote.Ref.{Bor}
 use Rattle.std.specs.Iterator.{Drains, Yields, YieldsThen}
 use Rattle.std.specs.List.{AllByRecursion, Any, filter, filter_map, find, flat_map}
-use Rattle.std.specs.Option.{option_map}
+use Rattle.std.specs.Option.{option_map, option_to_list}
 use Rattle.std.specs.declared.alloc.Global.{Global}
 use Rattle.gix_ref_files.specs.Files.{Meaning, FaultCounts, NoFewer}
 use Rattle.gix_ref_files.specs.declared.files.ReadAt.{Ghosts}
@@ -32,9 +32,9 @@ use Rattle.gix_ref_queries.specs.Answers.{Says, Fails}
 use Rattle.gix_ref_queries.specs.Formats.{format_parts, row_text, shows_short}
 use Rattle.gix_ref_queries.specs.ListedNames.{FollowFiles}
 use Rattle.gix_ref_queries.specs.Patterns.{has_other_sign, is_asked_by}
-use Rattle.gix_ref_queries.specs.Resolving.{TargetsByName, NameEnd, IsUnread, targets_in, resolved}
+use Rattle.gix_ref_queries.specs.Resolving.{TargetsByName, NameEnd, IsUnread, SeesEnd, targets_in, resolved}
 use Rattle.gix_ref_queries.specs.Resolving.NameEnd.{Reached}
-use Rattle.gix_ref_queries.specs.Shortening.{IsUnshort, short_name}
+use Rattle.gix_ref_queries.specs.Shortening.{IsShortOf, IsUnshort, short_name}
 use Rattle.gix_ref_queries.specs.declared.answer.Answer.{Answer}
 use Rattle.gix_ref_queries.specs.declared.format.Part.{Part}
 use Rattle.gix_ref_queries.specs.declared.listing.Unlisted.{Unlisted}
@@ -138,6 +138,37 @@ abbrev pub IsUnfollowedAs : RowError → Answer → Type 0
 IsUnfollowedAs (row_error.Unread name) answer =
     Fails (codes "cannot follow '" ++ (full_ref_bytes name ++ codes "'")) answer
 IsUnfollowedAs row_error.Memory answer = ⊥
+
+-- what a row shows for a short name, whatever other names there are: nothing, where the format shows none
+abbrev pub IsShownShort : List Part → (name short : List ℕ) → Type 0
+IsShownShort parts name short = MatchBool (shows_short parts) (IsShortOf name short) (short ≡ [])
+
+-- What rows are on any text of `packed-refs`, where followings end as lookups saw it.
+module _ {F : Type 0} (means : F → Meaning) (store : Store F) where
+  -- the row of a symbolic reference
+  abbrev pub SeesFollowedRow : List Part → (name short : List ℕ) → (row : Option (List ℕ)) → Type 0
+  SeesFollowedRow parts name short row = (end : NameEnd) × SeesEnd means store 5 name end
+      × (row ≡ followed_row parts name short end)
+
+  -- that of a reference to this target
+  abbrev pub SeesTargetRow : List Part → (name short : List ℕ) → TargetValue →
+      (row : Option (List ℕ)) → Type 0
+  SeesTargetRow parts name short (object_id id) row =
+      row ≡ Some (row_text parts (record { name = name; short = short; id = id; symref = [] }))
+  SeesTargetRow parts name short (symbolic_name target) row =
+      SeesFollowedRow parts name short row
+
+  abbrev pub SeesRow : List Part → Reference → (row : Option (List ℕ)) → Type 0
+  SeesRow parts reference row = let name = full_bytes reference.name in
+      (short : List ℕ) × IsShownShort parts name short
+      × SeesTargetRow parts name short (target_value reference.target) row
+
+  -- and those of these references
+  abbrev pub SeesRows : List Part → List Reference → (rows : List (List ℕ)) → Type 0
+  SeesRows parts [] rows = rows ≡ []
+  SeesRows parts (reference ∷ references) rows = (row : Option (List ℕ))
+      × (more : List (List ℕ)) × SeesRow parts reference row × SeesRows parts references more
+      × (rows ≡ option_to_list row ++ more)
 
 module _ {F : Type 0} (honest : Type 0) (means : F → Meaning) (faults : F → FaultCounts) where
   -- What the next call of an iterator gives: a reference or none, or a fault.
@@ -272,8 +303,9 @@ module _ {F : Type 0} (honest : Type 0) (means : F → Meaning) (faults : F → 
         × (((why : RowError) × IsUnfollowed old parts references why × IsUnfollowedAs why answer)
         ⊎ ((rows : List (List ℕ))
         × Says (row_lines (counted count (ordered descending rows))) 0 answer
-        × (honest → (records : List Record) → AreRecordsIn means old records →
-        rows ≡ rows_of (targets_in means old records) parts references))))
+        × (honest → SeesRows means old parts references rows
+        × ((records : List Record) → AreRecordsIn means old records →
+        rows ≡ rows_of (targets_in means old records) parts references)))))
 
     -- `for-each-ref`: a field of the format or a pattern is not supported; or what is answered of the references
     abbrev pub EachAnswer : (old new : Store F) → (format : List ℕ) → (patterns : List (List ℕ)) →

@@ -1,6 +1,7 @@
 -- Short names of references (`git symbolic-ref --short`, `%(refname:short)` of `git for-each-ref`).
 use Rattle.std.specs.Prelude.{◌≡◌, ◌≢◌, ◌⊎◌, ℕ, List, [], ◌∷◌, ◌++◌, Bool, true, false, ◌&&◌, codes, drop, length, map, take, Option, Some, None, bytes_eq, if◌then◌else◌, is_none}
 use denote.Ref.{Bor}
+use Rattle.std.specs.List.{Any}
 use Rattle.gix_ref_name.specs.NameGrammar.{full_error}
 use Rattle.gix_ref_files.specs.Files.{FaultCounts, Meaning}
 use Rattle.gix_ref_files.specs.declared.files.ReadAt.{Ghosts}
@@ -107,6 +108,15 @@ IsAskedBy strict name (prefix ∷ prefixes) find asked = IsAskedAfter strict nam
 abbrev pub IsAskedFor : (strict : Bool) → (name : List ℕ) → TargetsByName → (asked : List ℕ) →
     Type 0
 IsAskedFor strict name find asked = IsAskedBy strict name short_prefixes find asked
+
+-- a short name by these prefixes, whatever other names there are: what comes after one of them, or the whole name
+abbrev pub IsShortBy : (name : List ℕ) → (prefixes : List (List ℕ)) → (short : List ℕ) → Type 0
+IsShortBy name prefixes short = (short ≡ name)
+    ⊎ Any (λ (prefix : List ℕ). name ≡ prefix ++ short) prefixes
+
+-- and by those of Git
+abbrev pub IsShortOf : (name short : List ℕ) → Type 0
+IsShortOf name short = IsShortBy name short_prefixes short
 
 -- the bytes that are lent
 abbrev pub lent_bytes : Option (Bor (List ℕ)) → Option (List ℕ)

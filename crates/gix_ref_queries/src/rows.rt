@@ -4,7 +4,7 @@ ghost use Rattle.std.specs.Option.{option_to_list};
 ghost use Rattle.gix_ref_name.specs.Names.{full_bytes, full_ref_bytes};
 ghost use Rattle.gix_ref_store.specs.Lookup.{LooksUp};
 ghost use Rattle.gix_ref_queries.specs.Resolving.{IsUnread, OfTargets, resolved};
-ghost use Rattle.gix_ref_queries.specs.Rows.{IsRowError, IsUnfollowed, IsUnreadRow, IsUnreadShort, counted, followed_row, ordered, row_made, row_of, row_texts, rows_of, shown_short};
+ghost use Rattle.gix_ref_queries.specs.Rows.{IsRowError, IsShownShort, IsUnfollowed, IsUnreadRow, IsUnreadShort, SeesFollowedRow, SeesRow, SeesRows, counted, followed_row, ordered, row_made, row_of, row_texts, rows_of, shown_short};
 
 use crate::format::{Part, row, shows_short};
 use crate::resolve::{End, Followed, follow};
@@ -45,6 +45,8 @@ fn shown_short<'r, F: Files>(
 ) -> Result<&'r [u8], RowError<'r>>
     ensures short { OfTargets F.honest F.means store.old (λ find. IfOk result
         (λ short. short.now ≡ shown_short find parts.now (full_ref_bytes name.entry))) }
+    ensures shown { IfOk result
+        (λ short. IsShownShort parts.now (full_ref_bytes name.entry) short.now) }
     ensures failed { IfErr result (IsRowError (IsUnreadShort F.honest F.means F.faults
         F.Reader.ReadAt store.old parts.now (full_ref_bytes name.entry))
         (full_ref_bytes name.entry)) }
@@ -71,6 +73,8 @@ fn followed_row<'r, F: Files>(
     ensures rows { OfTargets F.honest F.means store.old (λ find. IfOk result (λ row. row_made row
         ≡ followed_row parts.now (full_ref_bytes name.entry) short.now
         (resolved find 5 (full_ref_bytes name.entry)))) }
+    ensures seen { F.honest → IfOk result (λ row. SeesFollowedRow F.means store.old parts.now
+        (full_ref_bytes name.entry) short.now (row_made row)) }
     ensures failed { IfErr result (IsRowError (IsUnread F.Reader.ReadAt F.honest F.means F.faults
         store.old (full_ref_bytes name.entry)) (full_ref_bytes name.entry)) }
     ensures unchanged { LooksUp F.honest F.means store.old store.new }
@@ -97,6 +101,8 @@ fn row_of<'r, F: Files>(
 ) -> Result<Option<Vec<u8>>, RowError<'r>>
     ensures rows { OfTargets F.honest F.means store.old
         (λ find. IfOk result (λ row. row_made row ≡ row_of find parts.now reference.now)) }
+    ensures seen { F.honest → IfOk result
+        (λ row. SeesRow F.means store.old parts.now reference.now (row_made row)) }
     ensures failed { IfErr result (IsRowError (IsUnreadRow F.honest F.means F.faults
         F.Reader.ReadAt store.old parts.now reference.now) (full_bytes reference.now.name)) }
     ensures unchanged { LooksUp F.honest F.means store.old store.new }
@@ -137,6 +143,8 @@ pub fn rows<'r, F: Files>(
 ) -> Result<Vec<Vec<u8>>, RowError<'r>>
     ensures rows { OfTargets F.honest F.means store.old (λ find. IfOk result
         (λ rows. row_texts rows.items ≡ rows_of find parts.now references.now)) }
+    ensures seen { F.honest → IfOk result
+        (λ rows. SeesRows F.means store.old parts.now references.now (row_texts rows.items)) }
     ensures failed { IfErr result (IsUnfollowed F.honest F.means F.faults F.Reader.ReadAt
         store.old parts.now references.now) }
     ensures unchanged { LooksUp F.honest F.means store.old store.new }

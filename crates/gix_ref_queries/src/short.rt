@@ -1,10 +1,10 @@
 //! Short names of references (`git symbolic-ref --short`, `%(refname:short)` of `git for-each-ref`).
-ghost use Rattle.std.specs.Prelude.{◌≡◌, ◌++◌, ◌∷◌, [], IfErr, IfOk, OnOk};
+ghost use Rattle.std.specs.Prelude.{◌≡◌, ◌++◌, ◌∷◌, [], IfErr, IfOk, IfSome, OnOk};
 ghost use Rattle.gix_ref_store.specs.Lookup.{LooksUp};
 ghost use Rattle.gix_ref_queries.specs.Patterns.{texts};
 ghost use Rattle.gix_ref_queries.specs.Resolving.{OfTargets};
 ghost use Rattle.gix_ref_queries.specs.Rows.{row_texts};
-ghost use Rattle.gix_ref_queries.specs.Shortening.{IsAskedAfter, IsAskedAmong, IsAskedBy, IsAskedFor, IsNoShort, decided, full_names, is_clear_among, leads_to_object, lent_bytes, short_after, short_by, short_name};
+ghost use Rattle.gix_ref_queries.specs.Shortening.{IsAskedAfter, IsAskedAmong, IsAskedBy, IsAskedFor, IsNoShort, IsShortBy, IsShortOf, decided, full_names, is_clear_among, leads_to_object, lent_bytes, short_after, short_by, short_name};
 
 use crate::resolve::{End, Followed, follow};
 use gix_ref_files::files::Files;
@@ -149,6 +149,8 @@ fn short_after<'n, F: Files>(
 ) -> Result<Option<&'n [u8]>, ShortError>
     ensures short { OfTargets F.honest F.means store.old (λ find. IfOk result
         (λ short. lent_bytes short ≡ short_after find strict name.now prefix.now)) }
+    ensures rest { IfOk result (λ short. IfSome short
+        (λ rest. name.now ≡ prefix.now ++ rest.now)) }
     ensures failed { IfErr result (IsNoShort F.Reader.ReadAt F.honest F.means F.faults
         (IsAskedAfter strict name.now prefix.now) store.old) }
     ensures unchanged { LooksUp F.honest F.means store.old store.new }
@@ -173,6 +175,7 @@ fn short_by<'n, F: Files>(
 ) -> Result<&'n [u8], ShortError>
     ensures short { OfTargets F.honest F.means store.old (λ find. IfOk result
         (λ short. short.now ≡ short_by find strict name.now (texts prefixes.now))) }
+    ensures rest { IfOk result (λ short. IsShortBy name.now (texts prefixes.now) short.now) }
     ensures failed { IfErr result (IsNoShort F.Reader.ReadAt F.honest F.means F.faults
         (IsAskedBy strict name.now (texts prefixes.now)) store.old) }
     ensures unchanged { LooksUp F.honest F.means store.old store.new }
@@ -202,6 +205,7 @@ pub fn short_name<'n, F: Files>(
 ) -> Result<&'n [u8], ShortError>
     ensures short { OfTargets F.honest F.means store.old
         (λ find. IfOk result (λ short. short.now ≡ short_name find strict name.now)) }
+    ensures rest { IfOk result (λ short. IsShortOf name.now short.now) }
     ensures failed { IfErr result (IsNoShort F.Reader.ReadAt F.honest F.means F.faults
         (IsAskedFor strict name.now) store.old) }
     ensures unchanged { LooksUp F.honest F.means store.old store.new }

@@ -1,4 +1,5 @@
-use Rattle.std.proofs.Common.{Bool, List, ℕ, Option, Some, None, if◌then◌else◌, sym, subst, ◌∙◌, ap}
+use Rattle.std.proofs.Common.{◌≡◌, ◌++◌, Bor, Bool, List, ℕ, Option, Some, None, if◌then◌else◌, sym, subst, ◌∙◌, ap}
+use Rattle.std.specs.Prelude.{IfSome}
 use Rattle.gix_ref_queries.specs.Resolving.{targets_in}
 use Rattle.gix_ref_queries.specs.Rows.{row_texts}
 use Rattle.gix_ref_queries.specs.Shortening.{IsAskedAfter, IsAskedAmong, lent_bytes}
@@ -32,3 +33,13 @@ returns-clause-failed g c =
       rest_is name prefix short c.in-Some.ensures.cases.0 c.in-Some.ensures.cases.1,
       subst (λ (ts : List (List ℕ)). IsAskedAmong strict name ts (targets_in F.means old records) asked) (ap row_texts c.deref.ensures.value ∙ c.in_ok-names.ensures) is,
     )) c.in-Err.ensures.failed
+
+pub returns-in-Ok-clause-rest : goal.returns-in-Ok-clause-rest
+returns-in-Ok-clause-rest g c =
+    let name = c.args.name.now in
+    let prefix = c.args.prefix.now in
+    let is = λ (found : Option (Bor (List ℕ))). IfSome found (λ (rest : Bor (List ℕ)). name ≡ prefix ++ rest.now) in
+    elim c.if-clear.branch [
+      | then-clear w ↦ subst is (sym w.result-is) (rest_is name prefix c.in-Some.short.now c.in-Some.ensures.cases.0 c.in-Some.ensures.cases.1)
+      | else-clear w ↦ subst is (sym w.result-is) tt
+    ]

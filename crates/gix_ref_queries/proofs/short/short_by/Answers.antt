@@ -1,9 +1,9 @@
-use Rattle.std.proofs.Common.{◌+◌, [], List, ℕ, Bor, drop, get_or, inl, sym, subst, ◌∙◌}
+use Rattle.std.proofs.Common.{◌+◌, [], List, ℕ, Bor, drop, get_or, inl, inr, refl, sym, subst, ◌∙◌}
 use Rattle.gix_ref_queries.specs.Patterns.{texts}
 use Rattle.gix_ref_queries.specs.Resolving.{targets_in}
 use Rattle.gix_ref_queries.specs.Shortening.{IsAskedAfter, IsAskedBy}
 use Rattle.gix_ref_queries.proofs.Names.{looks_up, same_finds, same_records}
-use Rattle.gix_ref_queries.proofs.ShortLemmas.{asked_by_later, no_short_from, prefixes_step, short_step, shortens, shortens_not}
+use Rattle.gix_ref_queries.proofs.ShortLemmas.{asked_by_later, no_short_from, prefixes_step, short_by_one, short_step, shortens, shortens_not}
 use Rattle.gix_ref_queries.proofs.short.short_by.Goals as goal
 
 pub returns-in-Ok-Some-clause-short : goal.returns-in-Ok-Some-clause-short
@@ -57,3 +57,13 @@ loop-prefix-preserved g c =
           (rw c.in-Ok-None.field-0-is at (c.in-Ok-None.ensures.short h records (same_records F.honest F.means old mid records looked h are))) later));
       unchanged = looks_up F.honest F.means old mid c.short_after.new.store looked c.short_after.ensures.unchanged;
     }
+
+pub returns-in-Ok-Some-clause-rest : goal.returns-in-Ok-Some-clause-rest
+returns-in-Ok-Some-clause-rest g c =
+    let prefixes = c.args.prefixes.now in
+    let i = c.loop-prefix.prefix-index in
+    let none : Bor (List ℕ) = record { ref_ptr = (0, 0); now = [] } in
+    inr (short_by_one c.args.name.now c.in-Ok-Some.short.now prefixes i none c.loop-prefix-test.true (rw c.in-Ok-Some.field-0-is at c.in-Ok-Some.ensures.rest))
+
+pub returns-clause-rest : goal.returns-clause-rest
+returns-clause-rest g c = inl refl
