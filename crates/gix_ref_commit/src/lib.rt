@@ -6,8 +6,9 @@
 //! - the new text is in the lock of `packed-refs`, synced, before the first write, and no other file has changed:
 //!   `decide::decide_packed` (`DecidesPacked`, `OnlyFillsPacked` in `Decided.antt`)
 //! - the steps, in their order: for each edit the folders of its log, its line and its rename, then the removals of logs, then
-//!   `packed-refs`, then the removals of loose files; each with its syncs, a removal with that of its folder, all others with
-//!   those up to the git folder or the common folder: `plan::plan_commit` (`planned_entries` in `Entries.antt`)
+//!   `packed-refs`, then the removals of loose files; each with its syncs: a removal with that of its folder, a line and a rename
+//!   with those up to the git folder or the common folder; the folders of a log are synced with its line: `plan::plan_commit`
+//!   (`planned_entries` in `Entries.antt`)
 //! - every stop and every loss of power in the run of these steps is one among them; a run that ended says at which step and why:
 //!   `run::run_plan` (`RunsOnly`, `StopsEarly` in `Unfinished.antt`)
 //! - before each step that writes a file either no folder is removed, and a folder at its path holds a file or a folder of the

@@ -54,7 +54,7 @@ fails_at_first {R} {G} honest settings T T' r r' before before' now names error 
     (λ n. CandidateFails honest settings T' r' before' now n error) (λ n. CandidateFails honest settings T r before now n error) names
     (λ n passed h rs are. subst (λ (U : Tree). reading_among (meaning_in settings) (view_of U) rs n ≡ Absent) (same h)
     (passed h rs (subst (λ (U : Tree). AreAsked settings.kind (packed_refs_at settings U) r' rs) (sym (same h)) ((still h).asked rs are))))
-    (λ n. fails_from honest settings T T' r r' same (λ h. (still h).readers) (λ h. (still h).searched) before before' now n error count)
+    (λ n. fails_from honest settings T T' r r' same (λ h. (still h).readers) (λ h. (still h).searched) (λ h. (still h).of_file) before before' now n error count)
 
 pub same_settings : {F : Type 0} (old new : Store F) → stores.IsSameStore old new → settings_of new ≡ settings_of old
 same_settings old new same =
@@ -125,7 +125,7 @@ module _ {F R : Type 0} {G : Ghosts R} (honest : Type 0) (means : F → Meaning)
         (
           of.0,
           among_wider (λ n. IsHit (settings_of first) (view_of T') r' n of.0) (λ n. IsHit (settings_of first) (view_of T) r n of.0) (asked_names asked)
-              (λ n is. hit_from honest (settings_of first) T T' r r' same (λ k. (still k).readers) (λ k. (still k).searched) h n of.0 is) of.1,
+              (λ n is. hit_from honest (settings_of first) T T' r r' same (λ k. (still k).readers) (λ k. (still k).searched) (λ k. (still k).of_file) h n of.0 is) of.1,
           of.2,
         ),
       )

@@ -29,8 +29,8 @@
 //! - over any text: each loose reference of the prefix is given, or a fault is: `list::merge_walked`, `list::list`, clause `owes`
 //!   (`HasLoose` in `WholeListings.antt`), `item::next_item` (`found` of `GivesNext`)
 //! - over any text: each item that a walk did not find was read from the text: the reference of a record that begins a line of it,
-//!   has the prefix, and the name for its own key; or a fault about a line that is no record, with its number: the same
-//!   (`IsTextItem` in `PackedTexts.antt`; `pays` of `GivesNext`)
+//!   has the prefix, and the name for its own key, or the fault in its stead; or a fault about a line that is no record, with its
+//!   number: the same (`IsTextItem` in `PackedTexts.antt`; `pays` of `GivesNext`)
 //! - over any text whose names ascend, whatever its lines are: each name that is due by a line of a record's form is given, or a
 //!   fault is: the same (`IsDue`, `OwesNames` in `OwedNames.antt`)
 //!

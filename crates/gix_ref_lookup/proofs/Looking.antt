@@ -7,7 +7,7 @@ use Rattle.gix_ref_theory.specs.Readings.{Store, Reading, reading_among}
 use Rattle.gix_ref_theory.specs.Readings.Reading.{Is, Absent, Fault}
 use Rattle.gix_ref_theory.specs.Lookups.{Hit, first_hit, hit, is_there}
 use Rattle.gix_ref_packed_text.specs.declared.raw.Reference.{Reference}
-use Rattle.gix_ref_lookup.specs.Lookups.{ReturnsHit, IsCandidate, FailsAt, Among, IsPassed, AreAsked, IsNotRead, CandidateFails, IsFaultOf, IsHit, IsLooseTarget, AreHonest, AreStillAsked, IsSearched, OfSearched, OfKey, meaning_in}
+use Rattle.gix_ref_lookup.specs.Lookups.{ReturnsHit, IsCandidate, FailsAt, Among, IsPassed, AreAsked, IsNotRead, CandidateFails, IsFaultOf, IsHit, IsLooseTarget, AreHonest, AreOfFile, AreStillAsked, IsSearched, OfSearched, OfKey, meaning_in}
 use Rattle.gix_ref_lookup.specs.LooseFiles.{IsUndecodable}
 use Rattle.gix_ref_lookup.specs.StoreLayout.{namespace_text}
 use Rattle.gix_ref_lookup.specs.declared.settings.Settings.{Settings}
@@ -78,7 +78,7 @@ not_read_from honest kind s T T' before before' now name (PackedRef e) same coun
 not_read_from honest kind s T T' before before' now name (PackedOpen e) same count why = absurd why
 
 module _ {R : Type 0} {G : Ghosts R} (honest : Type 0) (settings : Settings) (T T' : Tree) (r r' : Asked R G) (same : honest → T' ≡ T) (readers : honest → AreHonest r → AreHonest r')
-    (searched : honest → (k : Kind) (text : List ℕ) → IsSearched settings.kind (packed_refs_at settings T) r' k text → IsSearched settings.kind (packed_refs_at settings T) r k text) where
+    (searched : honest → (k : Kind) (text : List ℕ) → IsSearched settings.kind (packed_refs_at settings T) r' k text → IsSearched settings.kind (packed_refs_at settings T) r k text) (of_file : honest → AreOfFile r' → AreOfFile r) where
   abbrev s : Store
   s = meaning_in settings
 
@@ -90,13 +90,13 @@ module _ {R : Type 0} {G : Ghosts R} (honest : Type 0) (settings : Settings) (T 
   fails_from before before' now name error count (inl loose) = inl (not_read_from honest settings.kind s T T' before before' now name error same count loose)
   fails_from before before' now name error count (inr packed) = inr (
     λ h. subst (λ (U : Tree). view_of U (s.place name) ≡ None) (same h) (packed.0 h),
-    not_packed_wider (honest × AreHonest r') (honest × AreHonest r) (IsFaultOf G.faults before' now) (IsFaultOf G.faults before now)
+    not_packed_wider (honest × AreHonest r') (honest × AreHonest r) (λ e. AreOfFile r' × IsFaultOf G.faults before' now e) (λ e. AreOfFile r × IsFaultOf G.faults before now e)
         (OfKey s name (λ key. OfSearched settings.kind (packed_refs_at settings T') r' (λ k text. CannotRead k text key)))
         (OfKey s name (λ key. OfSearched settings.kind (packed_refs_at settings T) r (λ k text. CannotRead k text key)))
-        (IsRefusedFile settings.kind (T' s.packed_path)) (IsRefusedFile settings.kind (T s.packed_path)) error
-        (λ h. (h.0, readers h.0 h.1)) (λ e f. subst (λ b. IsFaultOf G.faults b now e) count f)
+        (λ e. AreOfFile r' × IsRefusedFile settings.kind (T' s.packed_path) e) (λ e. AreOfFile r × IsRefusedFile settings.kind (T s.packed_path) e) error
+        (λ h. (h.0, readers h.0 h.1)) (λ h e f. (of_file h.0 f.0, subst (λ b. IsFaultOf G.faults b now e) count f.1))
         (λ h bad. (bad.0, bad.1, searched_wider settings.kind (packed_refs_at settings T') (packed_refs_at settings T) r' r (λ k text. CannotRead k text bad.0) (back h.0) bad.2))
-        (λ h e refused. subst (λ (U : Tree). IsRefusedFile settings.kind (U s.packed_path) e) (same h.0) refused) packed.1,
+        (λ h e refused. (of_file h.0 refused.0, subst (λ (U : Tree). IsRefusedFile settings.kind (U s.packed_path) e) (same h.0) refused.1)) packed.1,
   )
 
   -- and a hit is one of the lookup
@@ -117,6 +117,7 @@ still_asked {R} {G} kind file file' first mid last same before after =
       readers = λ honest. later.readers (before.readers honest);
       searched = λ k text is. before.searched k text (later.searched k text is);
       none = λ none. before.none (later.none none);
+      of_file = λ is. before.of_file (later.of_file is);
     }
 
 -- the result of one candidate alone

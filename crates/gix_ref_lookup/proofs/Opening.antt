@@ -55,18 +55,18 @@ not_opened honest faults kind content before now (Io fault) refused (inr failed)
 -- what a search failed by is what the lookup says
 pub not_searched : {R : Type 0} (honest : Type 0) (faults : R → FaultCounts) (unreadable : Type 0) (kind : Kind) (text name : List ℕ) (found : Result (Option Found) FindError) →
     (honest → IfErr found (FailsInFile kind text name)) → IfErr found (FailsFindByRead faults) → (CannotRead kind text name → unreadable) →
-    IfErr (as_found found) (IsNotPacked honest (HasReadFault faults) unreadable (λ error. ⊥))
+    IfErr (as_found found) (IsNotPacked honest (λ error. Unit {0} × HasReadFault faults error) unreadable (λ error. ⊥))
 not_searched honest faults unreadable kind text name (Ok found) refused failed bad = tt
-not_searched honest faults unreadable kind text name (Err (Read (reading.Io fault))) refused failed bad = λ h. (refused h, failed)
+not_searched honest faults unreadable kind text name (Err (Read (reading.Io fault))) refused failed bad = λ h. (refused h, (tt, failed))
 not_searched honest faults unreadable kind text name (Err (Read reading.Changed)) refused failed bad = λ h. absurd (refused h)
 not_searched honest faults unreadable kind text name (Err (Read reading.Memory)) refused failed bad = tt
 not_searched honest faults unreadable kind text name (Err Parse) refused failed bad = λ h. bad (refused h)
 
 -- where less is known, more may be why
 pub not_packed_wider : (honest honest' : Type 0) (fault fault' : FileError → Type 0) (unreadable unreadable' : Type 0) (refused refused' : OpenError → Type 0) (error : Error) →
-    (honest' → honest) → ((e : FileError) → fault e → fault' e) → (honest' → unreadable → unreadable') → (honest' → (e : OpenError) → refused e → refused' e) →
+    (honest' → honest) → (honest' → (e : FileError) → fault e → fault' e) → (honest' → unreadable → unreadable') → (honest' → (e : OpenError) → refused e → refused' e) →
     IsNotPacked honest fault unreadable refused error → IsNotPacked honest' fault' unreadable' refused' error
-not_packed_wider honest honest' fault fault' unreadable unreadable' refused refused' (PackedOpen (Io e)) h f u r why = λ k. let w = why (h k) in (w.0, f e w.1)
+not_packed_wider honest honest' fault fault' unreadable unreadable' refused refused' (PackedOpen (Io e)) h f u r why = λ k. let w = why (h k) in (w.0, f k e w.1)
 not_packed_wider honest honest' fault fault' unreadable unreadable' refused refused' (PackedOpen HeaderParsing) h f u r why = λ k. r k HeaderParsing (why (h k))
 not_packed_wider honest honest' fault fault' unreadable unreadable' refused refused' (PackedOpen (Iter line)) h f u r why = λ k. r k (Iter line) (why (h k))
 not_packed_wider honest honest' fault fault' unreadable unreadable' refused refused' (PackedOpen open_memory) h f u r why = absurd why

@@ -56,7 +56,7 @@ module _ {F R : Type 0} {G : Ghosts R} (honest : Type 0) (means : F → Meaning)
         let T = (means old.files.now).tree in
         if_ok result (λ found. none_or_some found
         (missing_from old.settings T T old.records.now mid.records.now refl still.none still.searched name)
-        (hit_from honest old.settings T T old.records.now mid.records.now (λ k. refl) (λ k. (leaves.asked k).readers) (λ k. (leaves.asked k).searched) h name))
+        (hit_from honest old.settings T T old.records.now mid.records.now (λ k. refl) (λ k. (leaves.asked k).readers) (λ k. (leaves.asked k).searched) (λ k. (leaves.asked k).of_file) h name))
         (before_step h (λ s T. IfOk result (IsSeen s (view_of T) mid.records.now name)) (seen h (still.readers readers)))
 
     -- and so is why it fails
@@ -65,5 +65,5 @@ module _ {F R : Type 0} {G : Ghosts R} (honest : Type 0) (means : F → Meaning)
         CandidateFails honest old.settings (means old.files.now).tree old.records.now (faults old.files.now) (faults new.files.now) name error
     fails_after new name error count why =
         fails_from honest old.settings (means old.files.now).tree (means mid.files.now).tree old.records.now mid.records.now (λ h. (leaves.reads.leaves h).tree)
-        (λ h. (leaves.asked h).readers) (λ h. (leaves.asked h).searched) (faults old.files.now) (faults mid.files.now) (faults new.files.now) name error count
+        (λ h. (leaves.asked h).readers) (λ h. (leaves.asked h).searched) (λ h. (leaves.asked h).of_file) (faults old.files.now) (faults mid.files.now) (faults new.files.now) name error count
         (subst (λ (s : Settings). CandidateFails honest s (means mid.files.now).tree mid.records.now (faults mid.files.now) (faults new.files.now) name error) leaves.settings why)

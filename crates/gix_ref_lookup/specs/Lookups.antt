@@ -112,6 +112,13 @@ abbrev pub AreHonest : {R : Type 0} {G : Ghosts R} → Records R G → Type 0
 AreHonest {R} {G} (sources.Open packed) = G.honest
 AreHonest other = Unit {0}
 
+-- they are those of `packed-refs`, which is open, or is opened when the first name is asked for
+abbrev pub AreOfFile : {R : Type 0} {G : Ghosts R} → Records R G → Type 0
+AreOfFile sources.None = ⊥
+AreOfFile (sources.Held buffer) = ⊥
+AreOfFile sources.Unopened = Unit {0}
+AreOfFile (sources.Open packed) = Unit {0}
+
 -- What a lookup leaves of the records that it asked: the same ones, in the same text, read by an honest reader if they were before.
 pub record AreStillAsked {R : Type 0} {G : Ghosts R} (kind : Kind) (file : Option (List ℕ))
     (old new : Records R G) : Type 0 where
@@ -121,6 +128,7 @@ pub record AreStillAsked {R : Type 0} {G : Ghosts R} (kind : Kind) (file : Optio
   pub searched : (of_kind : Kind) (text : List ℕ) → IsSearched kind file new of_kind text →
       IsSearched kind file old of_kind text
   pub none : SearchesNone file new → SearchesNone file old
+  pub of_file : AreOfFile new → AreOfFile old
 
 -- what a search leaves of records that are ready
 abbrev pub LeavesReady : {R : Type 0} {G : Ghosts R} → (old new : Records R G) → Type 0
@@ -170,6 +178,7 @@ module _ (settings : Settings) (files : Meaning) where
     pub searched : (kind : Kind) (text : List ℕ) → IsSearched settings.kind None new kind text →
         IsSearchedWith old kind text
     pub none : SearchesNone None new → SearchesNone (packed_refs_in settings files) old
+    pub of_file : AreOfFile new → AreOfFile old
 
 -- the error of a lookup where opening has this one
 abbrev pub of_opening : OpenError → Error
@@ -200,6 +209,10 @@ IsFaultOrMemory other = ⊥
 abbrev pub IsFaultOf : {R : Type 0} → (R → FaultCounts) → (before now : FaultCounts) → FileError →
     Type 0
 IsFaultOf faults before now error = IsMet error before now ⊎ HasReadFault faults error
+
+-- a read of the `packed-refs` that is asked failed with this fault
+abbrev pub IsReadFault : {R : Type 0} {G : Ghosts R} → Records R G → FileError → Type 0
+IsReadFault {R} {G} records error = AreOfFile records × HasReadFault G.faults error
 
 -- Why no record is found: a fault, only where it came; a text that is refused; a text that cannot be read; no memory.
 abbrev pub IsNotPacked : (honest : Type 0) → (fault : FileError → Type 0) → (unreadable : Type 0) →
@@ -269,7 +282,7 @@ SeesKey kind records namespace key found = MatchOption found (FindsNone kind Non
 abbrev pub SearchFails : {R : Type 0} {G : Ghosts R} → Kind → Records R G → (key : List ℕ) →
     Error → Type 0
 SearchFails {R} {G} kind records key =
-    IsNotPacked (AreHonest records) (HasReadFault G.faults)
+    IsNotPacked (AreHonest records) (IsReadFault records)
     (OfSearched kind None records (λ of_kind text. CannotRead of_kind text key)) (λ error. ⊥)
 
 -- a candidate without a loose file as a result, by its record
@@ -310,15 +323,17 @@ IsRecordHit settings view records name r =
     OfKey s name (λ key. IsHitOfKey settings.kind (view s.packed_path) records
     (namespace_text settings.namespace.now) key r)
 
--- why no record of a name is found: a fault; a text that is refused, or that cannot be read where the record is sought; no memory
+-- why no record of a name is found: a fault, or a text that is refused, of the `packed-refs` that is asked; a text that cannot be
+-- read where the record is sought; no memory
 abbrev pub RecordFails : {R : Type 0} {G : Ghosts R} → (honest : Type 0) → Settings → Tree →
     Records R G → (before now : FaultCounts) → List ℕ → Error → Type 0
 RecordFails {R} {G} honest settings T records before now name =
     let s = meaning_in settings in
-    IsNotPacked (honest × AreHonest records) (IsFaultOf G.faults before now)
+    IsNotPacked (honest × AreHonest records)
+    (λ error. AreOfFile records × IsFaultOf G.faults before now error)
     (OfKey s name (λ key. OfSearched settings.kind (view_of T s.packed_path) records
     (λ k text. CannotRead k text key)))
-    (IsRefusedFile settings.kind (T s.packed_path))
+    (λ error. AreOfFile records × IsRefusedFile settings.kind (T s.packed_path) error)
 
 -- why `packed-refs` is not opened: a fault; a text that is refused; no memory
 abbrev pub IsNotOpened : (honest : Type 0) → (Fault : FileError → Type 0) → Settings → Tree → Error →

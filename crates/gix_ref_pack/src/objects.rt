@@ -91,9 +91,12 @@ impl Objects {
         }
     }
 
-    /// The objects of a table, as `git for-each-ref --format='%(objectname) %(*objectname)'` prints it: a line `ID PEELED` for each tag,
-    /// where PEELED is the object at the end of its tags, and a line `ID` or `ID ` for any other object. Ids have 40 or 64 hex digits. Where
-    /// PEELED has a line of its own, that counts; of two lines of one object the later does.
+    /// The objects of a table: a line `ID PEELED` for each tag, where PEELED is the object at the end of its tags, and a line `ID` or `ID `
+    /// for any other object. Ids have 40 or 64 hex digits. Where PEELED has a line of its own, that counts; of two lines of one object the
+    /// later does.
+    ///
+    /// `git show-ref -d` has these ids, that of PEELED on the line of a name that ends in `^{}`. `%(*objectname)` of `git for-each-ref` will
+    /// not do with git 2.39: of a tag of a tag it is the inner tag.
     ///
     /// `Line` with the number of the first line that is none; `Memory`.
     pub fn read(alloc: Global, table: &[u8]) -> Result<Objects, TableError>

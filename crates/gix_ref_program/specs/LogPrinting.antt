@@ -32,10 +32,12 @@ abbrev pub log_text : List (Result LineRef ReverseError) → List ℕ
 log_text items = flat_map log_item_text items
 
 -- the items of a log, newest first, for which 4,096 bytes have room, all where `whole` says so; none where there is no log
-abbrev pub AreLogItems : Option Content → (whole : Bool) → List (Result LineRef ReverseError) → Type 0
+abbrev pub AreLogItems : Option Content → (whole : Bool) → List (Result LineRef ReverseError) →
+    Type 0
 AreLogItems content whole items =
     ((is_file content ≡ false) × (items ≡ []))
-    ⊎ ((is_file content ≡ true) × IsLentRun (whole ≡ true) (items_from 4096 1 (bytes_of content)) items)
+    ⊎ ((is_file content ≡ true)
+    × IsLentRun (whole ≡ true) (items_from 4096 1 (bytes_of content)) items)
 
 -- where an item is a fault of reading, a reader has counted it
 abbrev pub IsCountedFault : {R : Type 0} → (faults : R → FaultCounts) →

@@ -142,7 +142,7 @@ module _ {R : Type 0} (G : Ghosts R) (honest : Type 0) (h : honest) (settings : 
   candidate_fails target is (ReferenceCreation source path) sound (inl unread) = absurd (undecodable target source (unread.1 h) is)
   candidate_fails target is (ReferenceCreation source path) sound (inr unpacked) = absurd unpacked.1
   candidate_fails target is (PackedOpen (Io error)) sound (inl unread) = absurd unread
-  candidate_fails target is (PackedOpen (Io error)) sound (inr unpacked) = (unpacked.1 (h, tt)).1
+  candidate_fails target is (PackedOpen (Io error)) sound (inr unpacked) = (unpacked.1 (h, tt)).1.1
   candidate_fails target is (PackedOpen HeaderParsing) sound fails = absurd sound
   candidate_fails target is (PackedOpen (Iter line)) sound fails = absurd sound
   candidate_fails target is (PackedOpen open_memory) sound fails = absurd sound

@@ -1,5 +1,5 @@
 -- A transaction that is prepared, from what its locks and the edits that carry what was found say of it.
-use Rattle.std.proofs.Common.{◌≡◌, inl, ◌∙◌, ℕ, List, [], Option, ◌++◌, length, take, sym, ap, subst, arith, Result, Ok, Err, IfOk, IfErr, Vec, Global}
+use Rattle.std.proofs.Common.{◌≡◌, inl, ◌∙◌, ℕ, List, [], Option, ◌++◌, length, take, sym, ap, subst, arith, Result, Ok, Err, IfOk, IfErr}
 use Rattle.gix_ref_files.specs.declared.files.FileError.{FileError}
 use Rattle.std.proofs.Math.Seq.{take-append_seam}
 use Rattle.std.proofs.lemmas.List.{length-map}
@@ -21,8 +21,7 @@ use Rattle.gix_ref_transaction.specs.CarriedEdits.{AreCarried}
 use Rattle.gix_ref_transaction.specs.Parents.{parents_in}
 use Rattle.gix_ref_transaction.specs.OwnLocks.{paths_of}
 use Rattle.gix_ref_transaction.specs.declared.prepare.hold.HeldLocks.{HeldLocks}
-use Rattle.gix_ref_transaction.specs.declared.prepare.error.Error.{Error}
-use Rattle.gix_ref_transaction.specs.declared.release.Failure.{Failure}
+use Rattle.gix_ref_transaction.specs.declared.prepare.hold.NotHeld.{NotHeld}
 use Rattle.gix_ref_transaction.specs.PrepareSteps.{puts_in, effects_of, ids_in, place_paths, seen_files, targets_of, updates}
 use Rattle.gix_ref_transaction.specs.declared.edit.Edit.{Edit}
 use Rattle.gix_ref_store.specs.ComposedEdits.{AreAskedAs}
@@ -73,7 +72,7 @@ prepares honest means faults claims meaning mode old new given len packed held s
 
 -- locks that are held of the edits that are asked for are held of those that are given
 module _ {F : Type 0} (honest : Type 0) (means : F → Meaning) (faults : F → FaultCounts) (claims : Type 0) (meaning : ObjectId → Stored) (mode : Mode) (old new : Store F) (given asked : List RefEdit) (composed : AreAskedAs old.precompose_unicode given asked) where
-  pub holds_given : (r : Result HeldLocks (Failure Error × Vec RefEdit Global)) →
+  pub holds_given : (r : Result HeldLocks NotHeld) →
       IfOk r (λ held. SplitsFrom honest means faults old asked (updates held.edits.items)) →
       (honest → IfOk r (λ held. HaveParents honest means faults old asked held.edits.items)) →
       IfOk r (λ held. HoldsSplit honest means faults claims meaning mode old new (updates held.edits.items) held.packed held.edits.items) →
@@ -86,8 +85,8 @@ module _ {F : Type 0} (honest : Type 0) (means : F → Meaning) (faults : F → 
   holds_given (Err failure) splits parents from = tt
 
   -- and a refusal of the one is one of the other
-  pub refuses_given : (read : FileError → Type 0) (r : Result HeldLocks (Failure Error × Vec RefEdit Global)) →
-      IfErr r (λ r. RefusesFrom honest read means faults claims meaning mode old new asked r.0.error (paths_of r.0.locks_left.items)) →
-      IfErr r (λ r. RefusesGiven honest read means faults claims meaning mode old new given r.0.error (paths_of r.0.locks_left.items))
+  pub refuses_given : (read : FileError → Type 0) (r : Result HeldLocks NotHeld) →
+      IfErr r (λ r. RefusesFrom honest read means faults claims meaning mode old new asked r.failure.error (paths_of r.failure.locks_left.items)) →
+      IfErr r (λ r. RefusesGiven honest read means faults claims meaning mode old new given r.failure.error (paths_of r.failure.locks_left.items))
   refuses_given read (Ok held) refused = tt
   refuses_given read (Err failure) refused = record { asked = asked; composed = inl composed; refuses = refused }

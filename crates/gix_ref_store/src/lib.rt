@@ -17,7 +17,7 @@
 //!   loose file of a name; its files, which it hands back: `git_dir`, `common_dir`, `common_dir_resolved`, `packed_refs_path`,
 //!   `reference_path`, `into_files`
 //! - the clauses of a lookup (`gix_ref_lookup`), in the folders and the namespace of the store: `file::Store::try_find`, `find`
-//! - the same over records that the caller keeps: `find_existing_among`
+//! - the same over records that the caller keeps: `find_existing_among`; and of a full name as it is: `find_full`
 //! - the same among loose files alone: `try_find_loose`, `find_loose`
 //! - the same among the records of a buffer of the caller: `try_find_packed`, `find_packed`
 //! - on any `packed-refs`, where nothing is found: no candidate has a loose file, and where one has a key, `packed-refs` is no
@@ -45,14 +45,16 @@
 //! - the same of the pseudo references: `iter_pseudo`, clause `lists` (`ListsPseudo`)
 //! - the listings of a platform are those over the records of a well-formed `packed-refs`; why `packed-refs` is not opened, and,
 //!   of `iter`, that it could be, and that nothing has changed but the count of faults where it could not:
-//!   `file::iter::Platform::all`, `prefixed`, `pseudo`, clauses `lists`, `refused`; `iter`, clauses `opened`, `rests`,
-//!   `no_fault`
+//!   `file::iter::Platform::all`, `prefixed`, clauses `lists`, `refused`; `pseudo`, clauses `made`, `lists`; `iter`, clauses
+//!   `opened`, `rests`, `no_fault`
 //! - whether the store is as `git init` makes it; nothing changes: `is_pristine`, clauses `says`, `unchanged`
 //! - whether a reference has a reflog; its lines, oldest first, or newest first through the buffer, as the items of `forward` and
 //!   `reverse` over the file at the path of its log; `None` where there is none, before the buffer is looked at: `reflog_exists`,
 //!   `reflog_iter`, `reflog_iter_rev`, `log::Platform::all`, `rev`
-//! - why a log is not read; `EmptyBuffer` only where there is a log and no room; a fault is counted: the same, clauses `failed`,
-//!   `count`
+//! - why a log is not read; `EmptyBuffer` only where there is a log and no room; a fault is counted: the same, clause `failed`,
+//!   and of the calls of a store clause `count`
+//! - the lock files of the store (`gix_ref_locks`): `locks`, clauses `lists`, `failed`; their removal: `remove_locks`, clauses
+//!   `removed`, `stopped`, `leaves`, `failed`
 //! - the threshold is kept and returned: `set_packed_buffer_mmap_threshold`
 //! - a refused `prepare` reports the first cause that holds, `Io` only with a fault that was counted; every file is as before
 //!   except for locks that it names, which are locks of its edits or that of `packed-refs`, each named once, and for each of them
@@ -94,13 +96,15 @@
 //!   as edited, each log with its old text and a beginning of the lines that are due, or gone with its deletion, and every other
 //!   file as before or as edited; where loose files are kept, no deletion shows before every update, and an update that shows
 //!   finds each earlier one showing: the same, clause `safe` (`stops` of `EveryMomentIsSafe`), on the trees from before `prepare`
-//! - a commit fails only by a line that is due and refused, for the first cause, edit by edit; by a call of files that failed,
-//!   with a fault that was counted and is no want of memory; by a folder that is at the place of a reference, at its log or at
-//!   `packed-refs` where the run ended: one at a place or a log held more than empty folders before the first write, or holds a
-//!   file where the run ended, unless it was at a place before the first write where `prepare` had seen a file; by a file in the
-//!   path of a log as its line is written; by a line of `packed-refs` that is no record, and never of a well-formed one; or for
-//!   want of memory; in the first and in the last two cases nothing but locks has changed; afterwards no lock is left but those
-//!   that it names: the same, clauses `failed` (`HasEndedEarly`), `safe` (`stops`)
+//! - a commit fails only for one of these: the same, clause `failed` (`HasEndedEarly`)
+//!   - a line that is due is refused, for the first cause, edit by edit; nothing but locks has changed
+//!   - a call of files failed, with a fault that was counted and is no want of memory
+//!   - a folder is at the place of a reference, at its log or at `packed-refs` where the run ended. One at a place or a log held
+//!     more than empty folders before the first write, or holds a file where the run ended; unless it was at a place before the
+//!     first write where `prepare` had seen a file
+//!   - a file is in the path of a log as its line is written
+//!   - a line of `packed-refs` is no record, never of a well-formed one; or there was no memory. Nothing but locks has changed
+//! - afterwards no lock is left but those that it names: the same, clause `safe` (`stops`)
 //! - a commit, whether it fails or not, removes no folder but those at or below the place of an edit that writes its loose file,
 //!   a log whose line is due, or `packed-refs` where its lock is held, and those above a log or a loose file that it is to
 //!   delete, below `logs`, or below `refs` and one component more; the git folder, the common folder and those above them stay:

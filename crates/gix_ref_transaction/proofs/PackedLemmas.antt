@@ -7,7 +7,7 @@ use Rattle.std.proofs.Math.Seq.{take-append_seam}
 use Rattle.gix_ref_theory.specs.Edits.{Mode}
 use Rattle.gix_ref_transaction.specs.Parents.{parents_in}
 use Rattle.gix_ref_transaction.specs.PrepareSteps.{Given, AreSettled, HoldTexts, all_asked, all_given, given, effects_of, effects_on, files_at, ids_in, old_targets, packed_ids, place_paths, seen_files, targets_of, updates}
-use Rattle.gix_ref_transaction.specs.Causes.{NoCause, IsCounted, IsCountedWith, IsPackedRefusal, id_of_record, packed_id}
+use Rattle.gix_ref_transaction.specs.Causes.{NoCause, IsCounted, IsCountedWith, IsIoOrMemory, IsPackedRefusal, id_of_record, packed_id}
 use Rattle.gix_ref_transaction.specs.declared.edit.Edit.{Edit}
 use Rattle.gix_ref_hash.specs.declared.hash.Kind.{Kind}
 use Rattle.gix_ref_hash.specs.declared.hash.ObjectId.{ObjectId}
@@ -17,6 +17,7 @@ use Rattle.gix_ref_files.specs.declared.files.FileError.{FileError}
 use Rattle.gix_ref_files.specs.Files.{IsMet, FaultCounts, NoFewer}
 use Rattle.gix_ref_files.specs.Tree.{Content, Path, Tree}
 use Rattle.gix_ref_packed.proofs.RecordsOfText.{records_computed}
+use Rattle.gix_ref_packed.specs.Buffers.{IsRefusedFile}
 use Rattle.gix_ref_packed.specs.declared.packed.buffer.open.Error.{Error as OpenError}
 use Rattle.gix_ref_packed.specs.declared.packed.buffer.open.Error.TheVariants.{Iter, HeaderParsing, Io as unread, Memory as open_memory}
 use Rattle.gix_ref_target.specs.Layout.{Layout}
@@ -24,7 +25,7 @@ use Rattle.gix_ref_theory.specs.ConcreteStore.{store_of}
 use Rattle.gix_ref_lookup.specs.StoreLayout.{git_options}
 use Rattle.gix_ref_theory.specs.Readings.{Store, reading_by, reading_of_record, reading_of_id, records_of_file}
 use Rattle.gix_ref_theory.specs.Readings.Reading.{Absent}
-use Rattle.gix_ref_lookup.specs.Lookups.{IsNotPacked, ArePackedRecords}
+use Rattle.gix_ref_lookup.specs.Lookups.{IsFaultOrMemory, IsNotPacked, ArePackedRecords}
 use Rattle.gix_ref_lookup.specs.declared.find.error.Error.{Error as LookupError}
 use Rattle.gix_ref_lookup.specs.declared.find.error.Error.TheVariants.{RefnameValidation, ReadFileContents, ReferenceCreation, PackedRef, PackedOpen, Memory}
 use Rattle.gix_ref_transaction.specs.PackedCauses.{as_cause, ids_among}
@@ -84,6 +85,30 @@ searched_refusal honest fault unreadable kind packed Memory h told = tt
 searched_refusal honest fault unreadable kind packed (RefnameValidation error) h told = tt
 searched_refusal honest fault unreadable kind packed (ReadFileContents source path) h told = tt
 searched_refusal honest fault unreadable kind packed (ReferenceCreation source path) h told = tt
+
+-- an opening refuses the file
+pub opened_refusal : (honest : Type 0) (fault : FileError → Type 0) (kind : Kind) (packed : Option Content) (error : LookupError) → honest → IsNotPacked honest fault ⊥ (IsRefusedFile kind packed) error → IsPackedRefusal kind packed (as_cause error)
+opened_refusal honest fault kind packed (PackedOpen (unread error)) h told = (told h).0
+opened_refusal honest fault kind packed (PackedOpen HeaderParsing) h told = told h
+opened_refusal honest fault kind packed (PackedOpen (Iter line)) h told = told h
+opened_refusal honest fault kind packed (PackedOpen open_memory) h told = absurd told
+opened_refusal honest fault kind packed (PackedRef error) h told = tt
+opened_refusal honest fault kind packed Memory h told = tt
+opened_refusal honest fault kind packed (RefnameValidation error) h told = tt
+opened_refusal honest fault kind packed (ReadFileContents source path) h told = tt
+opened_refusal honest fault kind packed (ReferenceCreation source path) h told = tt
+
+-- and a well-formed one only for a fault or want of memory
+pub sound_cause : (error : LookupError) → IsFaultOrMemory error → IsIoOrMemory (as_cause error)
+sound_cause (PackedOpen (unread error)) is = tt
+sound_cause (PackedOpen HeaderParsing) is = absurd is
+sound_cause (PackedOpen (Iter line)) is = absurd is
+sound_cause (PackedOpen open_memory) is = absurd is
+sound_cause (PackedRef error) is = absurd is
+sound_cause Memory is = tt
+sound_cause (RefnameValidation error) is = absurd is
+sound_cause (ReadFileContents source path) is = absurd is
+sound_cause (ReferenceCreation source path) is = absurd is
 
 -- a name that reads nothing by records has no id
 pub no_id : (s : Store) (key : Option (List ℕ)) (rs : List Record) → reading_by s key None rs ≡ Absent → packed_id key rs ≡ None

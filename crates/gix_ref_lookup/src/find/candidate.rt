@@ -69,7 +69,8 @@ pub fn read_at<F: Files>(
 
 /// Takes the namespace off a name.
 fn strip_name(name: &mut FullName, namespace: &Option<Namespace>)
-    ensures { full_bytes name.new ≡ stripped (namespace_text namespace.now) (full_bytes name.old) }
+    ensures { full_bytes name.new
+        ≡ stripped (namespace_text namespace.now) (full_bytes name.old) }
 {
     if let Some(namespace) = namespace {
         name.strip_namespace(namespace);
@@ -181,7 +182,8 @@ impl<F: Files> Lookup<'_, '_, '_, F> {
     /// be read, `ReferenceCreation` where it holds no target, `PackedOpen` where `packed-refs` cannot be opened or read,
     /// `PackedRef` where a malformed line was met and nothing was found or the record cannot be read, and `Memory`.
     pub fn find_candidate(&mut self, name: FullNameRef<'_>) -> Result<Option<Reference>, Error>
-        ensures found { FindsCandidate F.honest F.means self.old (full_ref_bytes name.entry) result }
+        ensures found { FindsCandidate F.honest F.means self.old (full_ref_bytes name.entry)
+            result }
         ensures seen { SeesCandidate F.honest F.means self.old (full_ref_bytes name.entry) result }
         ensures failed { FailsAtCandidate F.honest F.means F.faults self.old self.new
             (full_ref_bytes name.entry) result }

@@ -1,12 +1,8 @@
 //! The records that a lookup asks for a name: those of `packed-refs`, which is opened when the first name is asked for.
-ghost use Rattle.std.specs.Prelude.{◌≡◌, List, Option, None, IfOk, IfErr, MatchResult};
+ghost use Rattle.std.specs.Prelude.{◌≡◌, List, Option, None, IfOk, MatchResult};
 ghost use Rattle.gix_ref_hash.specs.declared.hash.Kind.{Kind};
-ghost use Rattle.gix_ref_name.specs.Names.{full_ref_bytes};
 ghost use Rattle.gix_ref_target.specs.PackedRecords.{Record};
 ghost use Rattle.gix_ref_files.specs.ReadOnly.{OnlyReads};
-ghost use Rattle.gix_ref_packed.specs.Buffers.{buffer_text, buffer_kind};
-ghost use Rattle.gix_ref_packed.specs.FileSearches.{FindsInFile};
-ghost use Rattle.gix_ref_packed.specs.OpenFiles.{HasReadFault};
 ghost use Rattle.gix_ref_lookup.specs.Lookups.{AreAsked, ArePackedRecordsWith, IsFaultOf, IsFaultOrMemory, IsNotOpened, IsReady, OpensAsked, as_found, of_opening, of_search};
 
 use crate::find::Error;
@@ -16,8 +12,8 @@ use gix_ref_name::name::FullNameRef;
 use gix_ref_packed::packed;
 use gix_ref_packed::packed::buffer::open;
 use gix_ref_packed::packed::file::PackedFile;
-use gix_ref_packed::packed::find::ParseError;
 use gix_ref_packed::packed::sorted_file::{FindError, ReadError};
+use gix_ref_packed::packed::unsorted::find_in_order;
 use gix_ref_packed::packed::{Buffer, Found};
 use std::alloc::Global;
 use std::io::ErrorKind;
@@ -69,22 +65,6 @@ fn said(found: Result<Option<Found>, FindError>) -> Result<Option<Found>, Error>
     }
 }
 
-/// The ids of the record of a key in a buffer.
-fn find_held(buffer: &Buffer, key: FullNameRef<'_>) -> Result<Option<Found>, FindError>
-    ensures parse { IfErr result (λ error. error ≡ FindError.Parse) }
-    ensures finds { FindsInFile (buffer_kind buffer.now) (buffer_text buffer.now)
-        (full_ref_bytes key.entry) result }
-{
-    match buffer.try_find_key(key) {
-        Ok(Some(record)) => Ok(Some(Found {
-            target: record.target(),
-            object: record.peeled(),
-        })),
-        Ok(None) => Ok(None),
-        Err(ParseError) => Err(FindError::Parse),
-    }
-}
-
 /// Opens `packed-refs`.
 fn open_records<'b, F: Files>(
     alloc: Global,
@@ -117,8 +97,7 @@ impl<R: ReadAt + Drop> Records<'_, R> {
     ghost use Rattle.gix_ref_hash.specs.declared.hash.Kind.{Kind};
     ghost use Rattle.gix_ref_packed_text.specs.Positions.{CannotRead};
     ghost use Rattle.gix_ref_packed_text.specs.Windows.{AreFound, HitsRecord};
-    ghost use Rattle.gix_ref_packed.specs.OpenFiles.{HasReadFault};
-    ghost use Rattle.gix_ref_lookup.specs.Lookups.{AreAsked, AreAskedWith, AreHonest, AreStillAsked, FindsNone, IsFaultOf, IsFaultOrMemory, IsNotOpened, IsNotPacked, IsReady, OfSearched, OpensAsked};
+    ghost use Rattle.gix_ref_lookup.specs.Lookups.{AreAsked, AreAskedWith, AreHonest, AreOfFile, AreStillAsked, FindsNone, IsFaultOf, IsFaultOrMemory, IsNotOpened, IsNotPacked, IsReadFault, IsReady, OfSearched, OpensAsked};
 
     /// Opens `packed-refs`, if it is asked for the first time. `PackedOpen` where it cannot be opened, and `Memory`.
     pub fn open<F: Files<Reader = R>>(
@@ -127,7 +106,8 @@ impl<R: ReadAt + Drop> Records<'_, R> {
         files: &mut F,
         settings: Settings<'_>,
     ) -> Result<(), Error>
-        ensures ready { MatchResult result (λ _. IsReady self.new) (λ _. self.new ≡ self.old) }
+        ensures ready { MatchResult result (λ _. IsReady self.new)
+            (λ _. (self.new ≡ self.old) × AreOfFile self.old) }
         ensures asked { F.honest → (records : List Record) → AreAskedWith settings.entry
             (F.means files.old) self.old records → MatchResult result
             (λ _. AreAsked settings.entry.kind None self.new records) IsFaultOrMemory }
@@ -163,14 +143,14 @@ impl<R: ReadAt + Drop> Records<'_, R> {
             (λ f. OfSearched kind None self.old
             (λ k text. HitsRecord k text (full_ref_bytes key.entry) f))) }
         ensures failed { (kind : Kind) → IfErr result
-            (IsNotPacked (AreHonest self.old) (HasReadFault R.faults) (OfSearched kind None self.old
+            (IsNotPacked (AreHonest self.old) (IsReadFault self.old) (OfSearched kind None self.old
             (λ k text. CannotRead k text (full_ref_bytes key.entry))) (λ error. ⊥)) }
         ensures still { (kind : Kind) → AreStillAsked kind None self.old self.new }
         ensures ready { IsReady self.new }
     {
         match self {
             Records::None | Records::Unopened => Ok(None),
-            Records::Held(buffer) => said(find_held(buffer, key)),
+            Records::Held(buffer) => said(find_in_order(buffer, key)),
             Records::Open(file) => said(file.find(key)),
         }
     }

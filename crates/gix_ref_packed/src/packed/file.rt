@@ -151,9 +151,9 @@ impl<R: ReadAt + Drop> PackedFile<R> {
     /// ```
     ///
     /// Of a file whose header says `sorted` only the first 1 KB is read, and more where the header's line is longer; any
-    /// other file is read to its end, in parts of 64 KB, to learn whether its names rise. `Io` where the file cannot be read, `HeaderParsing` where
-    /// it begins with `#` and has no header, `Iter` at the first line that is no record where the header does not say
-    /// `sorted`, and `Memory` where there was no memory for what is read.
+    /// other file is read to its end, in parts of 64 KB, to learn whether its names rise. `Io` where the file cannot be read,
+    /// `HeaderParsing` where it begins with `#` and has no header, `Iter` at the first line that is no record where the
+    /// header does not say `sorted`, and `Memory` where there was no memory for what is read.
     pub fn open<F: Files<Reader = R>>(
         alloc: Global,
         files: &mut F,
@@ -183,12 +183,12 @@ impl<R: ReadAt + Drop> PackedFile<R> {
         }
     }
 
-    /// The ids of the record of a full name; `None` where there is no such record. By halving: a name among a
-    /// million records costs some seventeen reads of 1 KB. In records that are not in the order of their names, one after the
-    /// other in parts of 64 KB, which costs as much as a fifteenth of sorting them; the seventeenth search reads the whole and
-    /// sorts it, so that many searches cost twice the sorting at most. `Read` where the file cannot be read, or there was no memory for what is read; `Parse`
-    /// where a line is malformed and nothing was found, or the record that was found cannot be read. As
-    /// `Buffer::try_find_key`, without the text in memory.
+    /// The ids of the record of a full name; `None` where there is no such record. By halving: a name among a million
+    /// records costs some seventeen reads of 1 KB. In records that are not in the order of their names, one after the other in
+    /// parts of 64 KB, which costs as much as a fifteenth of sorting them; the seventeenth search reads the whole and sorts
+    /// it, so that many searches cost twice the sorting at most. `Read` where the file cannot be read, or there was no memory
+    /// for what is read; `Parse` where a line is malformed and nothing was found, or the record that was found cannot be
+    /// read. As `Buffer::try_find_key`, without the text in memory.
     ///
     /// ```text
     /// if let Some(found) = packed.find(FullNameRef::try_from("refs/tags/v1.0")?)? {

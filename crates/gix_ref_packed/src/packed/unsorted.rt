@@ -106,8 +106,10 @@ fn not_sorted(error: open::Error) -> ReadError
     }
 }
 
-/// The ids of the record of a full name in a buffer.
-fn find_in_order(records: &Buffer, name: FullNameRef<'_>) -> Result<Option<Found>, FindError>
+/// The ids of the record of a full name in a buffer; `None` where there is no such record. `Parse` where a malformed line was met
+/// and nothing was found, or the record that was found cannot be read. As `Buffer::try_find_key`, for a caller that keeps the
+/// ids and not the buffer.
+pub fn find_in_order(records: &Buffer, name: FullNameRef<'_>) -> Result<Option<Found>, FindError>
     ensures finds { FindsInFile (buffer_kind records.now) (buffer_text records.now)
         (full_ref_bytes name.entry) result }
     ensures parse { IfErr result (λ error. error ≡ FindError.Parse) }
@@ -144,11 +146,11 @@ pub struct Unsorted<R: ReadAt + Drop> {
 impl<R: ReadAt + Drop> Unsorted<R> {
     ghost use Rattle.std.specs.Prelude.{◌≡◌, IfOk, IfErr, true, drop};
     ghost use Rattle.gix_ref_name.specs.Names.{full_ref_bytes};
-    ghost use Rattle.gix_ref_packed.specs.Buffers.{buffer_text, buffer_kind, buffer_line};
+    ghost use Rattle.gix_ref_packed.specs.Buffers.{buffer_text};
     ghost use Rattle.gix_ref_packed.specs.FileSearches.{FindsInFile, IsNoChange, count_found, count_part};
     ghost use Rattle.gix_ref_packed.specs.FilePrefixes.{FailsReadBy};
     ghost use Rattle.gix_ref_packed.specs.InOrder.{are_records};
-    ghost use Rattle.gix_ref_packed.specs.Unsorted.{IsSameUnsorted, unsorted_kind, unsorted_line, unsorted_text};
+    ghost use Rattle.gix_ref_packed.specs.Unsorted.{IsNumberedLike, IsSameUnsorted, unsorted_kind, unsorted_text};
 
     /// The records of a file from that place on, with memory for what is read.
     pub(crate) fn new(
@@ -180,8 +182,7 @@ impl<R: ReadAt + Drop> Unsorted<R> {
         ensures same { IsSameUnsorted self.old self.new }
         ensures count { R.faults self.new.reader ≡ count_part result (R.faults self.old.reader) }
         ensures text { R.honest → IfOk result (λ b. buffer_text b ≡ unsorted_text self.old) }
-        ensures kind { IfOk result (λ b. buffer_kind b ≡ unsorted_kind self.old) }
-        ensures line { IfOk result (λ b. buffer_line b ≡ unsorted_line self.old) }
+        ensures numbered { IfOk result (IsNumberedLike self.old) }
         ensures stays { R.honest → IfErr result IsNoChange }
     {
         let alloc = *self.part.allocator();
@@ -247,8 +248,7 @@ impl<R: ReadAt + Drop> Unsorted<R> {
     /// The records in the order of their names.
     pub(crate) fn into_sorted(mut self) -> Result<Buffer, ReadError>
         ensures text { R.honest → IfOk result (λ b. buffer_text b ≡ unsorted_text self) }
-        ensures kind { IfOk result (λ b. buffer_kind b ≡ unsorted_kind self) }
-        ensures line { IfOk result (λ b. buffer_line b ≡ unsorted_line self) }
+        ensures numbered { IfOk result (IsNumberedLike self) }
         ensures stays { R.honest → IfErr result IsNoChange }
         ensures failed { IfErr result (FailsReadBy R.faults) }
     {

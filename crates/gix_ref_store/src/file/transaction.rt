@@ -23,7 +23,7 @@ use gix_ref_log::actor::SignatureRef;
 use gix_ref_object::object::{Find, Never};
 use gix_ref_transaction::edit::Edit;
 use gix_ref_transaction::prepare::carry::record_old_values;
-use gix_ref_transaction::prepare::hold::HeldLocks;
+use gix_ref_transaction::prepare::hold::{HeldLocks, NotHeld};
 use gix_ref_transaction::release::{Failure, Remains, release_all};
 use std::alloc::{AllocError, Global};
 use std::fmt;
@@ -164,7 +164,8 @@ impl<'s, F: Files, T: Find> Transaction<'s, F, PackedRefs<T>> {
     {
         let Transaction { store, packed_refs } = self;
         match store.lock_or_hand_back(alloc, &packed_refs, edits) {
-            Err((failure, edits)) => {
+            Err(refused) => {
+                let NotHeld { failure, edits } = refused;
                 let Failure { error, locks_left } = failure;
                 Err(Refused {
                     error,

@@ -51,6 +51,13 @@ pub struct HeldLocks {
     pub remains: Remains,
 }
 
+/// Why locks are not held. The edits are handed back.
+#[derive(Drop)]
+pub struct NotHeld {
+    pub failure: Failure<Error>,
+    pub edits: Vec<RefEdit>,
+}
+
 /// The files of the locks of edits. Nothing is done on disk.
 fn locks_at(
     alloc: Global,
@@ -130,7 +137,7 @@ fn lock_all_or_none<F: Files>(
     packing: Packing,
     mut edits: Vec<Edit>,
     remains: Remains,
-) -> Result<HeldEdits, (Failure<Error>, Vec<RefEdit>)>
+) -> Result<HeldEdits, NotHeld>
     requires ready { AreReady (setting_of settings.now) settings.now.kind edits.items }
     requires room { HasRoom edits remains }
     ensures held { IfOk result (λ held. HoldAllByIds F.honest settings.now (mode_of_packing packing)
@@ -140,11 +147,13 @@ fn lock_all_or_none<F: Files>(
     ensures wholes { F.honest → (q : Path) (text : List ℕ) → IsWholeAt (disk_of (F.means files.old))
         q text → OnOk result (IsWholeAt (disk_of (F.means files.new)) q text) }
     ensures refused { IfErr result (λ r. IsTakingFault F.honest F.means F.faults
-        (setting_of settings.now) settings.now.kind edits.items files.old files.new r.0.error) }
+        (setting_of settings.now) settings.now.kind edits.items files.old files.new
+        r.failure.error) }
     ensures removed { IfErr result (λ r. RemovesAgain F.honest F.means F.faults settings.now
-        edits.items r.0.locks_left files.old files.new) }
-    ensures room { IfErr result (λ r. vec_len r.0.locks_left < vec_capacity r.0.locks_left) }
-    ensures edits { IfErr result (λ r. r.1.items ≡ updates edits.items) }
+        edits.items r.failure.locks_left files.old files.new) }
+    ensures room { IfErr result
+        (λ r. vec_len r.failure.locks_left < vec_capacity r.failure.locks_left) }
+    ensures edits { IfErr result (λ r. r.edits.items ≡ updates edits.items) }
     ensures takes { OnlyTakes F.honest F.means F.faults (edit_locks settings.now edits.items)
         files.old files.new }
 {
@@ -157,7 +166,10 @@ fn lock_all_or_none<F: Files>(
                 error,
                 locks_left: remains.left,
             };
-            Err((failure, remains.edits))
+            Err(NotHeld {
+                failure,
+                edits: remains.edits,
+            })
         }
     }
 }
@@ -202,7 +214,7 @@ fn find_and_lock<F: Files, T: Find>(
     known_missing: bool,
     mut edits: Vec<Edit>,
     remains: Remains,
-) -> Result<HeldEdits, (Failure<Error>, Vec<RefEdit>)>
+) -> Result<HeldEdits, NotHeld>
     requires absent { F.honest → known_missing ≡ true →
         packed_refs_in settings.now (F.means files.old) ≡ None }
     requires ready { AreReady (setting_of settings.now) settings.now.kind edits.items }
@@ -221,11 +233,12 @@ fn find_and_lock<F: Files, T: Find>(
     ensures refused { IfErr result (λ r. NoneIsHeld F.honest F.means F.faults
         (HasReadFault F.Reader.faults) settings.now edits.items
         (CausesNoHold T.claims T.meaning settings.now packed_refs.now) files.old files.new
-        r.0.error) }
+        r.failure.error) }
     ensures removed { IfErr result (λ r. RemovesAgain F.honest F.means F.faults settings.now
-        edits.items r.0.locks_left files.old files.new) }
-    ensures room { IfErr result (λ r. vec_len r.0.locks_left < vec_capacity r.0.locks_left) }
-    ensures edits { IfErr result (λ r. r.1.items ≡ updates edits.items) }
+        edits.items r.failure.locks_left files.old files.new) }
+    ensures room { IfErr result
+        (λ r. vec_len r.failure.locks_left < vec_capacity r.failure.locks_left) }
+    ensures edits { IfErr result (λ r. r.edits.items ≡ updates edits.items) }
     ensures takes { OnlyTakes F.honest F.means F.faults (edit_locks settings.now edits.items)
         files.old files.new }
 {
@@ -250,7 +263,10 @@ fn find_and_lock<F: Files, T: Find>(
                 error,
                 locks_left: remains.left,
             };
-            Err((failure, give_back(edits, remains.edits)))
+            Err(NotHeld {
+                failure,
+                edits: give_back(edits, remains.edits),
+            })
         }
     }
 }
@@ -264,7 +280,7 @@ pub fn lock_edits<F: Files, T: Find>(
     packed_refs: &PackedRefs<T>,
     edits: Vec<Edit>,
     remains: Remains,
-) -> Result<HeldLocks, (Failure<Error>, Vec<RefEdit>)>
+) -> Result<HeldLocks, NotHeld>
     requires ready { AreReady (setting_of settings.now) settings.now.kind edits.items }
     requires room { HasRoom edits remains }
     ensures held { IfOk result (λ held. HoldAllDue F.honest settings.now (mode_in packed_refs.now)
@@ -282,10 +298,11 @@ pub fn lock_edits<F: Files, T: Find>(
     ensures refused { IfErr result (λ r. NoneIsHeld F.honest F.means F.faults
         (HasReadFault F.Reader.faults) settings.now edits.items
         (CausesNoLock T.claims T.meaning settings.now packed_refs.now) files.old files.new
-        r.0.error) }
+        r.failure.error) }
     ensures removed { IfErr result (λ r. RemovesDueAgain F.honest F.means F.faults
-        settings.now (mode_in packed_refs.now) edits.items r.0.locks_left files.old files.new) }
-    ensures edits { IfErr result (λ r. r.1.items ≡ updates edits.items) }
+        settings.now (mode_in packed_refs.now) edits.items r.failure.locks_left
+        files.old files.new) }
+    ensures edits { IfErr result (λ r. r.edits.items ≡ updates edits.items) }
     ensures takes { OnlyTakes F.honest F.means F.faults
         (due_locks settings.now (mode_in packed_refs.now) (F.means files.old).tree edits.items)
         files.old files.new }
@@ -297,7 +314,10 @@ pub fn lock_edits<F: Files, T: Find>(
                 error,
                 locks_left: remains.left,
             };
-            return Err((failure, give_back(edits, remains.edits)));
+            return Err(NotHeld {
+                failure,
+                edits: give_back(edits, remains.edits),
+            });
         }
     };
     let known_missing = known_missing(settings, &edits, &packed);
@@ -318,9 +338,9 @@ pub fn lock_edits<F: Files, T: Find>(
                 remains,
             })
         }
-        Err((mut failure, edits)) => {
-            release_packed(files, packed, &mut failure.locks_left);
-            Err((failure, edits))
+        Err(mut refused) => {
+            release_packed(files, packed, &mut refused.failure.locks_left);
+            Err(refused)
         }
     }
 }

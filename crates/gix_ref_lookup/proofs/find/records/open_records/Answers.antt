@@ -24,6 +24,7 @@ returns-in-Ok-None-clause-opened g c h =
     record {
       readers = λ honest. tt;
       searched = λ kind text nowhere. absurd nowhere;
+      of_file = λ is. tt;
       none = λ none. no_file (tree (meaning_in c.args.settings).packed_path) (subst (λ (p : Path). is_file (tree p) ≡ false) at (rw c.in-Ok-None.field-0-is at (c.in-Ok-None.ensures.opened h)));
     }
 
@@ -39,6 +40,7 @@ returns-in-Ok-Some-clause-opened g c h =
       readers = λ honest. o.0;
       searched = opened_text kind (tree (meaning_in c.args.settings).packed_path) c.in-Ok-Some.file a_file opened;
       none = λ nowhere. absurd nowhere;
+      of_file = λ is. tt;
     }
 
 pub returns-clause-refused : goal.returns-clause-refused

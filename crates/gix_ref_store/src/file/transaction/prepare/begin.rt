@@ -24,20 +24,22 @@ use gix_ref_transaction::edit::Edit;
 use gix_ref_transaction::packing::PackedRefs;
 use gix_ref_transaction::prepare::Error;
 use gix_ref_transaction::prepare::check::{check_edits, check_names};
-use gix_ref_transaction::prepare::hold::{HeldLocks, edits_at, lock_edits};
+use gix_ref_transaction::prepare::hold::{HeldLocks, NotHeld, edits_at, lock_edits};
 use gix_ref_transaction::prepare::split::{SplitEdits, none_follow, split_edits};
 use gix_ref_transaction::release::{Failure, Remains};
 use std::alloc::Global;
 
 /// A refusal before any lock was tried.
-fn refused_before_locks(alloc: Global, error: Error) -> Failure<Error>
-    ensures error { result.error ≡ error }
-    ensures none { result.locks_left.items ≡ [] }
+fn refused_before_locks(alloc: Global, error: Error, edits: Vec<RefEdit>) -> NotHeld
+    ensures error { result.failure.error ≡ error }
+    ensures none { result.failure.locks_left.items ≡ [] }
+    ensures edits { result.edits ≡ edits }
 {
-    Failure {
+    let failure = Failure {
         error,
         locks_left: Vec::new(alloc),
-    }
+    };
+    NotHeld { failure, edits }
 }
 
 /// The edits of a split list with their parents and the paths of their locks, and room for what remains of them. The error says that
@@ -71,13 +73,13 @@ impl<F: Files> Store<F> {
         alloc: Global,
         packed_refs: &PackedRefs<T>,
         split: SplitEdits,
-    ) -> Result<HeldLocks, (Failure<Error>, Vec<RefEdit>)>
+    ) -> Result<HeldLocks, NotHeld>
         requires valid { AllValid (meaning_of self.old) (kind_of self.old) [] split.edits.items }
         requires len { vec_len split.parents ≡ vec_len split.edits }
         ensures refused { IfErr result
             (λ r. SplitFails F.honest F.means F.faults T.claims T.meaning packed_refs.now
-            (HasReadFault F.Reader.faults) self.old self.new split.edits.items r.0) }
-        ensures edits { IfErr result (λ r. r.1.items ≡ split.edits.items) }
+            (HasReadFault F.Reader.faults) self.old self.new split.edits.items r.failure) }
+        ensures edits { IfErr result (λ r. r.edits.items ≡ split.edits.items) }
         ensures asked { IfOk result (λ held. updates held.edits.items ≡ split.edits.items) }
         ensures parents { IfOk result (λ held. parents_in held.edits.items ≡ split.parents.items) }
         ensures held { IfOk result (λ held. HoldsSplitBy F.honest F.means F.faults
@@ -89,7 +91,7 @@ impl<F: Files> Store<F> {
     {
         let settings = settings!(self);
         if let Err(error) = check_names(alloc, &split.edits) {
-            return Err((refused_before_locks(alloc, error), split.edits));
+            return Err(refused_before_locks(alloc, error, split.edits));
         }
         match begun(alloc, &settings, split) {
             Ok((edits, remains)) => {
@@ -102,7 +104,7 @@ impl<F: Files> Store<F> {
                     remains,
                 )
             }
-            Err(edits) => Err((refused_before_locks(alloc, Error::Memory), edits)),
+            Err(edits) => Err(refused_before_locks(alloc, Error::Memory, edits)),
         }
     }
 
@@ -143,11 +145,11 @@ impl<F: Files> Store<F> {
         alloc: Global,
         packed_refs: &PackedRefs<T>,
         edits: Vec<RefEdit>,
-    ) -> Result<HeldLocks, (Failure<Error>, Vec<RefEdit>)>
+    ) -> Result<HeldLocks, NotHeld>
         ensures refused { IfErr result
             (λ r. CheckedFail F.honest F.means F.faults T.claims T.meaning packed_refs.now
-            (HasReadFault F.Reader.faults) self.old self.new edits.items r.0) }
-        ensures direct { AreDirect edits.items → IfErr result (λ r. r.1.items ≡ edits.items) }
+            (HasReadFault F.Reader.faults) self.old self.new edits.items r.failure) }
+        ensures direct { AreDirect edits.items → IfErr result (λ r. r.edits.items ≡ edits.items) }
         ensures splits { IfOk result (λ held.
             SplitsFrom F.honest F.means F.faults self.old edits.items (updates held.edits.items)) }
         ensures parents { F.honest →
@@ -160,7 +162,7 @@ impl<F: Files> Store<F> {
     {
         match self.split(alloc, edits) {
             Ok(split) => self.lock_split(alloc, packed_refs, split),
-            Err((error, edits)) => Err((refused_before_locks(alloc, error), edits)),
+            Err((error, edits)) => Err(refused_before_locks(alloc, error, edits)),
         }
     }
 
@@ -171,12 +173,12 @@ impl<F: Files> Store<F> {
         alloc: Global,
         packed_refs: &PackedRefs<T>,
         edits: Vec<RefEdit>,
-    ) -> Result<HeldLocks, (Failure<Error>, Vec<RefEdit>)>
+    ) -> Result<HeldLocks, NotHeld>
         ensures refused { IfErr result
             (λ r. GivenFail F.honest F.means F.faults T.claims T.meaning packed_refs.now
-            (HasReadFault F.Reader.faults) self.old self.new edits.items r.0) }
+            (HasReadFault F.Reader.faults) self.old self.new edits.items r.failure) }
         ensures direct { self.old.precompose_unicode ≡ false → AreDirect edits.items →
-            IfErr result (λ r. r.1.items ≡ edits.items) }
+            IfErr result (λ r. r.edits.items ≡ edits.items) }
         ensures held { IfOk result (λ held. HoldsGivenBy F.honest F.means F.faults
             T.claims T.meaning packed_refs.now self.old self.new edits.items held.packed
             held.edits.items) }
@@ -184,7 +186,7 @@ impl<F: Files> Store<F> {
     {
         match compose_names(alloc, self.precompose_unicode, edits) {
             Ok(asked) => self.check_and_lock(alloc, packed_refs, asked),
-            Err(_) => Err((refused_before_locks(alloc, Error::Memory), Vec::new(alloc))),
+            Err(_) => Err(refused_before_locks(alloc, Error::Memory, Vec::new(alloc))),
         }
     }
 
@@ -195,11 +197,11 @@ impl<F: Files> Store<F> {
         alloc: Global,
         packed_refs: &PackedRefs<T>,
         edits: Vec<RefEdit>,
-    ) -> Result<HeldLocks, (Failure<Error>, Vec<RefEdit>)>
+    ) -> Result<HeldLocks, NotHeld>
         ensures refused { IfErr result
             (λ r. GivenFail F.honest F.means F.faults T.claims T.meaning packed_refs.now
-            (HasReadFault F.Reader.faults) self.old self.new edits.items r.0) }
-        ensures edits { IfErr result (λ r. AreSameEdits edits.items r.1.items) }
+            (HasReadFault F.Reader.faults) self.old self.new edits.items r.failure) }
+        ensures edits { IfErr result (λ r. AreSameEdits edits.items r.edits.items) }
         ensures held { IfOk result (λ held. HoldsGivenBy F.honest F.means F.faults
             T.claims T.meaning packed_refs.now self.old self.new edits.items held.packed
             held.edits.items) }
@@ -211,9 +213,12 @@ impl<F: Files> Store<F> {
         match edits.clone() {
             Ok(copy) => match self.compose_and_lock(alloc, packed_refs, edits) {
                 Ok(held) => Ok(held),
-                Err((failure, _)) => Err((failure, copy)),
+                Err(mut refused) => {
+                    refused.edits = copy;
+                    Err(refused)
+                }
             },
-            Err(_) => Err((refused_before_locks(alloc, Error::Memory), edits)),
+            Err(_) => Err(refused_before_locks(alloc, Error::Memory, edits)),
         }
     }
 }

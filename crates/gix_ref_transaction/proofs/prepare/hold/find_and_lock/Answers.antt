@@ -13,8 +13,7 @@ use Rattle.gix_ref_transaction.specs.Peels.{ArePut, CanPeelAll, IsPeelCause}
 use Rattle.gix_ref_transaction.specs.PrepareSteps.{setting_of, all_asked, all_given, ids_in, packed_ids, places_of, updates, AreLockable, AreSettled, AreWholeLocks}
 use Rattle.gix_ref_transaction.specs.declared.edit.Edit.{Edit}
 use Rattle.gix_ref_transaction.specs.declared.prepare.hold.HeldEdits.{HeldEdits}
-use Rattle.gix_ref_transaction.specs.declared.prepare.error.Error.{Error}
-use Rattle.gix_ref_transaction.specs.declared.release.Failure.{Failure}
+use Rattle.gix_ref_transaction.specs.declared.prepare.hold.NotHeld.{NotHeld}
 use Rattle.gix_ref_transaction.proofs.PackedLemmas.{asked_ids, asked_over, counted_later, if_err, if_ok, not_packed, places_alike, settled_alike, updates_alike}
 use Rattle.gix_ref_transaction.proofs.Adds.{clash}
 use Rattle.gix_ref_transaction.proofs.Faults.{risen_by_before, risen_by_none_left}
@@ -101,15 +100,15 @@ returns-in-Ok-clause-refused g c =
     let a = F.faults c.args.files.now in
     let b = F.faults c.find_and_peel.new.files in
     let d = F.faults c.lock_all_or_none.new.files in
-    if_err c.lock_all_or_none.result (λ (r : Failure Error × Vec RefEdit Global) (why : IsTakingFault F.honest F.means F.faults s kind now c.find_and_peel.new.files c.lock_all_or_none.new.files r.0.error). record {
+    if_err c.lock_all_or_none.result (λ (r : NotHeld) (why : IsTakingFault F.honest F.means F.faults s kind now c.find_and_peel.new.files c.lock_all_or_none.new.files r.failure.error). record {
       cause = λ h good. inr (inr (
         (λ hold. subst (λ (u : List RefEdit). CanPeelAll s mode kind meaning [] u) (sym (ap updates over) ∙ U) (all_peel claims meaning s mode kind [] found c.in-Ok.ensures.put hold)),
-        subst (λ (u : List RefEdit). IsFirstCause s kind old.tree [] u r.0.error) U
-            (subst (λ (T : Tree). IsFirstCause s kind T [] (updates now) r.0.error) (same h) (why.first h (ids h good))),
+        subst (λ (u : List RefEdit). IsFirstCause s kind old.tree [] u r.failure.error) U
+            (subst (λ (T : Tree). IsFirstCause s kind T [] (updates now) r.failure.error) (same h) (why.first h (ids h good))),
       ));
-      opened = λ h. (not_packed kind (old.tree s.packed_path) b d r.0.error why.counted).0;
-      unread = λ h. no_find _ b d r.0.error why.counted;
-      counted = counted_later _ _ a b d r.0.error c.find_and_peel.ensures.reads.no_fewer why.counted;
+      opened = λ h. (not_packed kind (old.tree s.packed_path) b d r.failure.error why.counted).0;
+      unread = λ h. no_find _ b d r.failure.error why.counted;
+      counted = counted_later _ _ a b d r.failure.error c.find_and_peel.ensures.reads.no_fewer why.counted;
     }) c.lock_all_or_none.ensures.refused
 
 pub returns-in-Ok-clause-removed : goal.returns-in-Ok-clause-removed
@@ -128,12 +127,12 @@ returns-in-Ok-clause-removed g c =
     let last = F.means c.lock_all_or_none.new.files in
     let same : F.honest → mid.tree ≡ old.tree = λ h. (c.find_and_peel.ensures.reads.leaves h).tree in
     let all = locks_of s (updates now) in
-    if_err c.lock_all_or_none.result (λ (r : Failure Error × Vec RefEdit Global) (is : AreRemovedAgain F.honest F.means F.faults all all r.0.locks_left c.find_and_peel.new.files c.lock_all_or_none.new.files). record {
-      as_before = λ h. subst (λ (u : List RefEdit). AddsLocks (paths_of r.0.locks_left.items) (locks_of s u) old.tree last.tree) U
-          (subst (λ (T : Tree). AddsLocks (paths_of r.0.locks_left.items) all T last.tree) (same h) (is.as_before h));
+    if_err c.lock_all_or_none.result (λ (r : NotHeld) (is : AreRemovedAgain F.honest F.means F.faults all all r.failure.locks_left c.find_and_peel.new.files c.lock_all_or_none.new.files). record {
+      as_before = λ h. subst (λ (u : List RefEdit). AddsLocks (paths_of r.failure.locks_left.items) (locks_of s u) old.tree last.tree) U
+          (subst (λ (T : Tree). AddsLocks (paths_of r.failure.locks_left.items) all T last.tree) (same h) (is.as_before h));
       named = record {
         ours = λ q left. subst (λ (u : List RefEdit). is_in (locks_of s u) q ≡ true) U (is.named.ours q left);
-        once = λ q. subst (λ (u : List RefEdit). times q (paths_of r.0.locks_left.items) ≤ times q (locks_of s u)) U (is.named.once q);
+        once = λ q. subst (λ (u : List RefEdit). times q (paths_of r.failure.locks_left.items) ≤ times q (locks_of s u)) U (is.named.once q);
         named = risen_by_before _ (F.faults c.args.files.now) (F.faults c.find_and_peel.new.files) (F.faults c.lock_all_or_none.new.files) c.find_and_peel.ensures.reads.no_fewer is.named.named;
       };
     }) c.lock_all_or_none.ensures.removed
@@ -145,7 +144,7 @@ returns-in-Ok-clause-edits g c =
     let now = take c.args.edits.len (found ++ drop (length found) given) in
     let over : now ≡ found = asked_over c.args.edits.len c.deref_mut.result.now found (drop (length found) given) c.find_and_peel.ensures.asked c.deref_mut.ensures.len in
     let asked : all_asked now ≡ all_asked given = ap all_asked over ∙ (c.find_and_peel.ensures.asked ∙ ap all_asked c.deref_mut.ensures.value) in
-    if_err c.lock_all_or_none.result (λ (r : Failure Error × Vec RefEdit Global) (same : r.1.items ≡ updates now). same ∙ updates_alike given now asked) c.lock_all_or_none.ensures.edits
+    if_err c.lock_all_or_none.result (λ (r : NotHeld) (same : r.edits.items ≡ updates now). same ∙ updates_alike given now asked) c.lock_all_or_none.ensures.edits
 
 pub returns-in-Ok-clause-takes : goal.returns-in-Ok-clause-takes
 returns-in-Ok-clause-takes g c =

@@ -170,7 +170,7 @@ returns-in-Err-find_and_lock-clause-refused g c =
     let all = locks_of s U in
     let off : F.honest → (q : Path) → q ≢ lock_of s.packed_path → IsSameButWay (lock_of s.packed_path) old.tree mid.tree q = λ h. off_lock s old.tree mid.tree c.in-Ok.packed c.in-Ok.ensures.taken.place (c.in-Ok.ensures.taken.takes h) in
     let why = c.in-Err-find_and_lock.ensures.refused in
-    let error = c.in-Err-find_and_lock.failure.error in
+    let error = c.in-Err-find_and_lock.refused.failure.error in
     record {
       cause = λ h good. ⊎_elim (λ outside. inl outside)
           (λ later. inr (inr (
@@ -198,7 +198,7 @@ returns-in-Err-find_and_lock-clause-removed g c =
     let held : F.honest → map lock_of (packed_places c.in-Ok.packed) ≡ xs = λ h. ap (map lock_of) (subst (λ p. packed_places c.in-Ok.packed ≡ packed_taken s (mode_of_packing p) old.tree U) c.packing.ensures (rw c.deref.ensures.value at (c.in-Ok.ensures.taken.due h))) in
     let end = F.means c.find_and_lock.new.files in
     let new = F.means c.release_packed.new.files in
-    let left = paths_of c.in-Err-find_and_lock.failure.locks_left.items in
+    let left = paths_of c.in-Err-find_and_lock.refused.failure.locks_left.items in
     let named = paths_of c.release_packed.new.left.items in
     let removed = c.in-Err-find_and_lock.ensures.removed in
     record {
@@ -234,7 +234,7 @@ returns-in-Err-find_and_lock-clause-takes g c =
     let held : F.honest → map lock_of (packed_places c.in-Ok.packed) ≡ xs = λ h. ap (map lock_of) (subst (λ p. packed_places c.in-Ok.packed ≡ packed_taken s (mode_of_packing p) old.tree U) c.packing.ensures (rw c.deref.ensures.value at (c.in-Ok.ensures.taken.due h))) in
     let end = F.means c.find_and_lock.new.files in
     let new = F.means c.release_packed.new.files in
-    let left = paths_of c.in-Err-find_and_lock.failure.locks_left.items in
+    let left = paths_of c.in-Err-find_and_lock.refused.failure.locks_left.items in
     let named = paths_of c.release_packed.new.left.items in
     let removed = c.in-Err-find_and_lock.ensures.removed in
     let both = takes_then_more F.honest F.means F.faults xs all _ _ _ first c.find_and_lock.ensures.takes in

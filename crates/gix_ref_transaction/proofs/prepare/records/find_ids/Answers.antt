@@ -64,6 +64,7 @@ loop-edit-preserved g c =
         readers = λ h. (c.in_ok-edit.ensures.still kind).readers ((x.still kind).readers h);
         searched = λ of_kind text h. (x.still kind).searched of_kind text ((c.in_ok-edit.ensures.still kind).searched of_kind text h);
         none = λ none. (x.still kind).none ((c.in_ok-edit.ensures.still kind).none none);
+        of_file = λ is. (x.still kind).of_file ((c.in_ok-edit.ensures.still kind).of_file is);
       };
       reads = reads_more _ _ _ _ _ _ x.reads c.in_ok-edit.ensures.reads;
       read = λ h honest kind.

@@ -1,16 +1,19 @@
 use Rattle.gix_ref_transaction.specs.PrepareSteps.{setting_of}
-use Rattle.gix_ref_transaction.proofs.PackedLemmas.{counted_by, counted_on, both_err}
+use Rattle.gix_ref_transaction.proofs.PackedLemmas.{both_err, counted_by, counted_cause, counted_on, opened_refusal, sound_cause}
 use Rattle.std.proofs.Common.{sym, subst}
 use Rattle.gix_ref_files.specs.Tree.{Tree}
 use Rattle.gix_ref_theory.specs.OnRealTrees.{view_of}
 use Rattle.gix_ref_edits.specs.declared.transaction.RefEdit.{RefEdit}
 use Rattle.gix_ref_lookup.proofs.Missing.{openable}
-use Rattle.gix_ref_lookup.specs.Lookups.{packed_refs_in, AreHonest}
+use Rattle.gix_ref_packed.specs.Buffers.{IsRefusedFile}
+use Rattle.gix_ref_packed.specs.OpenFiles.{HasReadFault}
+use Rattle.gix_ref_lookup.specs.Lookups.{packed_refs_in, AreHonest, IsFaultOf}
 use Rattle.gix_ref_transaction.specs.Causes.{IsHidden, IsRecordId, IsUnreadableRecord, OfSomeKey}
+use Rattle.gix_ref_transaction.specs.PackedCauses.{as_cause}
 use Rattle.gix_ref_transaction.specs.PrepareSteps.{updates}
-use Rattle.gix_ref_transaction.specs.internal.StuckRecords.{IsAskedId, IsSearchFault, IsStuckKey}
+use Rattle.gix_ref_transaction.specs.internal.StuckRecords.{AreNotFound, IsAskedId, IsSearchFault, IsStuckKey}
 use Rattle.gix_ref_transaction.specs.declared.prepare.error.Error.{Error}
-use Rattle.gix_ref_transaction.proofs.UnreadRecords.{find_wider, keys_wider}
+use Rattle.gix_ref_transaction.proofs.UnreadRecords.{find_wider, found_cause, keys_wider}
 use Rattle.gix_ref_transaction.proofs.RecordIds.{if_on_ok, on_ok, record_id, with_wider}
 use Rattle.gix_ref_transaction.proofs.prepare.records.find_records.Goals as goal
 
@@ -66,3 +69,25 @@ returns-in-Ok-clause-read g c h =
     (λ k text is. c.unopened-records.ensures.searched settings.kind k file text ((c.in-Ok.ensures.opened h).searched k text is))
     edit id (subst (λ (T : Tree). IsAskedId s settings.kind (view_of T) records edit id) (c.open.ensures.reads.leaves h).tree asked)))
     (c.find_ids.ensures.read h ((c.in-Ok.ensures.opened h).readers c.unopened-records.ensures.honest) settings.kind)
+
+pub returns-clause-failed : goal.returns-clause-failed
+returns-clause-failed g c =
+    let F = g.F.Files in
+    let G = g.F.Reader.ReadAt in
+    let settings = c.args.settings.now in
+    let s = setting_of settings in
+    let edits = updates c.args.edits.now in
+    let old = F.means c.args.files.now in
+    let file = packed_refs_in settings old in
+    let error = c.in-Err.error in
+    let a = F.faults c.args.files.now in
+    let b = F.faults c.open.new.files in
+    let refusal = IsRefusedFile settings.kind (old.tree s.packed_path) in
+    let hidden = OfSomeKey (λ (edit : RefEdit). IsHidden s (view_of old.tree) edit → ⊥) (IsUnreadableRecord settings.kind (view_of old.tree s.packed_path)) s edits in
+    subst (λ (e : Error). AreNotFound F.honest (HasReadFault G.faults) F.means F.faults s settings.kind edits c.args.files.now c.open.new.files e) (sym c.refused.ensures)
+    (record {
+      sound = λ h rs are. sound_cause error (c.in-Err.ensures.asked h rs (c.unopened-records.ensures.asked settings.kind file rs (c.requires.absent h) are));
+      refused = λ h. opened_refusal F.honest (IsFaultOf G.faults a b) settings.kind (old.tree s.packed_path) error h c.in-Err.ensures.refused;
+      unread = λ h. find_wider ⊥ hidden (as_cause error) (λ bad. absurd bad) (found_cause F.honest (IsFaultOf G.faults a b) ⊥ refusal error h c.in-Err.ensures.refused);
+      counted = counted_cause F.honest (IsFaultOf G.faults a b) ⊥ (HasReadFault G.faults) refusal a b error (λ e came. came) c.in-Err.ensures.refused;
+    })

@@ -19,4 +19,4 @@ returns-in-Err-clause-failed g c =
 
 pub returns-in-Err-clause-counted : goal.returns-in-Err-clause-counted
 returns-in-Err-clause-counted g c before now =
-    rw c.refused.ensures (counted_cause _ _ _ _ (λ e. ⊥) before now c.in-Err.error (λ e came. inr came) (c.in-Err.ensures.failed Sha1))
+    rw c.refused.ensures (counted_cause _ _ _ _ (λ e. ⊥) before now c.in-Err.error (λ e came. inr came.1) (c.in-Err.ensures.failed Sha1))

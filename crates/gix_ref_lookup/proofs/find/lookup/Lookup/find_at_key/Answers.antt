@@ -2,8 +2,8 @@ use Rattle.std.proofs.Common.{inr, None, refl}
 use Rattle.gix_ref_name.specs.Names.{full_ref_bytes}
 use Rattle.gix_ref_packed_text.specs.Positions.{CannotRead}
 use Rattle.gix_ref_lookup.specs.StoreLayout.{namespace_text}
-use Rattle.gix_ref_lookup.specs.Lookups.{meaning_in, packed_refs_in, AreHonest, OfSearched, OfKey, IsFaultOf}
-use Rattle.gix_ref_packed.specs.OpenFiles.{HasReadFault}
+use Rattle.gix_ref_files.specs.declared.files.FileError.{FileError}
+use Rattle.gix_ref_lookup.specs.Lookups.{meaning_in, packed_refs_in, AreHonest, AreOfFile, OfSearched, OfKey, IsFaultOf, IsReadFault}
 use Rattle.gix_ref_packed.specs.Buffers.{IsRefusedFile}
 use Rattle.gix_ref_lookup.proofs.NamedRecords.{of_key}
 use Rattle.gix_ref_lookup.proofs.Opening.{if_ok, both_ways, same_or_err, none_or_some, hit_wider, searched_wider, not_packed_wider}
@@ -45,6 +45,7 @@ returns-in-Ok-clause-leaves g c =
             readers = λ honest. found.readers (opened.readers honest);
             searched = λ k text is. opened.searched k text (found.searched k text (any_searched kind file None c.find_key.new.records k text c.find_key.ensures.leaves.0 is));
             none = λ none. opened.none (found.none (any_file file None c.find_key.new.records c.find_key.ensures.leaves.0 none));
+            of_file = λ is. opened.of_file (found.of_file is);
           };
     }
 
@@ -57,15 +58,31 @@ returns-in-Ok-clause-failed g c name keyed =
     let before = g.F.Files.means c.args.self.now.files.now in
     let file = packed_refs_in settings before in
     let key = full_ref_bytes c.args.key in
-    let fault = HasReadFault g.F.Reader.ReadAt.faults in
-    let either = IsFaultOf g.F.Reader.ReadAt.faults (g.F.Files.faults c.args.self.now.files.now) (g.F.Files.faults c.open.new.files) in
+    let fault = λ (e : FileError). IsReadFault {R = g.row.F-Reader.Denot} {G = g.F.Reader.ReadAt} new e in
+    let either = λ (e : FileError). AreOfFile {R = g.row.F-Reader.Denot} {G = g.F.Reader.ReadAt} old × IsFaultOf g.F.Reader.ReadAt.faults (g.F.Files.faults c.args.self.now.files.now) (g.F.Files.faults c.open.new.files) e in
     same_or_err c.find_key.result c.in-Ok.ensures.refused
     (λ error why. not_packed_wider (AreHonest {R = g.row.F-Reader.Denot} {G = g.F.Reader.ReadAt} new) (g.F.Files.honest × AreHonest {R = g.row.F-Reader.Denot} {G = g.F.Reader.ReadAt} old)
     fault either
     (OfSearched {R = g.row.F-Reader.Denot} {G = g.F.Reader.ReadAt} settings.kind None new (λ k text. CannotRead k text key))
     (OfKey s name (λ k. OfSearched {R = g.row.F-Reader.Denot} {G = g.F.Reader.ReadAt} settings.kind file old (λ of_kind text. CannotRead of_kind text k)))
-    (λ e. ⊥) (IsRefusedFile settings.kind (before.tree s.packed_path)) error
-    (λ k. (c.in-Ok.ensures.opened k.0).readers k.1) (λ e f. inr f)
+    (λ e. ⊥) (λ e. AreOfFile {R = g.row.F-Reader.Denot} {G = g.F.Reader.ReadAt} old × IsRefusedFile settings.kind (before.tree s.packed_path) e) error
+    (λ k. (c.in-Ok.ensures.opened k.0).readers k.1) (λ k e f. ((c.in-Ok.ensures.opened k.0).of_file f.0, inr f.1))
     (λ k bad. (key, keyed, searched_wider settings.kind None file new old (λ of_kind text. CannotRead of_kind text key) (c.in-Ok.ensures.opened k.0).searched bad))
     (λ k e none. absurd none) why)
     (c.find_key.ensures.failed settings.kind)
+
+pub returns-in-Err-clause-failed : goal.returns-in-Err-clause-failed
+returns-in-Err-clause-failed g c name keyed =
+    let settings = c.args.self.now.settings in
+    let s = meaning_in settings in
+    let old = c.args.self.now.records.now in
+    let before = g.F.Files.means c.args.self.now.files.now in
+    let file = packed_refs_in settings before in
+    let fault = IsFaultOf g.F.Reader.ReadAt.faults (g.F.Files.faults c.args.self.now.files.now) (g.F.Files.faults c.open.new.files) in
+    let refused = IsRefusedFile settings.kind (before.tree s.packed_path) in
+    let of_file = c.in-Err.ensures.ready.1 in
+    not_packed_wider g.F.Files.honest (g.F.Files.honest × AreHonest {R = g.row.F-Reader.Denot} {G = g.F.Reader.ReadAt} old)
+    fault (λ (e : FileError). AreOfFile {R = g.row.F-Reader.Denot} {G = g.F.Reader.ReadAt} old × fault e)
+    ⊥ (OfKey s name (λ k. OfSearched {R = g.row.F-Reader.Denot} {G = g.F.Reader.ReadAt} settings.kind file old (λ of_kind text. CannotRead of_kind text k)))
+    refused (λ e. AreOfFile {R = g.row.F-Reader.Denot} {G = g.F.Reader.ReadAt} old × refused e) c.in-Err.error
+    (λ k. k.0) (λ k e f. (of_file, f)) (λ k bad. absurd bad) (λ k e why. (of_file, why)) c.in-Err.ensures.refused

@@ -27,9 +27,9 @@ returns-in-Open-clause-seen g c h kind =
 pub returns-in-Held-clause-seen : goal.returns-in-Held-clause-seen
 returns-in-Held-clause-seen g c h kind =
     let buffer = c.in-Held.buffer.now in
-    let finds = c.find_held.ensures.finds in
+    let finds = c.find_in_order.ensures.finds in
     rw (c.in-Held.is, c.said.ensures)
-    (found_seen c.find_held.result
+    (found_seen c.find_in_order.result
     (λ some. inr (record { of_kind = buffer_kind buffer; text = buffer_text buffer; searched = (refl, refl); has = some }))
     (λ ids hit. record { of_kind = buffer_kind buffer; text = buffer_text buffer; searched = (refl, refl); has = hit })
     finds.none finds.hit)

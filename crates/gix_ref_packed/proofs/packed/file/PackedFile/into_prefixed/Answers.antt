@@ -17,14 +17,14 @@ pub returns-in-InFile-clause-asked : goal.returns-in-InFile-clause-asked
 returns-in-InFile-clause-asked g c = λ honest. rw c.in-InFile.is (c.read_prefixed.ensures.asked honest)
 
 -- all records are held
-sorted_holds : (kind : Kind) (text : List ℕ) (line : ℕ) (prefix : List ℕ) (r : Result Buffer ReadError) → IfOk r (λ b. buffer_text b ≡ text) → IfOk r (λ b. buffer_kind b ≡ kind) → IfOk r (λ b. buffer_line b ≡ line) → IfOk r (HoldsPrefix kind text line prefix)
-sorted_holds kind text line prefix (Ok b) is kind_is line_is = holds_all kind text prefix line b kind_is (length text) refl (is ∙ sym (whole_part text (length text) refl)) line_is
-sorted_holds kind text line prefix (Err e) is kind_is line_is = tt
+sorted_holds : (kind : Kind) (text : List ℕ) (line : ℕ) (prefix : List ℕ) (r : Result Buffer ReadError) → IfOk r (λ b. buffer_text b ≡ text) → IfOk r (λ b. (buffer_kind b ≡ kind) × (buffer_line b ≡ line)) → IfOk r (HoldsPrefix kind text line prefix)
+sorted_holds kind text line prefix (Ok b) is like = holds_all kind text prefix line b like.0 (length text) refl (is ∙ sym (whole_part text (length text) refl)) like.1
+sorted_holds kind text line prefix (Err e) is like = tt
 
 pub returns-in-Unsorted-clause-holds : goal.returns-in-Unsorted-clause-holds
 returns-in-Unsorted-clause-holds g c = λ honest. rw c.in-Unsorted.is
     (let u = c.in-Unsorted.records in
-    sorted_holds (unsorted_kind u) (unsorted_text u) (unsorted_line u) c.args.prefix.now c.into_sorted.result (c.into_sorted.ensures.text honest) c.into_sorted.ensures.kind c.into_sorted.ensures.line)
+    sorted_holds (unsorted_kind u) (unsorted_text u) (unsorted_line u) c.args.prefix.now c.into_sorted.result (c.into_sorted.ensures.text honest) c.into_sorted.ensures.numbered)
 
 sorted_asked : (kind : Kind) (text prefix : List ℕ) (r : Result Buffer ReadError) → NamesAscend kind text → IfOk r (λ b. buffer_text b ≡ text) → IfOk r (BufferHoldsAsked kind text prefix)
 sorted_asked kind text prefix (Ok b) ascend is = subst (HoldsAsked kind text prefix) (sym is) (ascend, λ name asked. asked)

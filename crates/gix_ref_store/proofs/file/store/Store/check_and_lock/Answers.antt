@@ -1,4 +1,4 @@
-use Rattle.std.proofs.Common.{◌≡◌, List, [], Vec, Global, sym, ap, subst, ◌∙◌}
+use Rattle.std.proofs.Common.{◌≡◌, List, [], sym, ap, subst, ◌∙◌}
 use Rattle.gix_ref_packed.specs.OpenFiles.{HasReadFault}
 use Rattle.gix_ref_edits.specs.declared.transaction.RefEdit.{RefEdit}
 use Rattle.gix_ref_transaction.specs.Causes.{AllValid, IsCounted}
@@ -6,8 +6,7 @@ use Rattle.gix_ref_transaction.specs.OwnLocks.{paths_of}
 use Rattle.gix_ref_transaction.specs.Packing.{OfFinder, ends_of, mode_in}
 use Rattle.gix_ref_transaction.specs.Splits.{IsSplitCause}
 use Rattle.gix_ref_transaction.specs.declared.prepare.hold.HeldLocks.{HeldLocks}
-use Rattle.gix_ref_transaction.specs.declared.prepare.error.Error.{Error}
-use Rattle.gix_ref_transaction.specs.declared.release.Failure.{Failure}
+use Rattle.gix_ref_transaction.specs.declared.prepare.hold.NotHeld.{NotHeld}
 use Rattle.gix_ref_transaction.proofs.PackedLemmas.{if_err, if_ok}
 use Rattle.gix_ref_store.specs.Prepared.{HoldsSplit, LosesNothing, RefusesFrom, RefusesSplit, SplitsFrom, tree_of}
 use Rattle.gix_ref_store.specs.Store.{files_of, kind_of, meaning_of}
@@ -37,10 +36,10 @@ returns-in-Ok-clause-refused g c =
     let new = c.lock_split.new.self in
     let read = HasReadFault g.F.Reader.ReadAt.faults in
     let same = c.in-Ok.ensures.same in
-    if_err c.lock_split.result (λ (r : Failure Error × Vec RefEdit Global) refused.
-    let left = paths_of r.0.locks_left.items in
-    refused_on F.honest F.means F.faults (mode_in c.args.packed_refs.now) old (files_of c.split.new.self) c.in-Ok.ensures.reads read (OfFinder g.T.Find.claims c.args.packed_refs.now) (ends_of g.T.Find.meaning c.args.packed_refs.now) new c.args.edits.items split r.0.error left c.in-Ok.ensures.splits
-    (subst (λ (st : Store g.row.F.Denot). RefusesSplit F.honest read F.means F.faults (OfFinder g.T.Find.claims c.args.packed_refs.now) (ends_of g.T.Find.meaning c.args.packed_refs.now) (mode_in c.args.packed_refs.now) st new split r.0.error left) same refused)
+    if_err c.lock_split.result (λ (r : NotHeld) refused.
+    let left = paths_of r.failure.locks_left.items in
+    refused_on F.honest F.means F.faults (mode_in c.args.packed_refs.now) old (files_of c.split.new.self) c.in-Ok.ensures.reads read (OfFinder g.T.Find.claims c.args.packed_refs.now) (ends_of g.T.Find.meaning c.args.packed_refs.now) new c.args.edits.items split r.failure.error left c.in-Ok.ensures.splits
+    (subst (λ (st : Store g.row.F.Denot). RefusesSplit F.honest read F.means F.faults (OfFinder g.T.Find.claims c.args.packed_refs.now) (ends_of g.T.Find.meaning c.args.packed_refs.now) (mode_in c.args.packed_refs.now) st new split r.failure.error left) same refused)
     (λ h. subst (λ (st : Store g.row.F.Denot). LosesNothing F.means (mode_in c.args.packed_refs.now) st new split) same (c.lock_split.ensures.lost h)))
     c.lock_split.ensures.refused
 
@@ -51,9 +50,9 @@ returns-in-Err-clause-refused g c =
     let old = c.args.self.now in
     let given = c.args.edits.items in
     let files = files_of c.split.new.self in
-    let error = c.refused_before_locks.result.error in
+    let error = c.refused_before_locks.result.failure.error in
     let is : error ≡ c.in-Err.error = c.refused_before_locks.ensures.error in
-    let left = paths_of c.refused_before_locks.result.locks_left.items in
+    let left = paths_of c.refused_before_locks.result.failure.locks_left.items in
     subst (λ (st : Store g.row.F.Denot). RefusesFrom F.honest read F.means F.faults (OfFinder g.T.Find.claims c.args.packed_refs.now) (ends_of g.T.Find.meaning c.args.packed_refs.now) (mode_in c.args.packed_refs.now) old st given error left) (sym c.in-Err.ensures.same)
     (refused_before F.honest F.means F.faults (mode_in c.args.packed_refs.now) old files c.in-Err.ensures.reads read (OfFinder g.T.Find.claims c.args.packed_refs.now) (ends_of g.T.Find.meaning c.args.packed_refs.now) given error left (ap paths_of c.refused_before_locks.ensures.none)
     (λ h. subst (IsSplitCause (meaning_of old) (kind_of old) (tree_of F.means old) given) (sym is) (c.in-Err.ensures.refused h))
@@ -61,7 +60,7 @@ returns-in-Err-clause-refused g c =
 
 pub returns-in-Ok-clause-direct : goal.returns-in-Ok-clause-direct
 returns-in-Ok-clause-direct g c direct =
-    if_err c.lock_split.result (λ (r : Failure Error × Vec RefEdit Global) (same : r.1.items ≡ c.in-Ok.split.edits.items). same ∙ c.in-Ok.ensures.splits.direct direct) c.lock_split.ensures.edits
+    if_err c.lock_split.result (λ (r : NotHeld) (same : r.edits.items ≡ c.in-Ok.split.edits.items). same ∙ c.in-Ok.ensures.splits.direct direct) c.lock_split.ensures.edits
 
 pub returns-in-Ok-clause-parents : goal.returns-in-Ok-clause-parents
 returns-in-Ok-clause-parents g c h =

@@ -12,9 +12,9 @@ returns-in-Err-clause-refused g c =
     let F = g.F.Files in
     let old = c.args.self.now in
     let given = c.args.edits.items in
-    let error = c.refused_before_locks.result.error in
+    let error = c.refused_before_locks.result.failure.error in
     let is : error ≡ Memory = c.refused_before_locks.ensures.error in
-    let left = paths_of c.refused_before_locks.result.locks_left.items in
+    let left = paths_of c.refused_before_locks.result.failure.locks_left.items in
     record {
       asked = given;
       composed = inr (is, refl);
