@@ -2,7 +2,7 @@
 use Rattle.std.proofs.Common.{◌≡◌, ◌∙◌, inl, inr, ap, refl, true, false, Bool, Bor, ℕ, List, Option, Some, None, Result, Ok, Err, sym, subst}
 use Rattle.std.specs.Prelude.{IfOk, is_none}
 use Rattle.gix_ref_queries.specs.Answers.{EndVerified, IsShownAs, LastName, ShowsEnd, ShowsLast, SymbolicFull, VerifiesFull}
-use Rattle.gix_ref_queries.specs.Shortening.{short_name}
+use Rattle.gix_ref_queries.specs.Shortening.{SeesShort, short_name}
 use Rattle.gix_ref_files.specs.Files.{Meaning, FaultCounts}
 use Rattle.gix_ref_files.specs.declared.files.ReadAt.{Ghosts}
 use Rattle.gix_ref_target.specs.PackedRecords.{Record}
@@ -14,7 +14,7 @@ use Rattle.gix_ref_queries.specs.declared.answer.Answer.{Answer}
 use Rattle.gix_ref_queries.specs.declared.resolve.End.{End}
 use Rattle.gix_ref_queries.specs.declared.resolve.End.TheVariants as ends
 use Rattle.gix_ref_queries.proofs.Names.{follows_to, same_finds, same_records, unfollowed_by}
-use Rattle.gix_ref_queries.proofs.ShortLemmas.{unshort_before}
+use Rattle.gix_ref_queries.proofs.ShortLemmas.{short_before, unshort_before}
 
 module _ {F R : Type 0} (G : Ghosts R) (honest : Type 0) (means : F → Meaning) (faults : F → FaultCounts) (old : Store F) where
   -- what is answered where the following of a name ended so
@@ -29,7 +29,10 @@ module _ {F R : Type 0} (G : Ghosts R) (honest : Type 0) (means : F → Meaning)
     -- a name as it is shown, once the store was looked at
     shown_before : (short : Bool) (name shown : List ℕ) → IsShownAs honest means mid short name shown → IsShownAs honest means old short name shown
     shown_before false name shown is = is
-    shown_before true name shown is = λ h records are. is h records (same_records honest means old mid records looked h are) ∙ ap (λ (find : TargetsByName). short_name find false name) (same_finds honest means old mid records looked h)
+    shown_before true name shown is = λ h. (
+      short_before honest means old mid looked h false name shown (is h).0,
+      λ records are. (is h).1 records (same_records honest means old mid records looked h are) ∙ ap (λ (find : TargetsByName). short_name find false name) (same_finds honest means old mid records looked h),
+    )
 
     last_before : (short : Bool) (last name : List ℕ) (a : Answer) → ShowsLast G honest means faults mid short last name a → ShowsLast G honest means faults old short last name a
     last_before short last name a (inl (shown, is, says)) = inl (shown, shown_before short last shown is, says)
@@ -47,9 +50,9 @@ last_is last last' shown shown' name name' a p q r says =
 
 -- a short name that was found is what is to be shown short
 pub shown_short : {F E : Type 0} (honest : Type 0) (means : F → Meaning) (store : Store F) (short : Bool) (name : List ℕ) (result : Result (Bor (List ℕ)) E) → short ≡ true →
-    (honest → (records : List Record) → AreRecordsIn means store records → IfOk result (λ shown. shown.now ≡ short_name (targets_in means store records) false name)) → IfOk result (λ shown. IsShownAs honest means store short name shown.now)
-shown_short honest means store short name (Ok shown) is found = subst (λ (b : Bool). IsShownAs honest means store b name shown.now) (sym is) found
-shown_short honest means store short name (Err error) is found = _
+    (honest → IfOk result (λ shown. SeesShort means store false name shown.now)) → (honest → (records : List Record) → AreRecordsIn means store records → IfOk result (λ shown. shown.now ≡ short_name (targets_in means store records) false name)) → IfOk result (λ shown. IsShownAs honest means store short name shown.now)
+shown_short honest means store short name (Ok shown) is saw found = subst (λ (b : Bool). IsShownAs honest means store b name shown.now) (sym is) (λ h. (saw h, found h))
+shown_short honest means store short name (Err error) is saw found = _
 
 pub not_none : {A : Type 0} (o : Option A) → (o ≡ None → ⊥) → is_none o ≡ false
 not_none None not = absurd (not refl)

@@ -1,6 +1,6 @@
 -- Rows of references.
-use Rattle.std.proofs.Common.{◌≡◌, ◌⊎◌, inl, inr, true, ◌<◌, ◌+◌, ℕ, List, [], ◌∷◌, ◌++◌, length, get_or, take, map, reverse, codes, Option, Some, None, Result, Ok, Err, Vec, refl, sym, ◌∙◌, ap, subst, append-nil, append_assoc}
-use Rattle.std.specs.Prelude.{IfOk, IfErr}
+use Rattle.std.proofs.Common.{◌≡◌, ◌⊎◌, inl, inr, Bool, true, false, ◌<◌, ◌+◌, ℕ, List, [], ◌∷◌, ◌++◌, length, get_or, take, map, reverse, codes, Option, Some, None, Result, Ok, Err, Vec, refl, sym, ◌∙◌, ap, subst, append-nil, append_assoc}
+use Rattle.std.specs.Prelude.{IfOk, IfErr, MatchBool}
 use Rattle.std.specs.List.{cons_option, filter_map}
 use Rattle.std.specs.Option.{option_to_list}
 use Rattle.std.specs.declared.alloc.Global.{Global}
@@ -20,17 +20,18 @@ use Rattle.gix_ref_target.specs.PackedRecords.{Record}
 use Rattle.gix_ref_store.specs.Lookup.{AreRecordsIn, LooksUp}
 use Rattle.gix_ref_store.specs.declared.file.store.Store.{Store}
 use Rattle.gix_ref_queries.specs.Answers.{path_lines}
-use Rattle.gix_ref_queries.specs.Formats.{row_text}
+use Rattle.gix_ref_queries.specs.Formats.{row_text, shows_short}
 use Rattle.gix_ref_queries.specs.Resolving.{TargetsByName, EndsBy, IsUnfollowedBy, IsUnread, SeesEnd, SeesEnds, targets_in, resolved}
 use Rattle.gix_ref_queries.specs.Resolving.NameEnd.{Reached, Missing, TooDeep}
-use Rattle.gix_ref_queries.specs.Rows.{IsRowError, IsShownShort, IsUnfollowed, IsUnreadRow, IsUnreadShort, SeesFollowedRow, SeesRow, SeesRows, SeesTargetRow, followed_row, row_lines, row_of, row_texts, rows_of, shown_short, target_row}
+use Rattle.gix_ref_queries.specs.Shortening.{SeesShort}
+use Rattle.gix_ref_queries.specs.Rows.{IsRowError, IsUnfollowed, IsUnreadRow, IsUnreadShort, SeesFollowedRow, SeesRow, SeesRows, SeesShown, SeesTargetRow, followed_row, row_lines, row_of, row_texts, rows_of, shown_short, target_row}
 use Rattle.gix_ref_queries.specs.declared.format.Part.{Part}
 use Rattle.gix_ref_queries.specs.declared.resolve.End.{End}
 use Rattle.gix_ref_queries.specs.declared.resolve.End.TheVariants as ends
 use Rattle.gix_ref_queries.specs.declared.rows.RowError.{RowError}
 use Rattle.gix_ref_queries.specs.declared.rows.RowError.TheVariants as row_error
 use Rattle.gix_ref_queries.proofs.Names.{end_before, unfollowed_before, same_finds, same_records}
-use Rattle.gix_ref_queries.proofs.ShortLemmas.{unshort_before}
+use Rattle.gix_ref_queries.proofs.ShortLemmas.{short_before, unshort_before}
 
 pub map_reverse : {X Y : Type 0} (f : X → Y) (xs : List X) → map f (reverse xs) ≡ reverse (map f xs)
 map_reverse f [] = refl
@@ -175,7 +176,7 @@ module _ {F : Type 0} (means : F → Meaning) (store : Store F) (parts : List Pa
       (TooDeep, subst (λ (n : List ℕ). SeesEnd means store 5 n TooDeep) same missing, refl)
 
 -- the row of a reference that is not symbolic
-pub sees_direct : {F : Type 0} (means : F → Meaning) (store : Store F) (parts : List Part) (reference : Reference) (id : ObjectId) (asked shown short text : List ℕ) → reference.target ≡ Object id → asked ≡ full_bytes reference.name → shown ≡ full_bytes reference.name → IsShownShort parts asked short →
+pub sees_direct : {F : Type 0} (means : F → Meaning) (store : Store F) (parts : List Part) (reference : Reference) (id : ObjectId) (asked shown short text : List ℕ) → reference.target ≡ Object id → asked ≡ full_bytes reference.name → shown ≡ full_bytes reference.name → SeesShown means store parts asked short →
     text ≡ row_text parts (record { name = shown; short = short; id = id; symref = [] }) → SeesRow means store parts reference (Some text)
 sees_direct means store parts reference id asked shown short text is named shows shortens made =
     let n = full_bytes reference.name in
@@ -183,7 +184,7 @@ sees_direct means store parts reference id asked shown short text is named shows
     let there : row ≡ Some (row_text parts (record { name = n; short = short; id = id; symref = [] })) =
     ap (λ (t : List ℕ). let o : Option (List ℕ) = Some t in o) (made ∙ ap (λ (m : List ℕ). row_text parts (record { name = m; short = short; id = id; symref = [] })) shows) in (
       short,
-      subst (λ (m : List ℕ). IsShownShort parts m short) named shortens,
+      subst (λ (m : List ℕ). SeesShown means store parts m short) named shortens,
       subst (λ (t : Target). SeesTargetRow means store parts n short (target_value t) row) (sym is) there,
     )
 
@@ -192,17 +193,24 @@ module _ {F : Type 0} (honest : Type 0) (means : F → Meaning) (old mid : Store
   followed_before name short row (end, saw, is) = (end, end_before honest means old mid looked h 5 name end saw, is)
 
   -- that of a symbolic reference, once the store was looked at
-  pub sees_led : (reference : Reference) (target : FullName) (asked shown short : List ℕ) (row : Option (List ℕ)) → reference.target ≡ Symbolic target → asked ≡ full_bytes reference.name → shown ≡ full_bytes reference.name → IsShownShort parts asked short →
+  pub sees_led : (reference : Reference) (target : FullName) (asked shown short : List ℕ) (row : Option (List ℕ)) → reference.target ≡ Symbolic target → asked ≡ full_bytes reference.name → shown ≡ full_bytes reference.name → SeesShown means old parts asked short →
       SeesFollowedRow means mid parts shown short row → SeesRow means old parts reference row
   sees_led reference target asked shown short row is named shows shortens saw =
       let n = full_bytes reference.name in (
         short,
-        subst (λ (m : List ℕ). IsShownShort parts m short) named shortens,
+        subst (λ (m : List ℕ). SeesShown means old parts m short) named shortens,
         subst (λ (t : Target). SeesTargetRow means old parts n short (target_value t) row) (sym is) (followed_before n short row (subst (λ (m : List ℕ). SeesFollowedRow means mid parts m short row) shows saw)),
       )
 
+  shown_before : (name short : List ℕ) → SeesShown means mid parts name short → SeesShown means old parts name short
+  shown_before name short = by (shows_short parts)
+    where
+      by : (b : Bool) → MatchBool b (SeesShort means mid true name short) (short ≡ []) → MatchBool b (SeesShort means old true name short) (short ≡ [])
+      by true saw = short_before honest means old mid looked h true name short saw
+      by false is = is
+
   pub row_before : (reference : Reference) (row : Option (List ℕ)) → SeesRow means mid parts reference row → SeesRow means old parts reference row
-  row_before reference row (short, shown, saw) = (short, shown, by (target_value reference.target) saw)
+  row_before reference row (short, shown, saw) = (short, shown_before (full_bytes reference.name) short shown, by (target_value reference.target) saw)
     where
       by : (t : TargetValue) → SeesTargetRow means mid parts (full_bytes reference.name) short t row → SeesTargetRow means old parts (full_bytes reference.name) short t row
       by (object_id id) is = is

@@ -1,12 +1,13 @@
 -- Short names.
-use Rattle.std.proofs.Common.{◌≡◌, ◌<◌, ◌+◌, ℕ, Bool, true, false, List, ◌∷◌, ◌++◌, [], Bor, Vec, inl, inr, ◌≢◌, length, take, drop, get_or, Option, Some, None, if◌then◌else◌, sym, ◌∙◌, ap, subst}
+use Rattle.std.proofs.Common.{◌≡◌, ◌<◌, ◌+◌, ℕ, Bool, true, false, List, ◌∷◌, ◌++◌, [], Bor, Vec, inl, inr, ◌≢◌, length, take, drop, get_or, Option, Some, None, if◌then◌else◌, refl, sym, ◌∙◌, ap, subst}
 use Rattle.std.specs.Prelude.{◌&&◌, bytes_eq, is_none}
 use Rattle.std.specs.declared.alloc.Global.{Global}
 use Rattle.std.specs.List.{Any}
 use Rattle.std.proofs.lemmas.List.{at_drop_more, get_or-map, length-map, take-append-drop}
 use Rattle.gix_ref_theory.proofs.Writes.{same_true, same as same_text}
 use Rattle.gix_ref_name.specs.NameGrammar.{full_error}
-use Rattle.gix_ref_queries.specs.Resolving.{TargetsByName, EndsBy, resolved, targets_in}
+use Rattle.gix_ref_queries.specs.Resolving.{TargetsByName, EndsBy, SeesEnd, SeesEnds, resolved, targets_in}
+use Rattle.gix_ref_queries.specs.Resolving.NameEnd.{Reached, Missing, TooDeep}
 use Rattle.gix_ref_files.specs.Files.{Meaning, FaultCounts}
 use Rattle.gix_ref_lookup.specs.declared.find.error.Error.{Error}
 use Rattle.gix_ref_files.specs.declared.files.ReadAt.{Ghosts}
@@ -15,10 +16,10 @@ use Rattle.gix_ref_store.specs.Lookup.{AreRecordsIn, LooksUp}
 use Rattle.gix_ref_store.specs.declared.file.store.Store.{Store}
 use Rattle.gix_ref_queries.specs.Patterns.{texts}
 use Rattle.gix_ref_queries.specs.Rows.{row_texts}
-use Rattle.gix_ref_queries.specs.Shortening.{IsAskedAmong, IsAskedBy, IsAskedFor, IsAskedInVain, IsNoShort, IsUnshort, decided, decided_or, full_names, is_clear_among, is_reached, leads_to_object, short_after, short_by, short_or}
+use Rattle.gix_ref_queries.specs.Shortening.{IsAskedAmong, IsAskedBy, IsAskedFor, IsAskedInVain, IsNoShort, IsUnshort, SeesClear, SeesDecided, SeesLeads, SeesShort, SeesShortAfter, SeesShortBy, decided, decided_or, full_names, is_clear_among, is_reached, leads_to_object, short_after, short_by, short_or, short_prefixes}
 use Rattle.gix_ref_queries.specs.declared.short.ShortError.{ShortError}
 use Rattle.gix_ref_queries.specs.declared.short.ShortError.TheVariants as shorts
-use Rattle.gix_ref_queries.proofs.Names.{same_finds, same_records, unfollowed_before}
+use Rattle.gix_ref_queries.proofs.Names.{end_before, same_finds, same_records, unfollowed_before}
 use Rattle.gix_ref_queries.specs.declared.resolve.End.{End}
 use Rattle.gix_ref_queries.specs.declared.resolve.End.TheVariants as ends
 
@@ -139,3 +140,52 @@ pub short_by_one : (name short : List ℕ) (prefixes : List (Bor (List ℕ))) (i
 short_by_one name short prefixes i none within is =
     let prefix = (get_or prefixes i none).now in
     (i, prefix, subst (λ (n : ℕ). i < n) (sym (length-map prefixes (λ (word : Bor (List ℕ)). word.now))) within, get_or-map (λ (word : Bor (List ℕ)). word.now) prefixes i none prefix within, is)
+
+-- ---- on any text of `packed-refs`
+
+-- whether a name leads to an object, by where its following ends
+pub sees_leads : {F : Type 0} (means : F → Meaning) (store : Store F) (name owned last : List ℕ) (of : End) (at : Bool) → is_none (full_error name) ≡ true → owned ≡ name → SeesEnds means store owned last of → IsAtObject of at → SeesLeads means store name at
+sees_leads means store name owned last (ends.Object id) at full same saw says = inr (full, Reached last id, subst (λ (n : List ℕ). SeesEnd means store 5 n (Reached last id)) same saw, says)
+sees_leads means store name owned last ends.Absent at full same saw says = inr (full, Missing last, subst (λ (n : List ℕ). SeesEnd means store 5 n (Missing last)) same saw, says)
+sees_leads means store name owned last ends.TooDeep at full same saw says = inr (full, TooDeep, subst (λ (n : List ℕ). SeesEnd means store 5 n TooDeep) same saw, says)
+sees_leads means store name owned last (ends.Unread error) at full same saw says = absurd says
+sees_leads means store name owned last ends.Memory at full same saw says = absurd says
+
+-- the rest of a name after a prefix
+pub sees_after : {F : Type 0} (means : F → Meaning) (store : Store F) (strict clear : Bool) (name prefix short : List ℕ) (names : List (List ℕ)) (result : Option (List ℕ)) → bytes_eq (take (length prefix) name) prefix ≡ true → short ≡ drop (length prefix) name → names ≡ full_names short →
+    SeesClear means store strict name names clear → result ≡ (if clear then Some short else None) → SeesShortAfter means store strict name prefix result
+sees_after means store strict clear name prefix short names result begins rest are saw made =
+    let left = drop (length prefix) name in
+    inr (
+      rest_is name prefix left begins refl,
+      clear,
+      subst (λ (ns : List (List ℕ)). SeesClear means store strict name ns clear) (are ∙ ap full_names rest) saw,
+      made ∙ ap (λ (s : List ℕ). let o : Option (List ℕ) = if clear then Some s else None in o) rest,
+    )
+
+-- what was seen is seen before
+module _ {F : Type 0} (honest : Type 0) (means : F → Meaning) (old mid : Store F) (looked : LooksUp honest means old mid) (h : honest) (strict : Bool) (name : List ℕ) where
+  leads_before : (full : List ℕ) (leads : Bool) → SeesLeads means mid full leads → SeesLeads means old full leads
+  leads_before full leads (inl bad) = inl bad
+  leads_before full leads (inr (valid, end, saw, is)) = inr (valid, end, end_before honest means old mid looked h 5 full end saw, is)
+
+  pub decided_before : (full : List ℕ) (clear : Option Bool) → SeesDecided means mid strict name full clear → SeesDecided means old strict name full clear
+  decided_before full clear (inl same) = inl same
+  decided_before full clear (inr (other, leads, saw, is)) = inr (other, leads, leads_before full leads saw, is)
+
+  clear_before : (names : List (List ℕ)) (clear : Bool) → SeesClear means mid strict name names clear → SeesClear means old strict name names clear
+  clear_before [] clear is = is
+  clear_before (full ∷ more) clear (inl one) = inl (decided_before full (Some clear) one)
+  clear_before (full ∷ more) clear (inr (none, later)) = inr (decided_before full None none, clear_before more clear later)
+
+  pub after_before : (prefix : List ℕ) (short : Option (List ℕ)) → SeesShortAfter means mid strict name prefix short → SeesShortAfter means old strict name prefix short
+  after_before prefix short (inl other) = inl other
+  after_before prefix short (inr (begins, clear, saw, is)) = inr (begins, clear, clear_before (full_names (drop (length prefix) name)) clear saw, is)
+
+  by_before : (prefixes : List (List ℕ)) (short : List ℕ) → SeesShortBy means mid strict name prefixes short → SeesShortBy means old strict name prefixes short
+  by_before [] short is = is
+  by_before (prefix ∷ prefixes) short (inl one) = inl (after_before prefix (Some short) one)
+  by_before (prefix ∷ prefixes) short (inr (none, later)) = inr (after_before prefix None none, by_before prefixes short later)
+
+  pub short_before : (short : List ℕ) → SeesShort means mid strict name short → SeesShort means old strict name short
+  short_before short saw = by_before short_prefixes short saw

@@ -25,7 +25,7 @@ use Rattle.hex.specs.Hex.{encode_lower}
 use Rattle.gix_ref_hash.specs.Ids.{id_bytes}
 use Rattle.gix_ref_queries.specs.Resolving.{NameEnd, FollowsTo, IsUnread, targets_in}
 use Rattle.gix_ref_queries.specs.Resolving.NameEnd.{Reached, Missing, TooDeep}
-use Rattle.gix_ref_queries.specs.Shortening.{IsUnshort, short_name}
+use Rattle.gix_ref_queries.specs.Shortening.{IsUnshort, SeesShort, short_name}
 use Rattle.gix_ref_queries.specs.declared.resolve.End.{End}
 use Rattle.gix_ref_queries.specs.declared.resolve.End.TheVariants as ends
 use Rattle.gix_ref_queries.specs.declared.answer.Answer.{Answer}
@@ -77,12 +77,14 @@ abbrev pub is_verifiable : (name : List ℕ) → Bool
 is_verifiable name = (starts_with nat_eq name (codes "refs/") || bytes_eq name (codes "HEAD"))
     && is_none (full_error name)
 
--- a name as it is shown: itself, or its short name, which only the names that Git looks up before may take
+-- A name as it is shown: itself, or its short name, which only the names that Git looks up before may take: by what lookups saw, on any
+-- text of `packed-refs`, and where that is well formed or missing, by its records.
 abbrev pub IsShownAs : {F : Type 0} (honest : Type 0) (means : F → Meaning) → Store F →
     (short : Bool) → (name shown : List ℕ) → Type 0
 IsShownAs honest means store false name shown = shown ≡ name
-IsShownAs honest means store true name shown = honest → (records : List Record) →
-    AreRecordsIn means store records → shown ≡ short_name (targets_in means store records) false name
+IsShownAs honest means store true name shown = honest → SeesShort means store false name shown
+    × ((records : List Record) → AreRecordsIn means store records →
+    shown ≡ short_name (targets_in means store records) false name)
 
 module _ {F R : Type 0} (G : Ghosts R) (honest : Type 0) (means : F → Meaning)
     (faults : F → FaultCounts) where

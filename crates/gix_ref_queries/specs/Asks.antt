@@ -99,7 +99,8 @@ module _ {F R : Type 0} (G : Ghosts R) (honest : Type 0) (means : F → Meaning)
   IsAnswered old new asks.RemoveLocks answer = RemovesAnswer means faults honest old new answer
   IsAnswered old new (asks.Symbolic short name) answer =
       SymbolicAs G honest means faults old short name.now answer
-  IsAnswered old new (asks.Verify name) answer = VerifiesAs G honest means faults old name.now answer
+  IsAnswered old new (asks.Verify name) answer =
+      VerifiesAs G honest means faults old name.now answer
   IsAnswered old new (asks.LogExists name) answer =
       ExistsAs means faults honest old new name.now answer
   IsAnswered old new (asks.ShowLog name count) answer =

@@ -125,6 +125,13 @@ module _ (settings : Settings) (view : View) where
       (view (s.place name) ≡ None)
       × (HasNoKey s name ⊎ (view s.packed_path ≡ None) ⊎ OfKeptText IsNotMalformed)
 
+-- how a following ends at a name with this target, or goes on
+abbrev pub EndsAfter : (Goes : (next : List ℕ) → NameEnd → Type 0) → (name : List ℕ) →
+    Option TargetValue → NameEnd → Type 0
+EndsAfter Goes name None end = end ≡ Missing name
+EndsAfter Goes name (Some (object_id id)) end = end ≡ Reached name id
+EndsAfter Goes name (Some (symbolic_name next)) end = Goes next end
+
 module _ {F : Type 0} (means : F → Meaning) (store : Store F) where
   -- on any text of `packed-refs`, a lookup of the name saw this target, or none
   abbrev pub SeesTarget : (name : List ℕ) → Option TargetValue → Type 0
@@ -137,13 +144,6 @@ module _ {F : Type 0} (means : F → Meaning) (store : Store F) where
   SeesRead name names.Absent = SeesTarget name None
   SeesRead name (names.Unread error) = Unit {0}
   SeesRead name names.Memory = Unit {0}
-
-  -- how a following ends at a name with this target, or goes on
-  abbrev pub EndsAfter : (Goes : (next : List ℕ) → NameEnd → Type 0) → (name : List ℕ) →
-      Option TargetValue → NameEnd → Type 0
-  EndsAfter Goes name None end = end ≡ Missing name
-  EndsAfter Goes name (Some (object_id id)) end = end ≡ Reached name id
-  EndsAfter Goes name (Some (symbolic_name next)) end = Goes next end
 
   -- by what lookups saw, the following of a name that looks up so many names at most ends so
   abbrev pub SeesEnd : (most : ℕ) → (name : List ℕ) → NameEnd → Type 0

@@ -34,7 +34,7 @@ use Rattle.gix_ref_queries.specs.ListedNames.{FollowFiles}
 use Rattle.gix_ref_queries.specs.Patterns.{has_other_sign, is_asked_by}
 use Rattle.gix_ref_queries.specs.Resolving.{TargetsByName, NameEnd, IsUnread, SeesEnd, targets_in, resolved}
 use Rattle.gix_ref_queries.specs.Resolving.NameEnd.{Reached}
-use Rattle.gix_ref_queries.specs.Shortening.{IsShortOf, IsUnshort, short_name}
+use Rattle.gix_ref_queries.specs.Shortening.{IsUnshort, SeesShort, short_name}
 use Rattle.gix_ref_queries.specs.declared.answer.Answer.{Answer}
 use Rattle.gix_ref_queries.specs.declared.format.Part.{Part}
 use Rattle.gix_ref_queries.specs.declared.listing.Unlisted.{Unlisted}
@@ -139,12 +139,13 @@ IsUnfollowedAs (row_error.Unread name) answer =
     Fails (codes "cannot follow '" ++ (full_ref_bytes name ++ codes "'")) answer
 IsUnfollowedAs row_error.Memory answer = ⊥
 
--- what a row shows for a short name, whatever other names there are: nothing, where the format shows none
-abbrev pub IsShownShort : List Part → (name short : List ℕ) → Type 0
-IsShownShort parts name short = MatchBool (shows_short parts) (IsShortOf name short) (short ≡ [])
-
 -- What rows are on any text of `packed-refs`, where followings end as lookups saw it.
 module _ {F : Type 0} (means : F → Meaning) (store : Store F) where
+  -- what a row shows for a short name: nothing, where the format shows none
+  abbrev pub SeesShown : List Part → (name short : List ℕ) → Type 0
+  SeesShown parts name short =
+      MatchBool (shows_short parts) (SeesShort means store true name short) (short ≡ [])
+
   -- the row of a symbolic reference
   abbrev pub SeesFollowedRow : List Part → (name short : List ℕ) → (row : Option (List ℕ)) → Type 0
   SeesFollowedRow parts name short row = (end : NameEnd) × SeesEnd means store 5 name end
@@ -160,7 +161,7 @@ module _ {F : Type 0} (means : F → Meaning) (store : Store F) where
 
   abbrev pub SeesRow : List Part → Reference → (row : Option (List ℕ)) → Type 0
   SeesRow parts reference row = let name = full_bytes reference.name in
-      (short : List ℕ) × IsShownShort parts name short
+      (short : List ℕ) × SeesShown parts name short
       × SeesTargetRow parts name short (target_value reference.target) row
 
   -- and those of these references

@@ -9,7 +9,7 @@ use Rattle.gix_ref_lookup.specs.declared.find.error.Error.{Error}
 use Rattle.gix_ref_target.specs.PackedRecords.{Record}
 use Rattle.gix_ref_store.specs.Lookup.{AreRecordsIn}
 use Rattle.gix_ref_store.specs.declared.file.store.Store.{Store}
-use Rattle.gix_ref_queries.specs.Resolving.{IsUnfollowedBy, NameEnd, TargetsByName, resolved, targets_in}
+use Rattle.gix_ref_queries.specs.Resolving.{IsUnfollowedBy, NameEnd, SeesEnd, TargetsByName, resolved, targets_in}
 use Rattle.gix_ref_queries.specs.Resolving.NameEnd.{Reached, Missing, TooDeep}
 use Rattle.gix_ref_queries.specs.declared.short.ShortError.{ShortError}
 use Rattle.gix_ref_queries.specs.declared.short.ShortError.TheVariants as shorts
@@ -68,8 +68,8 @@ short_or (Some short) other = short
 short_or None other = other
 
 -- and so by the first of these prefixes; else the name itself
-abbrev pub short_by : TargetsByName → (strict : Bool) → (name : List ℕ) → (prefixes : List (List ℕ)) →
-    List ℕ
+abbrev pub short_by : TargetsByName → (strict : Bool) → (name : List ℕ) →
+    (prefixes : List (List ℕ)) → List ℕ
 short_by find strict name [] = name
 short_by find strict name (prefix ∷ prefixes) =
     short_or (short_after find strict name prefix) (short_by find strict name prefixes)
@@ -117,6 +117,48 @@ IsShortBy name prefixes short = (short ≡ name)
 -- and by those of Git
 abbrev pub IsShortOf : (name short : List ℕ) → Type 0
 IsShortOf name short = IsShortBy name short_prefixes short
+
+-- What is seen of the full names on any text of `packed-refs`.
+module _ {F : Type 0} (means : F → Meaning) (store : Store F) where
+  -- by what lookups saw, a name leads to an object, or not; one that breaks a rule of names does not
+  abbrev pub SeesLeads : (name : List ℕ) → (leads : Bool) → Type 0
+  SeesLeads name leads = ((is_none (full_error name) ≡ false) × (leads ≡ false))
+      ⊎ ((is_none (full_error name) ≡ true) × (end : NameEnd)
+      × SeesEnd means store 5 name end × (leads ≡ is_reached end))
+
+  -- what one of them decides
+  abbrev pub SeesDecided : (strict : Bool) → (name full : List ℕ) → Option Bool → Type 0
+  SeesDecided strict name full clear =
+      ((full ≡ name) × (clear ≡ (if strict then None else Some true)))
+      ⊎ ((full ≢ name) × (leads : Bool) × SeesLeads full leads
+      × (clear ≡ (if leads then Some false else None)))
+
+  -- the first that decides it does; where none does, it is clear
+  abbrev pub SeesClear : (strict : Bool) → (name : List ℕ) → List (List ℕ) → (clear : Bool) →
+      Type 0
+  SeesClear strict name [] clear = clear ≡ true
+  SeesClear strict name (full ∷ more) clear = SeesDecided strict name full (Some clear)
+      ⊎ (SeesDecided strict name full None × SeesClear strict name more clear)
+
+  -- the rest of a name after this prefix, where that is short for it alone
+  abbrev pub SeesShortAfter : (strict : Bool) → (name prefix : List ℕ) → Option (List ℕ) → Type 0
+  SeesShortAfter strict name prefix short = let rest = drop (length prefix) name in
+      ((bytes_eq (take (length prefix) name) prefix ≡ false) × (short ≡ None))
+      ⊎ ((name ≡ prefix ++ rest) × (clear : Bool)
+      × SeesClear strict name (full_names rest) clear
+      × (short ≡ (if clear then Some rest else None)))
+
+  -- and so by the first of these prefixes; else the name itself
+  abbrev pub SeesShortBy : (strict : Bool) → (name : List ℕ) → (prefixes : List (List ℕ)) →
+      (short : List ℕ) → Type 0
+  SeesShortBy strict name [] short = short ≡ name
+  SeesShortBy strict name (prefix ∷ prefixes) short =
+      SeesShortAfter strict name prefix (Some short)
+      ⊎ (SeesShortAfter strict name prefix None × SeesShortBy strict name prefixes short)
+
+  -- the short name of a reference
+  abbrev pub SeesShort : (strict : Bool) → (name short : List ℕ) → Type 0
+  SeesShort strict name short = SeesShortBy strict name short_prefixes short
 
 -- the bytes that are lent
 abbrev pub lent_bytes : Option (Bor (List ℕ)) → Option (List ℕ)

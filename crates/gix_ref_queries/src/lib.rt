@@ -10,8 +10,8 @@
 //!   `symbolic-ref` by `verify::symbolic` (`SymbolicAs`), `reflog exists` by `reflog::log_exists` (`ExistsAs`)
 //! - where a following leads, on any text of `packed-refs`: by what each lookup saw: `resolve::follow` (`SeesEnd`, `FollowsTo` in
 //!   `Resolving.antt`)
-//! - the short name of a reference: what comes after the longest front, where no other name that Git takes it for leads to an object:
-//!   `short::short_name` (`Shortening.antt`)
+//! - the short name of a reference: what comes after the longest front, where no other name that Git takes it for leads to an object;
+//!   also over a damaged `packed-refs`, by what each lookup saw: `short::short_name` (`short_name`, `SeesShort` in `Shortening.antt`)
 //! - the row of each reference, also over a damaged `packed-refs`, by what each lookup saw: `rows::rows` (`SeesRows` in `Rows.antt`)
 //! - each entry of a log that can be read, newest first, with its place: `reflog::show_log` (`ShowAnswer` in `LogRows.antt`)
 //! - which references of a listing the patterns match, what the format shows of each, their order and number; and each error; that

@@ -4,7 +4,7 @@ ghost use Rattle.std.specs.Option.{option_to_list};
 ghost use Rattle.gix_ref_name.specs.Names.{full_bytes, full_ref_bytes};
 ghost use Rattle.gix_ref_store.specs.Lookup.{LooksUp};
 ghost use Rattle.gix_ref_queries.specs.Resolving.{IsUnread, OfTargets, resolved};
-ghost use Rattle.gix_ref_queries.specs.Rows.{IsRowError, IsShownShort, IsUnfollowed, IsUnreadRow, IsUnreadShort, SeesFollowedRow, SeesRow, SeesRows, counted, followed_row, ordered, row_made, row_of, row_texts, rows_of, shown_short};
+ghost use Rattle.gix_ref_queries.specs.Rows.{IsRowError, IsUnfollowed, IsUnreadRow, IsUnreadShort, SeesFollowedRow, SeesRow, SeesRows, SeesShown, counted, followed_row, ordered, row_made, row_of, row_texts, rows_of, shown_short};
 
 use crate::format::{Part, row, shows_short};
 use crate::resolve::{End, Followed, follow};
@@ -45,8 +45,8 @@ fn shown_short<'r, F: Files>(
 ) -> Result<&'r [u8], RowError<'r>>
     ensures short { OfTargets F.honest F.means store.old (λ find. IfOk result
         (λ short. short.now ≡ shown_short find parts.now (full_ref_bytes name.entry))) }
-    ensures shown { IfOk result
-        (λ short. IsShownShort parts.now (full_ref_bytes name.entry) short.now) }
+    ensures seen { F.honest → IfOk result (λ short. SeesShown F.means store.old parts.now
+        (full_ref_bytes name.entry) short.now) }
     ensures failed { IfErr result (IsRowError (IsUnreadShort F.honest F.means F.faults
         F.Reader.ReadAt store.old parts.now (full_ref_bytes name.entry))
         (full_ref_bytes name.entry)) }

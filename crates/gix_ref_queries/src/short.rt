@@ -4,7 +4,7 @@ ghost use Rattle.gix_ref_store.specs.Lookup.{LooksUp};
 ghost use Rattle.gix_ref_queries.specs.Patterns.{texts};
 ghost use Rattle.gix_ref_queries.specs.Resolving.{OfTargets};
 ghost use Rattle.gix_ref_queries.specs.Rows.{row_texts};
-ghost use Rattle.gix_ref_queries.specs.Shortening.{IsAskedAfter, IsAskedAmong, IsAskedBy, IsAskedFor, IsNoShort, IsShortBy, IsShortOf, decided, full_names, is_clear_among, leads_to_object, lent_bytes, short_after, short_by, short_name};
+ghost use Rattle.gix_ref_queries.specs.Shortening.{IsAskedAfter, IsAskedAmong, IsAskedBy, IsAskedFor, IsNoShort, IsShortBy, IsShortOf, SeesClear, SeesDecided, SeesLeads, SeesShort, SeesShortAfter, SeesShortBy, decided, full_names, is_clear_among, leads_to_object, lent_bytes, short_after, short_by, short_name};
 
 use crate::resolve::{End, Followed, follow};
 use gix_ref_files::files::Files;
@@ -41,6 +41,7 @@ fn leads_to_object<F: Files>(
 ) -> Result<bool, ShortError>
     ensures leads { OfTargets F.honest F.means store.old
         (λ find. IfOk result (λ leads. leads ≡ leads_to_object find name.now)) }
+    ensures seen { F.honest → IfOk result (SeesLeads F.means store.old name.now) }
     ensures failed { IfErr result (IsNoShort F.Reader.ReadAt F.honest F.means F.faults
         (λ find full. full ≡ name.now) store.old) }
     ensures unchanged { LooksUp F.honest F.means store.old store.new }
@@ -102,6 +103,8 @@ fn decided<F: Files>(
 ) -> Result<Option<bool>, ShortError>
     ensures decides { OfTargets F.honest F.means store.old
         (λ find. IfOk result (λ clear. clear ≡ decided find strict name.now full.now)) }
+    ensures seen { F.honest →
+        IfOk result (SeesDecided F.means store.old strict name.now full.now) }
     ensures failed { IfErr result (IsNoShort F.Reader.ReadAt F.honest F.means F.faults
         (IsAskedAmong strict name.now (full.now ∷ [])) store.old) }
     ensures unchanged { LooksUp F.honest F.means store.old store.new }
@@ -125,6 +128,8 @@ fn is_clear_among<F: Files>(
 ) -> Result<bool, ShortError>
     ensures clear { OfTargets F.honest F.means store.old (λ find. IfOk result
         (λ clear. clear ≡ is_clear_among find strict name.now (row_texts names.now))) }
+    ensures seen { F.honest →
+        IfOk result (SeesClear F.means store.old strict name.now (row_texts names.now)) }
     ensures failed { IfErr result (IsNoShort F.Reader.ReadAt F.honest F.means F.faults
         (IsAskedAmong strict name.now (row_texts names.now)) store.old) }
     ensures unchanged { LooksUp F.honest F.means store.old store.new }
@@ -149,6 +154,8 @@ fn short_after<'n, F: Files>(
 ) -> Result<Option<&'n [u8]>, ShortError>
     ensures short { OfTargets F.honest F.means store.old (λ find. IfOk result
         (λ short. lent_bytes short ≡ short_after find strict name.now prefix.now)) }
+    ensures seen { F.honest → IfOk result (λ short. SeesShortAfter F.means store.old strict
+        name.now prefix.now (lent_bytes short)) }
     ensures rest { IfOk result (λ short. IfSome short
         (λ rest. name.now ≡ prefix.now ++ rest.now)) }
     ensures failed { IfErr result (IsNoShort F.Reader.ReadAt F.honest F.means F.faults
@@ -175,6 +182,8 @@ fn short_by<'n, F: Files>(
 ) -> Result<&'n [u8], ShortError>
     ensures short { OfTargets F.honest F.means store.old (λ find. IfOk result
         (λ short. short.now ≡ short_by find strict name.now (texts prefixes.now))) }
+    ensures seen { F.honest → IfOk result (λ short. SeesShortBy F.means store.old strict name.now
+        (texts prefixes.now) short.now) }
     ensures rest { IfOk result (λ short. IsShortBy name.now (texts prefixes.now) short.now) }
     ensures failed { IfErr result (IsNoShort F.Reader.ReadAt F.honest F.means F.faults
         (IsAskedBy strict name.now (texts prefixes.now)) store.old) }
@@ -205,6 +214,8 @@ pub fn short_name<'n, F: Files>(
 ) -> Result<&'n [u8], ShortError>
     ensures short { OfTargets F.honest F.means store.old
         (λ find. IfOk result (λ short. short.now ≡ short_name find strict name.now)) }
+    ensures seen { F.honest →
+        IfOk result (λ short. SeesShort F.means store.old strict name.now short.now) }
     ensures rest { IfOk result (λ short. IsShortOf name.now short.now) }
     ensures failed { IfErr result (IsNoShort F.Reader.ReadAt F.honest F.means F.faults
         (IsAskedFor strict name.now) store.old) }

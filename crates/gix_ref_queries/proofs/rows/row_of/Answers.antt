@@ -48,7 +48,7 @@ returns-in-Err-clause-failed g c =
 pub returns-in_ok-text-in-Object-clause-seen : goal.returns-in_ok-text-in-Object-clause-seen
 returns-in_ok-text-in-Object-clause-seen g c h =
     sees_direct g.F.Files.means c.args.store.now c.args.parts.now c.args.reference.now _ (full_ref_bytes c.as_ref-name.result) c.to_path.result.now c.in-Ok.short.now c.in_ok-text-in-Object.text.items c.in-Object.is
-    c.as_ref-name.ensures (c.to_path.ensures.bytes ∙ c.as_ref-name.ensures) c.in-Ok.ensures.shown c.in_ok-text-in-Object.ensures
+    c.as_ref-name.ensures (c.to_path.ensures.bytes ∙ c.as_ref-name.ensures) (c.in-Ok.ensures.seen h) c.in_ok-text-in-Object.ensures
 
 pub returns-in-Symbolic-clause-seen : goal.returns-in-Symbolic-clause-seen
 returns-in-Symbolic-clause-seen g c h =
@@ -60,5 +60,5 @@ returns-in-Symbolic-clause-seen g c h =
     let short = c.in-Ok.short.now in
     let texts = λ (row : Option (Vec ℕ Global)). option_map (λ (text : Vec ℕ Global). text.items) row in
     if_ok c.followed_row.result (λ o. SeesFollowedRow F.means mid parts name short (texts o)) (λ o. SeesRow F.means old parts c.args.reference.now (texts o))
-    (λ o saw. sees_led F.honest F.means old mid c.shown_short.ensures.unchanged h parts c.args.reference.now c.in-Symbolic.field-0 name name short (texts o) c.in-Symbolic.is c.as_ref-name.ensures c.as_ref-name.ensures c.in-Ok.ensures.shown saw)
+    (λ o saw. sees_led F.honest F.means old mid c.shown_short.ensures.unchanged h parts c.args.reference.now c.in-Symbolic.field-0 name name short (texts o) c.in-Symbolic.is c.as_ref-name.ensures c.as_ref-name.ensures (c.in-Ok.ensures.seen h) saw)
     (c.followed_row.ensures.seen h)

@@ -4,7 +4,7 @@ use Rattle.gix_ref_queries.specs.Resolving.{targets_in}
 use Rattle.gix_ref_queries.specs.Rows.{row_texts}
 use Rattle.gix_ref_queries.specs.Shortening.{IsAskedAfter, IsAskedAmong, lent_bytes}
 use Rattle.gix_ref_queries.proofs.Names.{looks_none}
-use Rattle.gix_ref_queries.proofs.ShortLemmas.{no_short_from, rest_is, short_is}
+use Rattle.gix_ref_queries.proofs.ShortLemmas.{no_short_from, rest_is, sees_after, short_is}
 use Rattle.gix_ref_queries.proofs.short.short_after.Goals.{then-clear, else-clear}
 use Rattle.gix_ref_queries.proofs.short.short_after.Goals as goal
 
@@ -43,3 +43,14 @@ returns-in-Ok-clause-rest g c =
       | then-clear w ↦ subst is (sym w.result-is) (rest_is name prefix c.in-Some.short.now c.in-Some.ensures.cases.0 c.in-Some.ensures.cases.1)
       | else-clear w ↦ subst is (sym w.result-is) tt
     ]
+
+pub returns-in-Ok-clause-seen : goal.returns-in-Ok-clause-seen
+returns-in-Ok-clause-seen g c h =
+    let short = c.in-Some.short.now in
+    let either = λ (b : Bool). let o : Option (List ℕ) = if b then Some short else None in o in
+    sees_after g.F.Files.means c.args.store.now c.args.strict c.in-Ok.clear c.args.name.now c.args.prefix.now short (row_texts c.deref.result.now) (lent_bytes c.if-clear.result) c.in-Some.ensures.cases.0 c.in-Some.ensures.cases.1
+    (ap row_texts c.deref.ensures.value ∙ c.in_ok-names.ensures) (c.in-Ok.ensures.seen h)
+    (elim c.if-clear.branch [
+      | then-clear w ↦ ap lent_bytes w.result-is ∙ sym (ap either w.if-clear.true)
+      | else-clear w ↦ ap lent_bytes w.result-is ∙ sym (ap either w.if-clear.false)
+    ])

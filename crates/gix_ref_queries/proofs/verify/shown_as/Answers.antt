@@ -6,7 +6,7 @@ use Rattle.gix_ref_queries.proofs.verify.shown_as.Goals as goal
 pub returns-then-short-clause-shown : goal.returns-then-short-clause-shown
 returns-then-short-clause-shown g c =
     let F = g.F.Files in
-    shown_short F.honest F.means c.args.store.now c.args.short c.args.name.now c.short_name.result c.if-short.true c.short_name.ensures.short
+    shown_short F.honest F.means c.args.store.now c.args.short c.args.name.now c.short_name.result c.if-short.true c.short_name.ensures.seen c.short_name.ensures.short
 
 pub returns-else-short-clause-shown : goal.returns-else-short-clause-shown
 returns-else-short-clause-shown g c =
