@@ -38,6 +38,15 @@ use Rattle.gix_ref_session.specs.declared.fatal.Fatal.TheVariants as fatals
 use Rattle.gix_ref_session.proofs.FolderLemmas.{taken_here}
 use Rattle.gix_ref_session.proofs.LeadLemmas.{next_one}
 use Rattle.gix_ref_session.proofs.Looking.{looks_on, looks_same}
+use Rattle.gix_ref_session.proofs.SeenClashes.{clash_before as seen_before}
+
+pub own_there : (name : List ℕ) (read : Option TargetValue) → is_some read ≡ true → missing_own name read ≡ None
+own_there name None there = cc
+own_there name (Some target) there = refl
+
+pub own_missing : (name : List ℕ) (read : Option TargetValue) → is_some read ≡ false → missing_own name read ≡ Some name
+own_missing name None missing = refl
+own_missing name (Some target) missing = cc
 
 -- The name that an edit makes.
 module _ (find : TargetsByName) (edit : RefEdit) where
@@ -52,14 +61,6 @@ module _ (find : TargetsByName) (edit : RefEdit) where
 
   makes_own : is_some (matched (expected_of edit.change)) ≡ false → edit.deref ≡ false → made_name find edit ≡ missing_own (name_of edit) (find (name_of edit))
   makes_own not direct = may_make not ∙ ap (λ (b : Bool). if b then missing_last (resolved find 5 (name_of edit)) else missing_own (name_of edit) (find (name_of edit))) direct
-
-  own_there : (name : List ℕ) (read : Option TargetValue) → is_some read ≡ true → missing_own name read ≡ None
-  own_there name None there = cc
-  own_there name (Some target) there = refl
-
-  own_missing : (name : List ℕ) (read : Option TargetValue) → is_some read ≡ false → missing_own name read ≡ Some name
-  own_missing name None missing = refl
-  own_missing name (Some target) missing = cc
 
   pub makes_not : is_some (matched (expected_of edit.change)) ≡ false → edit.deref ≡ false → is_some (find (name_of edit)) ≡ true → made_name find edit ≡ None
   makes_not not direct there = makes_own not direct ∙ own_there (name_of edit) (find (name_of edit)) there
@@ -259,6 +260,7 @@ module _ {F : Type 0} (honest : Type 0) (means : F → Meaning) (old mid : Store
     clash_before edits name edit clash = record {
       makes = makes_before edit name clash.makes;
       in_the_way = λ h records are. way_before records edits name h (clash.in_the_way h records (same_records honest means old mid records looked h are));
+      seen = λ h. seen_before honest means faults old mid looked h edits edit name (clash.seen h);
     }
 
     module _ {R : Type 0} (G : Ghosts R) where

@@ -12,10 +12,10 @@ take_front [] rest = refl
 take_front (b ∷ front) rest = ap (λ (xs : List ℕ). b ∷ xs) (take_front front rest)
 
 -- a folder is what stands before its place
-is_front : (at : ℕ) (folder name : List ℕ) → IsFolderAt at folder name → folder ≡ take at name
+pub is_front : (at : ℕ) (folder name : List ℕ) → IsFolderAt at folder name → folder ≡ take at name
 is_front at folder name (of, long) = sym (ap (λ (n : ℕ). take n name) (sym long) ∙ (ap (take (length folder)) of.is ∙ take_front folder (47 ∷ of.rest)))
 
-is_shorter : (folder name : List ℕ) → IsFolderOf folder name → length folder < length name
+pub is_shorter : (folder name : List ℕ) → IsFolderOf folder name → length folder < length name
 is_shorter folder name of = omega (arith, ap length of.is, length-append folder (47 ∷ of.rest))
 
 module _ (find : TargetsByName) (edits : List RefEdit) (name : List ℕ) where

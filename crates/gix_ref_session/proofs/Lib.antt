@@ -12,6 +12,7 @@ pub mod Looking
 pub mod NameLists
 pub mod QuoteLemmas
 pub mod Resting
+pub mod SeenClashes
 pub mod Serving
 pub mod Settling
 pub mod Trying

@@ -22,7 +22,7 @@ module _ {F : Type 0} (honest : Type 0) (means : F → Meaning) (faults : F → 
   pub looked_leaves : (old new : Store F) → LooksUp honest means old new → honest → Leaves (means (files_of old)) (means (files_of new)) (IsTryStop honest means faults committer read edits old)
   looked_leaves old new looked h = weaken (looked.leaves h) (λ T same. inl same)
 
-  pub led_leaves : (old at new : Store F) (led : List RefEdit) → LooksUp honest means old at → AreClear honest means old edits → AreLed (LeadsIn honest means old (is_some committer)) edits led → (honest → Leaves (means (files_of at)) (means (files_of new)) (IsEditStop honest means faults committer at led)) → honest →
+  pub led_leaves : (old at new : Store F) (led : List RefEdit) → LooksUp honest means old at → AreClear honest means faults old edits → AreLed (LeadsIn honest means old (is_some committer)) edits led → (honest → Leaves (means (files_of at)) (means (files_of new)) (IsEditStop honest means faults committer at led)) → honest →
       Leaves (means (files_of old)) (means (files_of new)) (IsTryStop honest means faults committer read edits old)
   led_leaves old at new led looked clear are leaves h = joins (looked_leaves old at looked h) (weaken (leaves h) (λ T stop. inr (at, led, looked, clear, are, stop)))
 
@@ -30,7 +30,7 @@ module _ {F : Type 0} (honest : Type 0) (means : F → Meaning) (faults : F → 
   pub looked_loses : (old new : Store F) → LooksUp honest means old new → honest → Loses (means (files_of old)) (means (files_of new)) (IsTryLoss honest means faults committer read edits old)
   looked_loses old new looked h = losses (IsTryLoss honest means faults committer read edits old) (λ D is T lost. inl (kept means (files_of old) T (subst (λ (E : Disk). Lost E T) is lost))) (looked.passes h)
 
-  pub led_loses : (old at new : Store F) (led : List RefEdit) → LooksUp honest means old at → AreClear honest means old edits → AreLed (LeadsIn honest means old (is_some committer)) edits led →
+  pub led_loses : (old at new : Store F) (led : List RefEdit) → LooksUp honest means old at → AreClear honest means faults old edits → AreLed (LeadsIn honest means old (is_some committer)) edits led →
       (honest → HasGoodRecords means at → IsAtRest means at → Loses (means (files_of at)) (means (files_of new)) (IsLossOf honest means faults uses at committer led)) → honest → HasGoodRecords means old → IsAtRest means old →
       Loses (means (files_of old)) (means (files_of new)) (IsTryLoss honest means faults committer read edits old)
   led_loses old at new led looked clear are loses h good at_rest =

@@ -1,5 +1,5 @@
 -- Names that are in one another's way: of `refs/heads/a` and `refs/heads/a/b` only one may exist (`git update-ref`).
-use Rattle.std.specs.Prelude.{◌≡◌, ◌<◌, ◌⊎◌, ℕ, List, [], ◌∷◌, ◌++◌, length, map, codes, Bool, true, if◌then◌else◌, Option, Some, None, is_some, IfSome, IsSome, MatchBool}
+use Rattle.std.specs.Prelude.{◌≡◌, ◌<◌, ◌⊎◌, ℕ, List, [], ◌∷◌, ◌++◌, length, map, codes, Bool, true, false, if◌then◌else◌, Option, Some, None, Result, Ok, is_some, IfSome, IsSome, MatchBool}
 use Rattle.std.specs.Cmp.Lexicographic.{slice_cmp}
 use Rattle.std.specs.List.{AllByRecursion, Any, Contains}
 use Rattle.std.specs.List.Sorted.{IsPermutation, IsSorted}
@@ -10,7 +10,11 @@ use Rattle.gix_ref_edits.specs.declared.transaction.RefEdit.{RefEdit}
 use Rattle.gix_ref_files.specs.Files.{Meaning, FaultCounts}
 use Rattle.gix_ref_files.specs.declared.files.ReadAt.{Ghosts}
 use Rattle.gix_ref_listing.specs.Listings.{Listed}
+use Rattle.gix_ref_listing.specs.LooseListings.{IsLooseListed}
+use Rattle.gix_ref_listing.specs.OwedNames.{IsDue}
+use Rattle.gix_ref_listing.specs.PackedTexts.{Ascends}
 use Rattle.gix_ref_listing.specs.WholeListings.{IsListing, IsNameOrMet}
+use Rattle.gix_ref_listing.specs.declared.error.Error.{Error as ItemError}
 use Rattle.gix_ref_listing.specs.declared.list.LooseNames.{LooseNames}
 use Rattle.gix_ref_listing.specs.declared.prefix.Error.{Error as ListError}
 use Rattle.gix_ref_lookup.specs.declared.find.error.Error.{Error as FindError}
@@ -18,10 +22,13 @@ use Rattle.gix_ref_name.specs.NameGrammar.{full_error}
 use Rattle.gix_ref_name.specs.Names.{full_bytes}
 use Rattle.gix_ref_name.specs.declared.name.FullName.{FullName}
 use Rattle.gix_ref_packed.specs.declared.packed.buffer.Buffer.{Buffer}
-use Rattle.gix_ref_queries.specs.Resolving.{TargetsByName, NameEnd, Missing, Reached, TooDeep, IsUnfollowedBy, IsUnreadBy, targets_in, resolved}
-use Rattle.gix_ref_store.specs.Listings.{AreHeldFor, IsNoListing, IsWalkedIn, walked_prefix}
+use Rattle.gix_ref_packed_text.specs.declared.raw.Reference.{Reference}
+use Rattle.gix_ref_queries.specs.Resolving.{TargetsByName, NameEnd, Missing, Reached, TooDeep, IsUnfollowedBy, IsUnreadBy, SeesEnd, SeesTarget, targets_in, resolved}
+use Rattle.gix_ref_store.specs.Listings.{AreHeldFor, FollowsWalked, IsNoListing, IsRightSince, IsWalkedIn, NextItem, OfPackedText, walked_prefix}
 use Rattle.gix_ref_store.specs.Lookup.{AreRecordsIn, LooksUp, settings_of, view_in}
 use Rattle.gix_ref_store.specs.Store.{files_of}
+use Rattle.gix_ref_store.specs.declared.file.iter.LooseThenPacked.{LooseThenPacked}
+use Rattle.gix_ref_store.specs.declared.file.iter.Remaining.{Remaining}
 use Rattle.gix_ref_store.specs.declared.file.store.Store.{Store}
 use Rattle.gix_ref_target.specs.PackedRecords.{Record}
 use Rattle.gix_ref_target.specs.Targets.{TargetValue}
@@ -151,19 +158,123 @@ module _ {F : Type 0} (honest : Type 0) (means : F → Meaning) where
       (edits : List RefEdit) → AreNamesOf edits names →
       HasFreeFolders (targets_in means store records) edits last → P records edits
 
-  -- The edits are clear of one another and of the references of a store: of the names that they make, none has a folder that is
-  -- taken, and nothing is listed below one.
-  abbrev pub AreClear : Store F → List RefEdit → Type 0
-  AreClear store edits = honest → (records : List Record) → AreRecordsIn means store records →
-      AllByRecursion (IsClearEdit (targets_in means store records) edits (ListsNone store records))
-      edits
-
   -- an edit makes a reference of this name
   abbrev pub Makes : Store F → RefEdit → (name : List ℕ) → Type 0
   Makes store edit name = honest → (records : List Record) → AreRecordsIn means store records →
       made_name (targets_in means store records) edit ≡ Some name
 
+-- What is seen of names on any text of `packed-refs`.
+module _ {F : Type 0} (means : F → Meaning) (store : Store F) where
+  -- by a lookup there is a reference of a name, or not
+  abbrev pub SeesThere : (name : List ℕ) → (there : Bool) → Type 0
+  SeesThere name there = (target : Option TargetValue) × SeesTarget means store name target
+      × (there ≡ is_some target)
+
+  -- where the chain of a name ends, if there is no reference there
+  abbrev pub SeesMissingEnd : (name : List ℕ) → (last : Option (List ℕ)) → Type 0
+  SeesMissingEnd name last = (end : NameEnd) × SeesEnd means store 5 name end
+      × (last ≡ missing_last end)
+
+  -- the name of which an edit makes a reference, as `made_name`
+  abbrev pub SeesMade : RefEdit → (made : Option (List ℕ)) → Type 0
+  SeesMade edit made =
+      ((is_some (matched (expected_of edit.change)) ≡ true) × (made ≡ None))
+      ⊎ ((is_some (matched (expected_of edit.change)) ≡ false)
+      × MatchBool edit.deref (SeesMissingEnd (name_of edit) made)
+      ((target : Option TargetValue) × SeesTarget means store (name_of edit) target
+      × (made ≡ missing_own (name_of edit) target)))
+
+  module _ (edits : List RefEdit) where
+    -- a name is taken: there is a reference of it, or an edit of it; or it is not
+    abbrev pub SeesTaken : (name : List ℕ) → (taken : Bool) → Type 0
+    SeesTaken name taken = MatchBool taken (SeesThere name true ⊎ Contains (map name_of edits) name)
+        (SeesThere name false × (Contains (map name_of edits) name → ⊥))
+
+    -- a folder of a name that ends before this place is taken; or none is that ends there
+    abbrev pub SeesTakenAt : (at : ℕ) → (name : List ℕ) → (taken : Bool) → Type 0
+    SeesTakenAt at name taken = MatchBool taken
+        ((folder : List ℕ) × IsFolderAt at folder name × SeesTaken folder true)
+        ((folder : List ℕ) → IsFolderAt at folder name → SeesTaken folder false)
+
+    -- a name is below one that is taken
+    abbrev pub SeesBelowTaken : (name : List ℕ) → Type 0
+    SeesBelowTaken name = (folder : List ℕ) × IsFolderOf folder name × SeesTaken folder true
+
+    -- no folder of a name is that ends before this place
+    abbrev pub SeesFreeBefore : (at : ℕ) → (name : List ℕ) → Type 0
+    SeesFreeBefore at name = (folder : List ℕ) → IsFolderOf folder name → length folder < at →
+        SeesTaken folder false
+
+    -- none is
+    abbrev pub SeesFreeFolders : (name : List ℕ) → Type 0
+    SeesFreeFolders name = (folder : List ℕ) → IsFolderOf folder name → SeesTaken folder false
+
+-- This holds of the edits that have these names, where the files are honest.
+abbrev pub OfEdited : (honest : Type 0) → (names : List (Bor (List ℕ))) →
+    (List RefEdit → Type 0) → Type 0
+OfEdited honest names P = honest → (edits : List RefEdit) → AreNamesOf edits names → P edits
+
 module _ {F : Type 0} (honest : Type 0) (means : F → Meaning) (faults : F → FaultCounts) where
+  -- On any text of `packed-refs`, a listing of a prefix gave an item when the store was looked at. It is a right one: a loose reference, a
+  -- record that begins a line, or a fault that was met.
+  pub record SeesListed (store : Store F) (prefix : List ℕ) : Type 0 where
+    pub start : Store F
+    pub looked : LooksUp honest means store start
+    pub item : Result Reference ItemError
+    pub last : FaultCounts
+    pub right : OfPackedText means start prefix
+        (λ text. IsRightSince honest means faults start prefix text last item)
+
+  -- It gave none: there is no loose reference of the prefix, and none is due by a line of a record's form where names ascend.
+  pub record SeesNone (store : Store F) (prefix : List ℕ) : Type 0 where
+    pub start : Store F
+    pub looked : LooksUp honest means store start
+    pub loose : (name : List ℕ) →
+        IsLooseListed (settings_of start) (view_in means start) prefix name → ⊥
+    pub due : OfPackedText means start prefix
+        (λ text. Ascends text → (name : List ℕ) → IsDue (settings_of start) text name → ⊥)
+
+  abbrev pub SeesBelow : Store F → (prefix : List ℕ) → (any : Bool) → Type 0
+  SeesBelow store prefix any = MatchBool any (SeesListed store prefix) (SeesNone store prefix)
+
+  -- an iterator over the names of a walk and the records of a buffer gives an item, or none
+  abbrev pub GivesOne : (store : Store F) → LooseNames → Option (Bor Buffer) → (any : Bool) →
+      Type 0
+  GivesOne store names packed any = (it : LooseThenPacked F Remaining)
+      × (next : LooseThenPacked F Remaining) × (item : Option (Result Reference ItemError))
+      × FollowsWalked honest means faults store names packed (Ok it)
+      × NextItem honest means faults it item next × (any ≡ is_some item)
+
+  -- on any text of `packed-refs`, a name is in the way of another: it is below one that is taken, or one is listed below it
+  abbrev pub SeesInTheWay : Store F → List RefEdit → (name : List ℕ) → Type 0
+  SeesInTheWay store edits name = SeesBelowTaken means store edits name
+      ⊎ SeesListed store (front_below name)
+
+  -- or it is clear: none of its folders is taken, and nothing is listed below it
+  abbrev pub SeesClearName : Store F → List RefEdit → (name : List ℕ) → Type 0
+  SeesClearName store edits name = SeesFreeFolders means store edits name
+      × SeesNone store (front_below name)
+
+  -- which of these it is, where the folders of `last` are free
+  abbrev pub SeesClashes : Store F → List RefEdit → (last name : List ℕ) → (clashes : Bool) → Type 0
+  SeesClashes store edits last name clashes = MatchBool clashes (SeesInTheWay store edits name)
+      (SeesFreeFolders means store edits last → SeesClearName store edits name)
+
+  -- the name that an edit makes is clear
+  abbrev pub SeesClearEdit : Store F → List RefEdit → RefEdit → Type 0
+  SeesClearEdit store edits edit = (made : Option (List ℕ)) × SeesMade means store edit made
+      × IfSome made (SeesClearName store edits)
+
+  -- The edits are clear of one another and of the references of a store: of the names that they make, none has a folder that is
+  -- taken, and nothing is listed below one. That is said by records where `packed-refs` is well formed or missing, and on any text of it
+  -- by what lookups and listings saw.
+  pub record AreClear (store : Store F) (edits : List RefEdit) : Type 0 where
+    pub clear : honest → (records : List Record) → AreRecordsIn means store records →
+        AllByRecursion
+        (IsClearEdit (targets_in means store records) edits (ListsNone honest means store records))
+        edits
+    pub seen : honest → AllByRecursion (SeesClearEdit store edits) edits
+
   -- The listing of a prefix has an item: a reference, or a folder that could not be listed, by a fault that was counted when the
   -- store was looked at.
   pub record ListsOne (store : Store F) (records : List Record) (prefix : List ℕ) : Type 0 where
@@ -194,12 +305,14 @@ module _ {F : Type 0} (honest : Type 0) (means : F → Meaning) (faults : F → 
   IsInTheWay store edits records name = IsBelowTaken (targets_in means store records) edits name
       ⊎ ListsOne store records (front_below name)
 
-  -- an edit makes a reference of this name, which is in the way of another
+  -- An edit makes a reference of this name, which is in the way of another: where `packed-refs` is well formed or missing, by its
+  -- records, and on any text of it, by what lookups and a listing saw.
   pub record IsClash (store : Store F) (edits : List RefEdit) (name : List ℕ)
       (edit : RefEdit) : Type 0 where
     pub makes : Makes honest means store edit name
     pub in_the_way : honest → (records : List Record) → AreRecordsIn means store records →
         IsInTheWay store edits records name
+    pub seen : honest → SeesMade means store edit (Some name) × SeesInTheWay store edits name
 
   module _ {R : Type 0} (G : Ghosts R) where
     -- the listing of a prefix failed with this error, when the store was looked at

@@ -40,7 +40,8 @@ is_named None name = false
 
 -- An update of that branch is made through `HEAD`, whose log gets its line too; but if the branch is symbolic, by its target, only
 -- where it is followed.
-abbrev pub is_through_head : (own : Option TargetValue) → (branch : Option (List ℕ)) → RefEdit → Bool
+abbrev pub is_through_head : (own : Option TargetValue) → (branch : Option (List ℕ)) → RefEdit →
+    Bool
 is_through_head own branch edit = is_named branch (name_of edit) && (updates edit.change
     && (edit.deref || is_none (next_of own)))
 

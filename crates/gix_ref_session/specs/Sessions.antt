@@ -136,8 +136,8 @@ module _ {F R : Type 0} (G : Ghosts R) (honest : Type 0) (means : F → Meaning)
       IsCommitted honest means faults session.committer old new edits
       × Appends out now (codes "commit: ok\n")
   ClosedBy closings.Commit old new edits out now (Err fatal) =
-      (CommitFailed honest means faults session.committer (HasReadFault G.faults) fatal old new edits
-      × Appends out now [])
+      (CommitFailed honest means faults session.committer (HasReadFault G.faults) fatal
+      old new edits × Appends out now [])
       ⊎ (IsUnsaid fatal × IsCommitted honest means faults session.committer old new edits)
   ClosedBy closings.Abort old new edits out now (Ok true) =
       IsRolledBack honest means faults old new edits × Appends out now (codes "abort: ok\n")
@@ -182,7 +182,8 @@ module _ {F R : Type 0} (G : Ghosts R) (honest : Type 0) (means : F → Meaning)
   -- their commit failed; or after `prepare` they were not closed, and given up; or `abort` was read, they were given up, and the writer
   -- failed; or it did after they were committed, where that is answered
   PreparedEnds closing s t edits (Err fatal) =
-      (CommitFailed honest means faults session.committer (HasReadFault G.faults) fatal s.store t.store edits
+      (CommitFailed honest means faults session.committer (HasReadFault G.faults) fatal
+      s.store t.store edits
       × IsCommitHeard session closing s.input t.input
       × Appends s.output t.output (said_before closing))
       ⊎ (((closing ≡ closings.Prepare) × IsRolledBack honest means faults s.store t.store edits
@@ -214,8 +215,8 @@ module _ {F R : Type 0} (G : Ghosts R) (honest : Type 0) (means : F → Meaning)
       (result : Result Bool Fatal) : Type 0 where
     pub error : Cause
     pub is : result ≡ Err (fatals.Update (errors.Prepare error))
-    pub refused : IsRefused honest means faults session.committer (HasReadFault G.faults) (errors.Prepare error)
-        s.store t.store edits
+    pub refused : IsRefused honest means faults session.committer (HasReadFault G.faults)
+        (errors.Prepare error) s.store t.store edits
     pub input : t.input ≡ s.input
     pub output : t.output ≡ s.output
 
@@ -246,7 +247,9 @@ module _ {F R : Type 0} (G : Ghosts R) (honest : Type 0) (means : F → Meaning)
       (result : Result Bool Fatal) : Type 0 where
     pub tries : List Cause
     pub mid : Store F
-    pub were : AreDone (IsTried honest means faults session.committer (HasReadFault G.faults) edits) tries s.store mid
+    pub were : AreDone
+        (IsTried honest means faults session.committer (HasReadFault G.faults) edits)
+        tries s.store mid
     pub ends : TryEnds closing edits (record s { store = mid }) t result
     pub waited : HasWaited session tries result
 
@@ -273,7 +276,8 @@ module _ {F R : Type 0} (G : Ghosts R) (honest : Type 0) (means : F → Meaning)
   -- a stop in a transaction leaves this tree
   abbrev pub IsTurnStop : Tree → Turn → Way F → Type 0
   IsTurnStop T turn s = (T ≡ tree_of means s.store)
-      ⊎ IsTransactionStop honest means faults session.committer (HasReadFault G.faults) turn.gathered.edits s.store T
+      ⊎ IsTransactionStop honest means faults session.committer (HasReadFault G.faults)
+      turn.gathered.edits s.store T
 
   -- A loss of power in it leaves this tree: each file that was settled is as before, or it is what one in the transaction of its
   -- edits leaves.

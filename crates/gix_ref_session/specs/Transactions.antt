@@ -136,7 +136,7 @@ module _ {F : Type 0} (honest : Type 0) (means : F → Meaning) (faults : F → 
     pub at : Store F
     pub led : List RefEdit
     pub looked : LooksUp honest means old at
-    pub clear : AreClear honest means old edits
+    pub clear : AreClear honest means faults old edits
     pub are_led : AreLed (LeadsIn honest means old writes_lines) edits led
     pub ends : Ends at new led
 
@@ -150,7 +150,7 @@ module _ {F : Type 0} (honest : Type 0) (means : F → Meaning) (faults : F → 
     abbrev pub IsTryStop : Store F → Tree → Type 0
     IsTryStop old T = (T ≡ tree_of means old)
         ⊎ ((at : Store F) × (led : List RefEdit) × LooksUp honest means old at
-        × AreClear honest means old edits
+        × AreClear honest means faults old edits
         × AreLed (LeadsIn honest means old (is_some committer)) edits led
         × IsEditStop committer at led T)
 
@@ -159,7 +159,7 @@ module _ {F : Type 0} (honest : Type 0) (means : F → Meaning) (faults : F → 
     abbrev pub IsTryLoss : Store F → Tree → Type 0
     IsTryLoss old T = IsKept means (files_of old) T
         ⊎ ((at : Store F) × (led : List RefEdit) × LooksUp honest means old at
-        × AreClear honest means old edits
+        × AreClear honest means faults old edits
         × AreLed (LeadsIn honest means old (is_some committer)) edits led
         × IsLossOf honest means faults uses at committer led T)
 

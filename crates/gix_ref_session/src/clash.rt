@@ -1,6 +1,6 @@
 //! Names that are in one another's way: of `refs/heads/a` and `refs/heads/a/b` only one may exist (`git update-ref`).
 
-ghost use Rattle.std.specs.Prelude.{◌≡◌, ◌<◌, ℕ, List, length, map, true, false, Decides, IfErr, IfOk, MatchOption, OnOk, is_some};
+ghost use Rattle.std.specs.Prelude.{◌≡◌, ◌<◌, ℕ, List, length, map, true, false, Decides, IfErr, IfOk, MatchBool, MatchOption, OnOk, is_some};
 ghost use Rattle.std.specs.List.{Contains};
 ghost use Rattle.std.specs.Option.{option_map};
 ghost use Rattle.gix_ref_edits.specs.RefEdits.{expected_of, matched, name_of};
@@ -10,7 +10,7 @@ ghost use Rattle.gix_ref_queries.specs.Resolving.{IsUnfollowedBy, IsUnreadBy, Of
 ghost use Rattle.gix_ref_store.specs.Listings.{walked_prefix};
 ghost use Rattle.gix_ref_store.specs.Lookup.{AreRecordsIn, LooksUp};
 ghost use Rattle.gix_ref_target.specs.PackedRecords.{Record};
-ghost use Rattle.gix_ref_session.specs.Clashes.{AfterFree, AreClear, AreNamesOf, HasFreeFolders, IsBelowTaken, IsClashFailure, IsClearEditIn, IsClearIn, IsEditFailure, IsFindFailure, IsFreeBefore, IsFolderAt, IsFolderOf, IsFolderUnread, IsInTheWay, IsListFailure, IsNameFailure, IsOwnUnread, IsTaken, IsTakenAt, OfEdits, OfTaken, OfWalk, SaysListed, front_below, made_name, missing_last};
+ghost use Rattle.gix_ref_session.specs.Clashes.{AfterFree, AreClear, AreNamesOf, GivesOne, HasFreeFolders, IsBelowTaken, IsClashFailure, IsClearEditIn, IsClearIn, IsEditFailure, IsFindFailure, IsFreeBefore, IsFolderAt, IsFolderOf, IsFolderUnread, IsInTheWay, IsListFailure, IsNameFailure, IsOwnUnread, IsTaken, IsTakenAt, OfEdited, OfEdits, OfTaken, OfWalk, SaysListed, SeesBelow, SeesBelowTaken, SeesClashes, SeesClearEdit, SeesFreeBefore, SeesFreeFolders, SeesMade, SeesMissingEnd, SeesTaken, SeesTakenAt, SeesThere, front_below, made_name, missing_last};
 ghost use Rattle.gix_ref_session.specs.declared.fatal.Fatal.TheVariants.{Memory};
 
 use crate::fatal::Fatal;
@@ -31,6 +31,8 @@ fn exists<F: Files>(
 ) -> Result<bool, Fatal>
     ensures finds { OfTargets F.honest F.means store.old (λ find. IfOk result
         (λ there. there ≡ is_some (find (full_ref_bytes name.entry)))) }
+    ensures seen { F.honest →
+        IfOk result (SeesThere F.means store.old (full_ref_bytes name.entry)) }
     ensures unchanged { LooksUp F.honest F.means store.old store.new }
     ensures fails { IfErr result
         (IsFindFailure (IsUnreadBy F.Reader.ReadAt F.honest F.means F.faults store.old
@@ -53,6 +55,8 @@ fn missing_end<F: Files>(
     ensures ends { OfTargets F.honest F.means store.old (λ find. IfOk result
         (λ last. option_map full_bytes last
         ≡ missing_last (resolved find 5 (full_bytes name.now)))) }
+    ensures seen { F.honest → IfOk result (λ last. SeesMissingEnd F.means store.old
+        (full_bytes name.now) (option_map full_bytes last)) }
     ensures unchanged { LooksUp F.honest F.means store.old store.new }
     ensures fails { IfErr result
         (IsFindFailure (IsUnfollowedBy F.Reader.ReadAt F.honest F.means F.faults store.old
@@ -87,6 +91,8 @@ fn missing_name<F: Files>(
 ) -> Result<Option<FullName>, Fatal>
     ensures makes { OfTargets F.honest F.means store.old (λ find. IfOk result
         (λ name. option_map full_bytes name ≡ made_name find edit.now)) }
+    ensures seen { F.honest → IfOk result (λ name. SeesMade F.means store.old edit.now
+        (option_map full_bytes name)) }
     ensures unchanged { LooksUp F.honest F.means store.old store.new }
     ensures fails { IfErr result
         (IsFindFailure (IsOwnUnread F.honest F.means F.faults F.Reader.ReadAt store.old
@@ -122,6 +128,8 @@ fn is_taken<F: Files>(
 ) -> Result<bool, Fatal>
     ensures taken { OfTaken F.honest F.means store.old edited.now (λ find edits. IfOk result
         (λ taken. Decides taken (IsTaken find edits (full_ref_bytes name.entry)))) }
+    ensures seen { OfEdited F.honest edited.now (λ edits.
+        IfOk result (SeesTaken F.means store.old edits (full_ref_bytes name.entry))) }
     ensures unchanged { LooksUp F.honest F.means store.old store.new }
     ensures fails { IfErr result
         (IsFindFailure (IsUnreadBy F.Reader.ReadAt F.honest F.means F.faults store.old
@@ -157,6 +165,8 @@ fn is_folder_taken<F: Files>(
 ) -> Result<bool, Fatal>
     ensures taken { OfTaken F.honest F.means store.old edited.now (λ find edits. IfOk result
         (λ taken. Decides taken (IsTakenAt find edits at name.now))) }
+    ensures seen { OfEdited F.honest edited.now
+        (λ edits. IfOk result (SeesTakenAt F.means store.old edits at name.now)) }
     ensures unchanged { LooksUp F.honest F.means store.old store.new }
     ensures fails { IfErr result
         (IsFindFailure (IsFolderUnread F.honest F.means F.faults F.Reader.ReadAt store.old
@@ -195,6 +205,10 @@ fn is_below_one<F: Files>(
     ensures free { OfTaken F.honest F.means store.old edited.now (λ find edits.
         IsFreeBefore find edits from name.now → IfOk result
         (λ below. below ≡ false → HasFreeFolders find edits name.now)) }
+    ensures seen { OfEdited F.honest edited.now (λ edits. IfOk result (λ below. MatchBool below
+        (SeesBelowTaken F.means store.old edits name.now)
+        (SeesFreeBefore F.means store.old edits from name.now →
+        SeesFreeFolders F.means store.old edits name.now))) }
     ensures unchanged { LooksUp F.honest F.means store.old store.new }
     ensures fails { IfErr result
         (IsFindFailure (IsFolderUnread F.honest F.means F.faults F.Reader.ReadAt store.old
@@ -219,6 +233,8 @@ fn lists_one<F: Files>(
     ensures lists { OfWalk F.honest F.means F.faults store.old names packed.entry
         (λ start records. IfOk result
         (SaysListed F.honest F.means F.faults start records (walked_prefix names))) }
+    ensures seen { F.honest →
+        IfOk result (GivesOne F.honest F.means F.faults store.old names packed.entry) }
     ensures unchanged { LooksUp F.honest F.means store.old store.new }
     ensures memory { IfErr result (λ fatal. fatal ≡ Memory) }
 {
@@ -238,6 +254,8 @@ fn lists_one<F: Files>(
 fn has_below<F: Files>(alloc: Global, store: &mut Store<F>, prefix: &[u8]) -> Result<bool, Fatal>
     ensures lists { F.honest → (records : List Record) → AreRecordsIn F.means store.old records →
         IfOk result (SaysListed F.honest F.means F.faults store.old records prefix.now) }
+    ensures seen { F.honest →
+        IfOk result (SeesBelow F.honest F.means F.faults store.old prefix.now) }
     ensures unchanged { LooksUp F.honest F.means store.old store.new }
     ensures fails { IfErr result
         (IsListFailure F.honest F.means F.faults F.Reader.ReadAt store.old prefix.now) }
@@ -276,6 +294,8 @@ fn is_in_the_way<F: Files>(
     ensures clear { AfterFree F.honest F.means store.old edited.now last.now
         (λ records edits. IfOk result (λ clashes. clashes ≡ false →
         IsClearIn F.honest F.means store.old records edits (full_bytes name.now))) }
+    ensures seen { OfEdited F.honest edited.now (λ edits. IfOk result (SeesClashes F.honest F.means
+        F.faults store.old edits last.now (full_bytes name.now))) }
     ensures unchanged { LooksUp F.honest F.means store.old store.new }
     ensures fails { IfErr result
         (IsNameFailure F.honest F.means F.faults F.Reader.ReadAt store.old
@@ -305,6 +325,10 @@ fn check_name<F: Files>(
     ensures free { AfterFree F.honest F.means store.old edited.now last.items
         (λ records edits. IfOk result
         (λ name. HasFreeFolders (targets_in F.means store.old records) edits name.items)) }
+    ensures seen { OfEdited F.honest edited.now (λ edits. IfOk result
+        (λ name. SeesFreeFolders F.means store.old edits last.items →
+        SeesClearEdit F.honest F.means F.faults store.old edits edit.now
+        × SeesFreeFolders F.means store.old edits name.items)) }
     ensures unchanged { LooksUp F.honest F.means store.old store.new }
     ensures fails { (edits : List AnEdit) → AreNamesOf edits edited.now → IfErr result
         (IsEditFailure F.honest F.means F.faults F.Reader.ReadAt store.old edits edit.now) }
@@ -337,7 +361,7 @@ pub(crate) fn check_names<F: Files>(
     store: &mut Store<F>,
     edits: &[RefEdit],
 ) -> Result<(), Fatal>
-    ensures clear { OnOk result (AreClear F.honest F.means store.old edits.now) }
+    ensures clear { OnOk result (AreClear F.honest F.means F.faults store.old edits.now) }
     ensures unchanged { LooksUp F.honest F.means store.old store.new }
     ensures fails { IfErr result
         (IsClashFailure F.honest F.means F.faults F.Reader.ReadAt store.old edits.now) }

@@ -196,7 +196,7 @@ pub(crate) fn led_edits<F: Files>(
     writes_lines: bool,
     edits: &[RefEdit],
 ) -> Result<Vec<RefEdit>, Fatal>
-    ensures clear { OnOk result (AreClear F.honest F.means store.old edits.now) }
+    ensures clear { OnOk result (AreClear F.honest F.means F.faults store.old edits.now) }
     ensures led { IfOk result (λ led. AreLed
         (LeadsIn F.honest F.means store.old writes_lines) edits.now led.items) }
     ensures unchanged { LooksUp F.honest F.means store.old store.new }

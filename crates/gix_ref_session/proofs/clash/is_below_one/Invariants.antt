@@ -3,7 +3,7 @@ use Rattle.gix_ref_edits.specs.declared.transaction.RefEdit.{RefEdit}
 use Rattle.gix_ref_queries.specs.Resolving.{targets_in}
 use Rattle.gix_ref_store.specs.Lookup.{AreRecordsIn, LooksUp}
 use Rattle.gix_ref_target.specs.PackedRecords.{Record}
-use Rattle.gix_ref_session.specs.Clashes.{AreNamesOf, IsFreeBefore}
+use Rattle.gix_ref_session.specs.Clashes.{AreNamesOf, IsFreeBefore, SeesFreeBefore}
 use Rattle.gix_ref_session.proofs.clash.is_below_one.Given as goal
 
 -- no folder that ended before is taken
@@ -13,4 +13,5 @@ invariant-loop-at g l =
     record {
       looked : LooksUp F.honest F.means l.fn.store l.store;
       none : F.honest → (records : List Record) → AreRecordsIn F.means l.fn.store records → (edits : List RefEdit) → AreNamesOf edits l.edited → IsFreeBefore (targets_in F.means l.fn.store records) edits l.from l.name → IsFreeBefore (targets_in F.means l.fn.store records) edits l.at l.name;
+      seen : F.honest → (edits : List RefEdit) → AreNamesOf edits l.edited → SeesFreeBefore F.means l.fn.store edits l.from l.name → SeesFreeBefore F.means l.fn.store edits l.at l.name;
     }
