@@ -1,13 +1,9 @@
 # The packing that compare-writes-with-git compares.
 
-# table COPY: a line for each object that a reference of it points to, with the object at the end of its tags if it is a tag.
+# table COPY: a line for each object that a reference of it points to, and one with that at the end of its tags if it is a tag, as
+# docs/SESSION.md makes them.
 table() {
-    local id peeled
-    git -C "$work/$1" for-each-ref --format='%(objectname)' 2>/dev/null | LC_ALL=C sort -u | while read -r id; do
-        peeled=$(git -C "$work/$1" rev-parse -q --verify "$id^{}" 2>/dev/null) || continue
-        if [ "$peeled" = "$id" ]; then peeled=; fi
-        echo "$id $peeled"
-    done
+    git -C "$work/$1" show-ref -d 2>/dev/null | awk '/\^[{][}]$/ { print id, $1; next } { id = $1; print id }'
 }
 
 # shown COPY: how git lists the references of a copy, with the objects at the end of tags, and what it finds out of order there.
