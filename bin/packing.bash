@@ -1,9 +1,11 @@
 # The packing that compare-writes-with-git compares.
 
-# table COPY: a line for each object that a reference of it points to, and one with that at the end of its tags if it is a tag, as
+# table COPY: a line for each object that a reference of it points to, with the object at the end of its tags if it is a tag, as
 # docs/SESSION.md makes them.
 table() {
-    git -C "$work/$1" show-ref -d 2>/dev/null | awk '/\^[{][}]$/ { print id, $1; next } { id = $1; print id }'
+    git -C "$work/$1" for-each-ref --format='%(objectname)^{} %(objectname)' 2>/dev/null |
+        git -C "$work/$1" cat-file --batch-check='%(rest) %(objectname)' 2>/dev/null |
+        awk '!/missing$/ { print $1, ($1 == $2 ? "" : $2) }'
 }
 
 # shown COPY: how git lists the references of a copy, with the objects at the end of tags, and what it finds out of order there.
