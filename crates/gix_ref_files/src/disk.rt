@@ -6,6 +6,7 @@ ghost use Rattle.gix_ref_files.specs.declared.files.FileError.TheVariants.{Devic
 
 use crate::faults::Faults;
 use crate::files::{Create, Entry, FileError, Files, Node, ReadAt, Rename};
+use crate::made::MadeFiles;
 use crate::paths;
 use std::alloc::{AllocError, Global};
 use std::fs::{DirEntry, File, OpenOptions};
@@ -23,8 +24,8 @@ use std::{fmt, fs, io};
 /// waits for another program. What a path names is asked before it is opened; another program that puts a FIFO there
 /// between the two can still make a call wait.
 ///
-/// The file that `create_new` made last stays open until it is renamed or removed, or another one is made: so what is added to it and
-/// synced is one system call each.
+/// The file that `create_new` made last stays open until a file is renamed or removed, or another one is made: so what is added to it and
+/// synced is one system call each. Nor is a lock file that it made looked at before it is renamed or removed.
 ///
 /// The folder that `make_folders` found or made last is not looked at again. Where another program has removed it since, `create_new`
 /// makes it anew. Nor does `append` look again at the file that `kind` found last.
@@ -33,16 +34,9 @@ pub struct Disk {
     rt: HostRuntime,
     faults: Faults,
     syncs: bool,
-    made: Option<MadeFile>,
+    made: MadeFiles,
     folder: Option<Vec<u8>>,
     seen: String,
-}
-
-/// A file that was made and is open.
-#[derive(Drop)]
-struct MadeFile {
-    path: String,
-    file: File,
 }
 
 impl fmt::Debug for Disk {
@@ -83,6 +77,19 @@ fn text_of<'p>(faults: &mut Faults, path: &'p [u8]) -> Result<&'p str, FileError
     }
 }
 
+/// The disk of the process, with no fault counted and no file made.
+fn new_disk(rt: HostRuntime, syncs: bool) -> Disk {
+    let alloc = rt.alloc();
+    Disk {
+        rt,
+        faults: Faults::new(),
+        syncs,
+        made: MadeFiles::new(alloc),
+        folder: None,
+        seen: String::new(alloc),
+    }
+}
+
 impl Disk {
     /// The disk of the process, with no fault counted. Its calls are those of `std::fs`.
     ///
@@ -91,15 +98,7 @@ impl Disk {
     /// let store = Store::at(files, b".git".to_vec(alloc)?, Kind::Sha1)?;
     /// ```
     pub fn new(rt: HostRuntime) -> Self {
-        let seen = String::new(rt.alloc());
-        Disk {
-            rt,
-            faults: Faults::new(),
-            syncs: true,
-            made: None,
-            folder: None,
-            seen,
-        }
+        new_disk(rt, true)
     }
 
     /// The disk of the process, whose `sync_file` and `sync_folder` return true without a system call, as Git does by
@@ -111,35 +110,12 @@ impl Disk {
     /// let files = Disk::without_syncs(rt.clone()?); // for tests, and for repositories that can be fetched again
     /// ```
     pub fn without_syncs(rt: HostRuntime) -> Self {
-        let seen = String::new(rt.alloc());
-        Disk {
-            rt,
-            faults: Faults::new(),
-            syncs: false,
-            made: None,
-            folder: None,
-            seen,
-        }
+        new_disk(rt, false)
     }
 }
 
 impl Disk {
     ghost use Rattle.gix_ref_files.specs.Files.{CountsCall};
-
-    /// Closes the file that was made last. Returns its path, where that is this one.
-    fn close_made(&mut self, path: &[u8]) -> Option<String>
-        ensures { counts_of self.new.faults ≡ counts_of self.old.faults }
-    {
-        let MadeFile {
-            path: made,
-            file: _,
-        } = self.made.take()?;
-        if made.as_bytes() == path {
-            Some(made)
-        } else {
-            None
-        }
-    }
 
     /// Whether a path is that of the folder that `make_folders` found or made last.
     fn knows(&self, path: &[u8]) -> bool {
@@ -293,8 +269,8 @@ impl Files for Disk {
 
     /// One system call, and one to close the file that was made before.
     fn create_new(&mut self, path: &[u8]) -> Result<Create, FileError> {
-        self.made = None;
         let name = text_of(&mut self.faults, path)?;
+        self.made.close();
         let made = match make_file(&self.rt, name) {
             Err(error) if error.kind() == ErrorKind::NotFound && self.knows(paths::folder(path)) =>
                 { self.make_again(name) }
@@ -302,7 +278,7 @@ impl Files for Disk {
         };
         match made {
             Ok(file) => {
-                self.made = kept(self.rt.alloc(), name, file);
+                self.made.keep(self.rt.alloc(), name, file);
                 Ok(Create::Made)
             }
             Err(error) => match error.kind() {
@@ -334,10 +310,11 @@ impl Files for Disk {
 
     /// Four system calls; three for the file that `kind` found last, and one for the file that was made last.
     fn append(&mut self, path: &[u8], bytes: &[u8]) -> Result<bool, FileError> {
-        let appended = match &mut self.made {
-            Some(made) if made.path.as_bytes() == path => write_to(&mut made.file, bytes),
-            _ if self.seen.as_bytes() == path => append_to_seen(&self.rt, &self.seen, bytes),
-            _ => append_to(&self.rt, text_of(&mut self.faults, path)?, bytes),
+        let appended = match self.made.write(path, bytes) {
+            Some(Ok(())) => Ok(true),
+            Some(Err(error)) => Err(error),
+            None if self.seen.as_bytes() == path => append_to_seen(&self.rt, &self.seen, bytes),
+            None => append_to(&self.rt, text_of(&mut self.faults, path)?, bytes),
         };
         match appended {
             Ok(appended) => Ok(appended),
@@ -350,11 +327,10 @@ impl Files for Disk {
         }
     }
 
-    /// Two system calls: the first one looks whether it is a file, since the second would move a folder too. For the file that was made
-    /// last the second alone, and one that closes it.
+    /// Two system calls: the first one looks whether it is a file, since the second would move a folder too. For a file that was made last,
+    /// and for a lock file that was made here, the second alone. One more closes the file that was made last.
     fn rename(&mut self, from: &[u8], to: &[u8]) -> Result<Rename, FileError> {
-        let made = self.close_made(from);
-        let renamed = match &made {
+        let renamed = match &self.made.take(from) {
             Some(from) => move_file(&self.rt, from, text_of(&mut self.faults, to)?),
             None => {
                 let from = text_of(&mut self.faults, from)?;
@@ -367,14 +343,19 @@ impl Files for Disk {
         }
     }
 
-    /// Two system calls: the first one looks whether it is a file.
+    /// Two system calls: the first one looks whether it is a file. For a file that was made last, and for a lock file that was
+    /// made here, the second alone. One more closes the file that was made last.
     fn remove_file(&mut self, path: &[u8]) -> Result<bool, FileError> {
-        self.made = None;
-        let path = text_of(&mut self.faults, path)?;
-        match remove_if_file(&self.rt, path) {
+        let removed = match &self.made.take(path) {
+            Some(path) => remove_made(&self.rt, path),
+            None => remove_if_file(&self.rt, text_of(&mut self.faults, path)?),
+        };
+        match removed {
             Ok(removed) => Ok(removed),
             Err(error) => match error.kind() {
-                ErrorKind::NotFound | ErrorKind::NotADirectory => Ok(false),
+                ErrorKind::NotFound | ErrorKind::NotADirectory | ErrorKind::IsADirectory => {
+                    Ok(false)
+                }
                 kind => Err(fault(&mut self.faults, kind)),
             },
         }
@@ -386,12 +367,10 @@ impl Files for Disk {
         if !self.syncs {
             return Ok(true);
         }
-        match &self.made {
-            Some(made) if made.path.as_bytes() == path => match made.file.sync_all() {
-                Ok(()) => Ok(true),
-                Err(error) => Err(fault(&mut self.faults, error.kind())),
-            },
-            _ => self.sync(path, Node::File),
+        match self.made.sync(path) {
+            Some(Ok(())) => Ok(true),
+            Some(Err(error)) => Err(fault(&mut self.faults, error.kind())),
+            None => self.sync(path, Node::File),
         }
     }
 
@@ -494,12 +473,6 @@ fn make_folders_at(rt: &HostRuntime, path: &str) -> io::Result<bool> {
     Ok(true)
 }
 
-/// Adds bytes to a file that is open.
-fn write_to(file: &mut File, bytes: &[u8]) -> io::Result<bool> {
-    file.write_all(bytes)?;
-    Ok(true)
-}
-
 /// Appends to a file; false where there is something else.
 fn append_to(rt: &HostRuntime, path: &str, bytes: &[u8]) -> io::Result<bool> {
     if !fs::metadata(rt, path)?.is_file() {
@@ -511,13 +484,8 @@ fn append_to(rt: &HostRuntime, path: &str, bytes: &[u8]) -> io::Result<bool> {
 /// Appends to what was seen to be a file.
 fn append_to_seen(rt: &HostRuntime, path: &str, bytes: &[u8]) -> io::Result<bool> {
     let mut file = OpenOptions::new().append(true).open(rt, path)?;
-    write_to(&mut file, bytes)
-}
-
-/// A file that was made, with its path; `None` where there is no memory for that, and then it is closed.
-fn kept(alloc: Global, path: &str, file: File) -> Option<MadeFile> {
-    let path = String::from_str(alloc, path).ok()?;
-    Some(MadeFile { path, file })
+    file.write_all(bytes)?;
+    Ok(true)
 }
 
 /// The path with a slash after it.
@@ -547,6 +515,11 @@ fn remove_if_file(rt: &HostRuntime, path: &str) -> io::Result<bool> {
     if !fs::metadata(rt, path)?.is_file() {
         return Ok(false);
     }
+    remove_made(rt, path)
+}
+
+/// Removes what is known to be a file.
+fn remove_made(rt: &HostRuntime, path: &str) -> io::Result<bool> {
     fs::remove_file(rt, path)?;
     Ok(true)
 }

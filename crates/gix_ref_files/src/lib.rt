@@ -14,9 +14,9 @@
 //! - a run of steps leaves, at any stop, the tree after some of them with perhaps a beginning of the next; where and why it
 //!   ended; where only a sync failed its step is done: `run_steps`
 //! - the same of disks: at any loss of power some steps are done with their syncs, and the next is perhaps begun, or done with
-//!   some of its syncs; where a call failed it is perhaps begun, where a sync failed it is done: `run_steps`, clauses `passes`,
+//!   some of its syncs. Where a call failed it is perhaps begun, where a sync failed it is done: `run_steps`, clauses `passes`,
 //!   `synced`, `ended_on`
-//! - a lock is one new file beside its place, synced once it is written, and one rename to it; each call says the disk that it
+//! - a lock is one new file beside its place, synced once it is written, and one rename to it. Each call says the disk that it
 //!   leaves, and those that a stop or a loss of power in it finds; a fault hands it back: `Lock::acquire`, `write`, `commit`,
 //!   `remove`
 #![tactic(auto)]
@@ -25,6 +25,7 @@ pub mod disk;
 pub mod faults;
 pub mod files;
 pub mod lock;
+mod made;
 pub mod paths;
 pub mod steps;
 pub mod theorems;

@@ -2,7 +2,7 @@
 
 use crate::files::table;
 use gix_ref_files::disk::Disk;
-use gix_ref_files::files::{Create, FileError, Files, Node};
+use gix_ref_files::files::{Create, FileError, Files, Node, Rename};
 use std::fs;
 use std::io::ErrorKind;
 use std::os::unix::fs::symlink;
@@ -117,6 +117,38 @@ fn appends_to_the_file_that_was_seen_last(rt: HostRuntime) -> Result<(), Fail> {
     assert_eq!(rt; gone, Ok(false), "it was removed since");
     assert_eq!(rt; a_folder, Ok(false), "a folder came in its place");
     assert_eq!(rt; looked, Ok(false), "after a look");
+    Ok(())
+}
+
+#[test]
+fn renames_and_removes_what_it_made(rt: HostRuntime) -> Result<(), Fail> {
+    fs::create_dir(&rt, "made")?;
+    let mut disk = Disk::new(rt.clone()?);
+    disk.create_new(b"made/a.lock")?;
+    disk.create_new(b"made/b.lock")?;
+    disk.create_new(b"made/c.lock")?;
+    disk.create_new(b"made/d.lock")?;
+    let known = disk.rename(b"made/b.lock", b"made/b");
+    fs::remove_file(&rt, "made/c.lock")?;
+    fs::create_dir(&rt, "made/c.lock")?;
+    let a_folder = disk.remove_file(b"made/c.lock");
+    let removed = disk.remove_file(b"made/d.lock");
+    let gone = disk.remove_file(b"made/d.lock");
+    let looked = disk.rename(b"made/a.lock", b"made/a");
+    let moved = disk.kind(b"made/a");
+    let no_file = disk.rename(b"made/c.lock", b"made/c");
+    fs::remove_dir_all(&rt, "made")?;
+    assert_eq!(rt; known, Ok(Rename::Moved), "without a look");
+    assert_eq!(rt; a_folder, Ok(false), "a folder came in its place");
+    assert_eq!(rt; removed, Ok(true));
+    assert_eq!(rt; gone, Ok(false), "it was removed");
+    assert_eq!(rt; looked, Ok(Rename::Moved), "one that was forgotten");
+    assert_eq!(rt; moved, Ok(Node::File));
+    assert_eq!(rt;
+        no_file,
+        Err(FileError::Device(ErrorKind::IsADirectory)),
+        "a folder is not moved"
+    );
     Ok(())
 }
 

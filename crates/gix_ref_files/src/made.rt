@@ -1,0 +1,101 @@
+//! The lock files that a disk made and has neither renamed nor removed: that they are files needs no look.
+use std::alloc::Global;
+use std::collections::VecDeque;
+use std::fs::File;
+use std::io::{self, Write};
+
+/// A file that was made and is open.
+#[derive(Drop)]
+struct OpenFile {
+    path: String,
+    file: File,
+}
+
+impl OpenFile {
+    /// Closes the file. Returns its path.
+    fn close(self) -> String {
+        let OpenFile { path, file: _ } = self;
+        path
+    }
+}
+
+/// The file that was made last, which is open, and the paths of the lock files that were made before it, oldest first.
+#[derive(Drop)]
+pub(crate) struct MadeFiles {
+    last: Option<OpenFile>,
+    before: VecDeque<String>,
+}
+
+/// Takes a path out of these, and those before it. `None` where it is not among them: then all are gone.
+fn take_from(paths: &mut VecDeque<String>, path: &[u8]) -> Option<String> {
+    for _ in 0..paths.len() {
+        let made = paths.pop_front()?;
+        if made.as_bytes() == path {
+            return Some(made);
+        }
+    }
+    None
+}
+
+impl MadeFiles {
+    /// No files.
+    pub(crate) fn new(alloc: Global) -> Self {
+        MadeFiles {
+            last: None,
+            before: VecDeque::new(alloc),
+        }
+    }
+
+    /// Keeps the path of a lock file. Any other file stays where it is. Where there is no memory, it is one that needs a look.
+    fn remember(&mut self, path: String) {
+        if path.ends_with(".lock") {
+            self.before.push_back(path).ok();
+        }
+    }
+
+    /// Closes the file that was made last.
+    pub(crate) fn close(&mut self) {
+        if let Some(last) = self.last.take() {
+            self.remember(last.close());
+        }
+    }
+
+    /// Closes the file that was made last, and keeps this one open, which was made after it. Where there is no memory for its path, it
+    /// is closed, and is one that needs a look.
+    pub(crate) fn keep(&mut self, alloc: Global, path: &str, file: File) {
+        self.close();
+        self.last = match String::from_str(alloc, path) {
+            Ok(path) => Some(OpenFile { path, file }),
+            Err(_) => None,
+        };
+    }
+
+    /// Adds bytes to the file of this path, if it was made last.
+    pub(crate) fn write(&mut self, path: &[u8], bytes: &[u8]) -> Option<io::Result<()>> {
+        match &mut self.last {
+            Some(made) if made.path.as_bytes() == path => Some(made.file.write_all(bytes)),
+            _ => None,
+        }
+    }
+
+    /// Syncs the file of this path, if it was made last.
+    pub(crate) fn sync(&self, path: &[u8]) -> Option<io::Result<()>> {
+        match &self.last {
+            Some(made) if made.path.as_bytes() == path => Some(made.file.sync_all()),
+            _ => None,
+        }
+    }
+
+    /// Closes the file that was made last, and takes out the file of this path, which is to be renamed or removed: its path. Those that
+    /// were made before it are forgotten, unless it was made last. `None` where it is not one of these.
+    pub(crate) fn take(&mut self, path: &[u8]) -> Option<String> {
+        if let Some(last) = self.last.take() {
+            let made = last.close();
+            if made.as_bytes() == path {
+                return Some(made);
+            }
+            self.remember(made);
+        }
+        take_from(&mut self.before, path)
+    }
+}
