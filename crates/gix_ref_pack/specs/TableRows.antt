@@ -1,4 +1,4 @@
--- A table of objects, as `git for-each-ref --format='%(objectname) %(*objectname)'` prints it.
+-- A table of objects: a line for each, with the object at the end of its tags if it is a tag.
 use Rattle.std.specs.Prelude.{◌≡◌, ◌≢◌, ◌⊎◌, ◌+◌, ◌++◌, ℕ, List, [], ◌∷◌, Option, Some, None, codes, length}
 use Rattle.gix_ref_hash.specs.Bytes.{Cuts, NoByte}
 use Rattle.gix_ref_hash.specs.Ids.{ReadsId}

@@ -4,9 +4,9 @@
 //! # What is proved
 //!
 //! - what is packed: of the loose references to objects that a listing gives, below `refs/` and shared by all worktrees, with `--all` each,
-//!   else the tags and those that have a record, as far as their object is in the table or is that of a branch among them: in one
-//!   transaction, each of whose edits gives a reference the object that it expects there: `pack::pack_refs`, clause `packs` (`IsPlanned`,
-//!   `IsPut` in `Packings.antt`, `LooseObjects.antt`, `KeptObjects.antt`)
+//!   else the tags and those that have a record. Of these only those whose object is in the table, or is that of a branch among them. It is
+//!   one transaction, and each of its edits gives a reference the object that it expects there: `pack::pack_refs`, clause `packs`
+//!   (`IsPlanned`, `IsPut` in `Packings.antt`, `LooseObjects.antt`, `KeptObjects.antt`)
 //! - that each reference reads as it did, whatever becomes of the call, and at each stop and after each loss of power meanwhile: the same,
 //!   clauses `stays`, `stops`, `losses` (`EachReadsAsItDid`). `packed-refs` was well formed or missing; in a store that composes names
 //!   those of its files are composed (`AreComposed`); and for losses of power the store was at rest (`IsAtRest`)

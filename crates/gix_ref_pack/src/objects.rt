@@ -95,8 +95,8 @@ impl Objects {
     /// for any other object. Ids have 40 or 64 hex digits. Where PEELED has a line of its own, that counts; of two lines of one object the
     /// later does.
     ///
-    /// `git show-ref -d` has these ids, that of PEELED on the line of a name that ends in `^{}`. `%(*objectname)` of `git for-each-ref` will
-    /// not do with git 2.39: of a tag of a tag it is the inner tag.
+    /// `git cat-file --batch-check` has these ids, where it is given each object and, with `^{}` after it, the end of its tags.
+    /// `%(*objectname)` of `git for-each-ref` will not do with git 2.39: of a tag of a tag it is the inner tag.
     ///
     /// `Line` with the number of the first line that is none; `Memory`.
     pub fn read(alloc: Global, table: &[u8]) -> Result<Objects, TableError>
@@ -131,10 +131,12 @@ impl Objects {
         Ok(())
     }
 
-    /// Adds an object that is no tag, unless it is known already.
+    /// Adds an object that is no tag, unless it is known already. The error says that there was no memory for it.
     pub fn add_commit(&mut self, id: ObjectId) -> Result<(), AllocError>
-        ensures { OnOk result ((other : Id) → end_in self.new other
+        ensures added { OnOk result ((other : Id) → end_in self.new other
             ≡ known_after id (end_in self.old other) other) }
+        ensures refused { IfErr result (λ _. (other : Id) → end_in self.new other
+            ≡ end_in self.old other) }
     {
         if !self.has(&id) {
             self.ends.insert(id, None)?;
