@@ -25,7 +25,7 @@ pub enum RefLog {
 pub struct LogChange {
     /// Whether the reference changes, or its log alone.
     pub mode: RefLog,
-    /// A log is made where it does not exist, whatever the store's options say (`git update-ref --create-reflog`).
+    /// A log is made where it does not exist, unless the store writes none (`git update-ref --create-reflog`).
     pub force_create_reflog: bool,
     /// The message of the log line, without LF (`git update-ref -m`).
     pub message: Vec<u8>,

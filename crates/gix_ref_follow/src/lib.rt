@@ -14,9 +14,9 @@
 //!   `peel_to_id_packed`, `peel_to_id_in_place_packed`, clause `peeled`
 //! - a reference with a peeled id returns it at once; after a success it points to the object, which is its peeled id: the same,
 //!   clauses `at_once`, `done`
-//! - on any text: each step was a hit of the lookup of the target; why a following or a peeling is refused, and at which
-//!   reference: the lookup of its target fails or sees nothing, the target leads back to a name that was passed, or five steps
-//!   led there; what comes of the tags of the object that is reached: clauses `hits`, `failed`
+//! - on any text: each step was a hit of the lookup of the target. Why a following or a peeling is refused, and at which
+//!   reference: the lookup of its target fails or sees nothing, the target leads back to a name that was passed, or five steps led
+//!   there. What comes of the tags of the object that is reached: clauses `hits`, `failed`
 //! - nothing changes but the reference, and a success counts no fault: clauses `unchanged`, `no_fault`, `failed`
 //! - the orders of `WriteReflog` and of `loose::Reference` are total, and equality is that of all fields:
 //!   `gix_ref_follow::orders`

@@ -46,9 +46,9 @@ pub trait ReferenceExt: Sealed {
     /// `packed-refs` is opened once, where a symbolic target without a loose file asks for it.
     ///
     /// `FollowToObject` where it cannot be followed, as `follow_to_object_packed`; `Find` where an object cannot be read;
-    /// `NotFound` where there is no object of an id, or it is a tag whose first line is not `object `, the hex digits of an id
-    /// of the same kind, and LF; `TagChainTooLong` for more than 1,000 tags in a row; `Memory`. The reference then is the last
-    /// one that was reached.
+    /// `NotFound` where there is no object of an id, or it is a tag whose first line is not `object `, the hex digits of an id,
+    /// and LF; `TagChainTooLong` for more than 1,000 tags in a row; `Memory`. The reference then is the last one that was
+    /// reached.
     ///
     /// ```text
     /// let mut reference = store.find(alloc, PartialNameRef::try_from("HEAD")?)?;

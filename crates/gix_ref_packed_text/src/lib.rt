@@ -11,10 +11,10 @@
 //! - written text is read back as the same records, and a text is that of one list of records at most; a failed append leaves the
 //!   text as it was: `packed::written`, `gix_ref_packed::packed::laws::written_text_reads_back`
 //! - references as values, and what a record makes of them: `raw::Reference`
-//! - of ascending records and edits of ascending keys: each key has what its edit makes of its record, names ascend, and the new
-//!   text is the written one of these records, which is read as them again and is well formed; the file is to be removed where no
+//! - of ascending records and edits of ascending keys: each key has what its edit makes of its record, and names ascend. The new
+//!   text is the written one of these records, which is read as them again and is well formed. The file is to be removed where no
 //!   record is left, and stays where no edit puts a record or finds one: `rewrite::rewrite`, clause `rewritten`
-//! - of records it fails for want of memory alone; any text that it rewrites is records as a whole, and of another text the first
+//! - of records it fails for want of memory alone. Any text that it rewrites is records as a whole, and of another text the first
 //!   line that is no record is reported, with its number in the file, or that there was no memory: `rewrite::rewrite`
 //! - a record that is put under a valid full name, with ids of the kind, can be read: `laws::merged_records`
 #![tactic(auto)]

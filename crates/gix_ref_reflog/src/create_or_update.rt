@@ -13,7 +13,7 @@ pub enum Error {
         /// The folder of the log, as a path.
         reflog_directory: Vec<u8>,
     },
-    /// The line could not be added. Not returned before a commit writes.
+    /// The line could not be added, or folders in the way of the log could not be listed.
     #[error("a line could not be added to a reflog: {source}")]
     Append {
         /// The fault of files.

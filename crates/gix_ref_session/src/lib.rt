@@ -6,10 +6,10 @@
 //! - the commands that the bytes of an input spell, and that a text is refused only where it is none: `command::parse`
 //!   (`Commands.antt`, `Input.antt`, `Quotes.antt`)
 //! - the edit of each command (`Edits.antt`), and the reference that it is made of, by what lookups find (`Leading.antt`)
-//! - that edits are refused where the name of a reference that they make is in the way of another, and only there; over a damaged
+//! - that edits are refused where the name of a reference that they make is in the way of another, and only there. Over a damaged
 //!   `packed-refs` that is said by what each lookup and each listing saw (`IsClash`, `AreClear` in `Clashes.antt`)
 //! - transactions one after the other, with an answer to each command; `commit: ok` after a commit that was done, and only then, unless
-//!   the writer fails; what is committed at the end of the input is not answered: `session::serve`, `run::run` (`Serves` in
+//!   the writer fails. What is committed at the end of the input is not answered: `session::serve`, `run::run` (`Serves` in
 //!   `Sessions.antt`, `Runs.antt`)
 //! - what each stop leaves, and each loss of power where the store was at rest and `packed-refs` was well formed or missing: the same,
 //!   clauses `leaves`, `lost`
