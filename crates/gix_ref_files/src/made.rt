@@ -26,6 +26,11 @@ pub(crate) struct MadeFiles {
     before: VecDeque<String>,
 }
 
+/// Whether a path is that of a lock file (`gitrepository-layout`).
+fn is_lock(path: &[u8]) -> bool {
+    path.ends_with(b".lock")
+}
+
 /// Takes a path out of these, and those before it. `None` where it is not among them: then all are gone.
 fn take_from(paths: &mut VecDeque<String>, path: &[u8]) -> Option<String> {
     for _ in 0..paths.len() {
@@ -48,7 +53,7 @@ impl MadeFiles {
 
     /// Keeps the path of a lock file. Any other file stays where it is. Where there is no memory, it is one that needs a look.
     fn remember(&mut self, path: String) {
-        if path.ends_with(".lock") {
+        if is_lock(path.as_bytes()) {
             self.before.push_back(path).ok();
         }
     }
@@ -86,8 +91,9 @@ impl MadeFiles {
         }
     }
 
-    /// Closes the file that was made last, and takes out the file of this path, which is to be renamed or removed: its path. Those that
-    /// were made before it are forgotten, unless it was made last. `None` where it is not one of these.
+    /// Closes the file that was made last, and takes out the file of this path, which is to be renamed or removed: its path. `None` where it
+    /// is not one of these. The lock files that were made before a lock file that is taken out are forgotten, unless it was made last;
+    /// and so are all of them at a lock file that is not one of these.
     pub(crate) fn take(&mut self, path: &[u8]) -> Option<String> {
         if let Some(last) = self.last.take() {
             let made = last.close();
@@ -95,6 +101,9 @@ impl MadeFiles {
                 return Some(made);
             }
             self.remember(made);
+        }
+        if !is_lock(path) {
+            return None;
         }
         take_from(&mut self.before, path)
     }
