@@ -7,6 +7,7 @@ pub mod Looking
 pub mod LooseLemmas
 pub mod Missing
 pub mod NamedRecords
+pub mod NothingBelow
 pub mod Opening
 pub mod Steps
 pub mod Stripping

@@ -1,12 +1,13 @@
 -- One step of a lookup after another.
 use Rattle.std.proofs.Common.{◌≡◌, ℕ, List, refl, sym, ◌∙◌, ap, subst}
 use Rattle.gix_ref_files.specs.Files.{FaultCounts, Meaning}
+use Rattle.gix_ref_files.specs.ReadOnly.{OnlyReads}
 use Rattle.gix_ref_files.specs.Tree.{Tree}
 use Rattle.gix_ref_files.specs.declared.files.ReadAt.{Ghosts}
 use Rattle.gix_ref_files.proofs.ReadOnly.{reads_more}
 use Rattle.gix_ref_theory.specs.OnRealTrees.{view_of}
 use Rattle.std.specs.Prelude.{IfOk, MatchResult}
-use Rattle.gix_ref_lookup.specs.Lookups.{AreAsked, AreStillAsked, CandidateFails, IsCandidate, IsSeen, IsSound, meaning_in}
+use Rattle.gix_ref_lookup.specs.Lookups.{AreAsked, AreStillAsked, CandidateFails, HasNothing, IsCandidate, IsSeen, IsSound, meaning_in}
 use Rattle.gix_ref_lookup.specs.LookupCalls.{Answer, FindsCandidate, LooksOn, SeesCandidate}
 use Rattle.gix_ref_lookup.specs.declared.find.error.Error.{Error}
 use Rattle.gix_ref_lookup.specs.declared.find.lookup.Lookup.{Lookup}
@@ -15,6 +16,11 @@ use Rattle.gix_ref_lookup.specs.declared.settings.Settings.{Settings}
 use Rattle.gix_ref_lookup.proofs.Looking.{fails_from, hit_from, packed_refs_at, still_asked}
 use Rattle.gix_ref_lookup.proofs.Missing.{missing_from}
 use Rattle.gix_ref_lookup.proofs.Opening.{if_ok, none_or_some}
+
+-- nothing is still at the path that is kept
+pub kept_after : {F : Type 0} (honest : Type 0) (means : F → Meaning) (faults : F → FaultCounts) (before now : F) (path : List ℕ) → OnlyReads honest means faults before now →
+    (honest → HasNothing (means before).tree path) → honest → HasNothing (means now).tree path
+kept_after honest means faults before now path reads kept h = subst (λ (T : Tree). HasNothing T path) (sym (reads.leaves h).tree) (kept h)
 
 -- what holds of a lookup holds of what it was made of
 pub as_made : {F R : Type 0} {G : Ghosts R} (lookup : Lookup F R G) (files : F) (settings : Settings) (records : Asked R G) →
@@ -30,6 +36,7 @@ module _ {F R : Type 0} {G : Ghosts R} (honest : Type 0) (means : F → Meaning)
     files = next.files ∙ first.files;
     records = next.records ∙ first.records;
     settings = next.settings ∙ first.settings;
+    nothing = λ kept. next.nothing (first.nothing kept);
     reads = reads_more honest means faults a.files.now b.files.now d.files.now first.reads next.reads;
     asked = λ h. still_asked a.settings.kind (packed_refs_at a.settings (means a.files.now).tree) (packed_refs_at a.settings (means b.files.now).tree) a.records.now b.records.now d.records.now
         (ap (packed_refs_at a.settings) (first.reads.leaves h).tree) (first.asked h)

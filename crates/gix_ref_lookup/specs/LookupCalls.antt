@@ -12,7 +12,7 @@ use Rattle.gix_ref_theory.specs.OnRealTrees.{view_of}
 use Rattle.gix_ref_theory.specs.Readings.{Store}
 use Rattle.gix_ref_theory.specs.Lookups.{first_hit, hit_or_head}
 use Rattle.gix_ref_packed_text.specs.declared.raw.Reference.{Reference}
-use Rattle.gix_ref_lookup.specs.Lookups.{AreHonest, AreMissing, AreSeen, AreStillAskedWith, Among, CandidateFails, FailsAmong, Finds, HasNoRecord, IsAnswerOf, IsByRecord, IsCandidate, IsFaultAmong, IsFaultOrMemory, IsHitAmong, IsLooseHit, IsNotRead, IsRecordHit, IsSeen, IsSound, MemoryOr, OfAsked, RecordFails, asked_names, head_names, lookup_as, lookup_of, meaning_in}
+use Rattle.gix_ref_lookup.specs.Lookups.{AreHonest, AreMissing, AreSeen, AreStillAskedWith, Among, CandidateFails, FailsAmong, Finds, HasNoRecord, HasNothing, IsAnswerOf, IsByRecord, IsCandidate, IsFaultAmong, IsFaultOrMemory, IsHitAmong, IsLooseHit, IsNotRead, IsRecordHit, IsSeen, IsSound, MemoryOr, OfAsked, RecordFails, asked_names, head_names, lookup_as, lookup_of, meaning_in}
 use Rattle.gix_ref_lookup.specs.declared.find.error.Error.{Error}
 use Rattle.gix_ref_lookup.specs.declared.find.lookup.Lookup.{Lookup}
 use Rattle.gix_ref_lookup.specs.declared.settings.Settings.{Settings}
@@ -40,6 +40,10 @@ module _ {F R : Type 0} {G : Ghosts R} (honest : Type 0) (means : F → Meaning)
 
   abbrev pub view_in : View
   view_in = view_of tree_in
+
+  -- nothing is at the path that it keeps
+  abbrev pub KeepsNothing : Type 0
+  KeepsNothing = honest → HasNothing tree_in lookup.nothing_at.now.items
 
   -- this holds for the records that are asked, where `packed-refs` is well formed or missing
   abbrev pub OfRecords : (List Record → Type 0) → Type 0
@@ -146,11 +150,13 @@ module _ {F R : Type 0} {G : Ghosts R} (honest : Type 0) (means : F → Meaning)
   FailsAtHead p = FailsBy (MemoryOr (λ error. Among (λ name. IsLooseFault name error)
       (head_names p)))
 
-  -- A step only reads: it leaves the files and the records that it borrows, the settings, and records that are asked as before.
+  -- A step only reads: it leaves the files and the records that it borrows, the settings, and records that are asked as before;
+  -- and nothing is at the path that it keeps.
   pub record LooksOn : Type 0 where
     pub files : new.files.ghost_name ≡ old.files.ghost_name
     pub records : new.records.ghost_name ≡ old.records.ghost_name
     pub settings : new.settings ≡ old.settings
+    pub nothing : KeepsNothing honest means old → KeepsNothing honest means new
     pub reads : OnlyReads honest means faults old.files.now new.files.now
     pub asked : honest → AreStillAskedWith old.settings (means old.files.now)
         old.records.now new.records.now

@@ -16,7 +16,7 @@ use Rattle.gix_ref_target.specs.declared.target.Target.{Target}
 use Rattle.gix_ref_target.specs.PackedRecords.{Record, record_named}
 use Rattle.gix_ref_files.specs.Files.{FaultCounts, IsMet, Meaning}
 use Rattle.gix_ref_files.specs.declared.files.FileError.{FileError}
-use Rattle.gix_ref_files.specs.Tree.{Tree}
+use Rattle.gix_ref_files.specs.Tree.{Path, Tree}
 use Rattle.gix_ref_files.specs.declared.files.FileError.TheVariants.{Device, Memory as no_memory}
 use Rattle.std.specs.declared.io.ErrorKind.TheVariants.{InvalidData}
 use Rattle.gix_ref_files.specs.declared.files.ReadAt.{Ghosts}
@@ -43,6 +43,8 @@ use Rattle.gix_ref_packed_text.specs.Positions.{CannotRead, IsNotMalformed}
 use Rattle.gix_ref_lookup.specs.StoreLayout.{folders_of, git_options, namespace_text}
 use Rattle.gix_ref_lookup.specs.LooseFiles.{IsUndecodable}
 use Rattle.gix_ref_lookup.specs.declared.settings.Settings.{Settings}
+use Rattle.gix_ref_lookup.specs.declared.find.candidate.Look.{Look}
+use Rattle.gix_ref_lookup.specs.declared.find.candidate.Look.TheVariants as looks
 use Rattle.gix_ref_lookup.specs.declared.find.records.Records.{Records}
 use Rattle.gix_ref_lookup.specs.declared.find.records.Records.TheVariants as sources
 use Rattle.gix_ref_lookup.specs.declared.find.error.Error.{Error}
@@ -231,6 +233,21 @@ abbrev pub IsLooseTarget : Store → Option (List ℕ) → Option Target → Typ
 IsLooseTarget s file None = file ≡ None
 IsLooseTarget s file (Some target) = (bytes : List ℕ) × (file ≡ Some bytes)
     × (reading_of_loose s (s.target_of bytes) ≡ Is (target_value target))
+
+-- the target that was seen
+abbrev pub target_seen : Look → Option Target
+target_seen (looks.Nothing path) = None
+target_seen looks.Folder = None
+target_seen (looks.Holds target) = Some target
+
+-- what is said to be nothing is this path, and nothing is there
+abbrev pub ShowsNothing : Tree → Path → Look → Type 0
+ShowsNothing T path (looks.Nothing at) = (at.items ≡ path) × (T path ≡ None)
+ShowsNothing T path other = Unit {0}
+
+-- nothing is at the path that is kept, if one is
+abbrev pub HasNothing : Tree → (kept : Path) → Type 0
+HasNothing T kept = (kept ≢ []) → T kept ≡ None
 
 -- Why the file at a path gives no target for a name: it could not be read, by a fault that was counted; the path has
 -- the name of a device, and the store prohibits these; the file holds none, with the reason; no memory.

@@ -4,7 +4,7 @@ use Rattle.gix_ref_target.specs.Targets.{target_value}
 use Rattle.gix_ref_hash.specs.declared.hash.Kind.{Kind}
 use Rattle.gix_ref_lookup.specs.LooseText.{HoldsTarget, CannotDecode}
 use Rattle.gix_ref_lookup.specs.declared.find.loose.Loose.{Loose}
-use Rattle.gix_ref_lookup.specs.declared.find.loose.Loose.TheVariants.{Absent, Holds, Undecodable}
+use Rattle.gix_ref_lookup.specs.declared.find.loose.Loose.TheVariants.{Nothing, Folder, Holds, Undecodable}
 use Rattle.gix_ref_lookup.specs.declared.loose.error.Error.{Error as Undecoded}
 use Rattle.gix_ref_lookup.specs.declared.loose.error.Error.TheVariants.{Memory as NoMemory}
 
@@ -15,7 +15,8 @@ IsUndecodable kind file error = (bytes : List ℕ) × (file ≡ Some bytes)
 
 -- what the loose file at a place is decoded to
 abbrev pub IsDecoded : Kind → Option (List ℕ) → Loose → Type 0
-IsDecoded kind file Absent = file ≡ None
+IsDecoded kind file Nothing = file ≡ None
+IsDecoded kind file Folder = file ≡ None
 IsDecoded kind file (Holds target) = (bytes : List ℕ) × (file ≡ Some bytes)
     × HoldsTarget kind bytes (target_value target)
 IsDecoded kind file (Undecodable error) = IsUndecodable kind file error

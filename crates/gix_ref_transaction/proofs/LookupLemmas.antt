@@ -49,19 +49,22 @@ module _ (f : Layout) (kind : Kind) (prohibits : Bool) where
   same_target (symbolic_name n) = refl
 
   pub target_is : (loose : Loose) (file : Option (List ℕ)) (packed : Option ObjectId) → IsDecoded kind file loose → target_by f.namespace loose packed ≡ found_by git (decoded git file) packed
-  target_is loose_files.Absent file packed told = sym (ap (λ t. found_by git t packed) (ap (decoded git) told))
+  target_is loose_files.Nothing file packed told = sym (ap (λ t. found_by git t packed) (ap (decoded git) told))
+  target_is loose_files.Folder file packed told = sym (ap (λ t. found_by git t packed) (ap (decoded git) told))
   target_is (loose_files.Holds target) file packed told =
       ap Some (same_target (target_value target)) ∙ ap (λ t. found_by git t packed) (sym (ap (decoded git) told.1 ∙ held_is kind told.0 (target_value target) told.2))
   target_is (loose_files.Undecodable error) file packed told =
       sym (ap (λ t. found_by git t packed) (ap (decoded git) told.1 ∙ refused_none kind told.0 error told.2 told.3))
 
   pub file_is : (loose : Loose) (file : Option (List ℕ)) → IsDecoded kind file loose → is_loose_file loose ≡ is_some file
-  file_is loose_files.Absent file told = sym (ap is_some told)
+  file_is loose_files.Nothing file told = sym (ap is_some told)
+  file_is loose_files.Folder file told = sym (ap is_some told)
   file_is (loose_files.Holds target) file told = sym (ap is_some told.1)
   file_is (loose_files.Undecodable error) file told = sym (ap is_some told.1)
 
   pub damaged_is : (loose : Loose) (file : Option (List ℕ)) → IsDecoded kind file loose → is_undecodable loose ≡ is_damaged git file
-  damaged_is loose_files.Absent file told = sym (ap (is_damaged git) told)
+  damaged_is loose_files.Nothing file told = sym (ap (is_damaged git) told)
+  damaged_is loose_files.Folder file told = sym (ap (is_damaged git) told)
   damaged_is (loose_files.Holds target) file told = sym (ap (is_damaged git) told.1 ∙ ap is_none (held_is kind told.0 (target_value target) told.2))
   damaged_is (loose_files.Undecodable error) file told = sym (ap (is_damaged git) told.1 ∙ ap is_none (refused_none kind told.0 error told.2 told.3))
 

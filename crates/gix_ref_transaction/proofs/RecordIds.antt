@@ -33,7 +33,8 @@ module _ (f : Layout) (kind : Kind) (prohibits : Bool) (file : Option (List ℕ)
 
   pub held : (loose : Loose) → IsDecoded kind file loose → is_held loose ≡ is_some (decoded git file)
   held (loose_files.Holds target) told = sym (ap is_some (ap (decoded git) told.1 ∙ held_is kind told.0 (target_value target) told.2))
-  held loose_files.Absent told = sym (ap (λ f. is_some (decoded git f)) told)
+  held loose_files.Nothing told = sym (ap (λ f. is_some (decoded git f)) told)
+  held loose_files.Folder told = sym (ap (λ f. is_some (decoded git f)) told)
   held (loose_files.Undecodable error) told = sym (ap is_some (ap (decoded git) told.1 ∙ refused_none kind told.0 error told.2 told.3))
 
 -- the place of an edit of a list

@@ -39,7 +39,8 @@ module _ (f : Layout) (kind : Kind) (prohibits : Bool) where
   same_target (symbolic_name n) = refl
 
   pub leads_is : (loose : Loose) (file : Option (List ℕ)) → IsDecoded kind file loose → name_by f.namespace loose ≡ symbolic_name_in git (decoded git file)
-  leads_is loose_files.Absent file told = sym (ap (λ b. symbolic_name_in git (decoded git b)) told)
+  leads_is loose_files.Nothing file told = sym (ap (λ b. symbolic_name_in git (decoded git b)) told)
+  leads_is loose_files.Folder file told = sym (ap (λ b. symbolic_name_in git (decoded git b)) told)
   leads_is (loose_files.Holds target) file told =
       ap target_name (same_target (target_value target)) ∙ ap (symbolic_name_in git) (sym (ap (decoded git) told.1 ∙ held_is kind told.0 (target_value target) told.2))
   leads_is (loose_files.Undecodable error) file told =

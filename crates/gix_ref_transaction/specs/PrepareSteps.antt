@@ -209,7 +209,8 @@ target_by namespace other packed = option_map object_id packed
 
 -- there is a loose file
 abbrev pub is_loose_file : Loose → Bool
-is_loose_file loose_files.Absent = false
+is_loose_file loose_files.Nothing = false
+is_loose_file loose_files.Folder = false
 is_loose_file (loose_files.Holds target) = true
 is_loose_file (loose_files.Undecodable error) = true
 

@@ -150,7 +150,7 @@ fn old_value_of(loose: Loose, packed: Option<ObjectId>, namespace: &Option<Names
                 damaged: false,
             }
         }
-        Loose::Absent => OldValue {
+        Loose::Nothing | Loose::Folder => OldValue {
             target: object_of(packed),
             has_file: false,
             damaged: false,

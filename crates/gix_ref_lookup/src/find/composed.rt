@@ -59,7 +59,7 @@ fn given(alloc: Global, found: Result<Option<Reference>, Error>) -> Result<Optio
 impl<F: Files> Lookup<'_, '_, '_, F> {
     ghost use Rattle.gix_ref_name.specs.Names.{partial_ref_bytes};
     ghost use Rattle.gix_ref_lookup.specs.Lookups.{asked_names, name_asked};
-    ghost use Rattle.gix_ref_lookup.specs.LookupCalls.{FailsAtNames, FindsReference, LooksOn, SeesReference};
+    ghost use Rattle.gix_ref_lookup.specs.LookupCalls.{FailsAtNames, FindsReference, KeepsNothing, LooksOn, SeesReference};
 
     /// The reference that a partial name is short for (`gitrevisions`). Where names are composed, the name is asked in composed
     /// form, and where that is another name, the reference is given under its decomposed name (`core.precomposeUnicode` of
@@ -69,6 +69,7 @@ impl<F: Files> Lookup<'_, '_, '_, F> {
         composes: bool,
         name: PartialNameRef<'_>,
     ) -> Result<Option<Reference>, Error>
+        requires nothing { KeepsNothing F.honest F.means self.old }
         ensures found { FindsReference F.honest F.means self.old composes
             (partial_ref_bytes name.entry) result }
         ensures seen { SeesReference F.honest F.means self.old composes
@@ -111,11 +112,13 @@ pub fn find_reference<F: Files>(
         records.old records.new }
     ensures reads { OnlyReads F.honest F.means F.faults files.old files.new }
 {
+    let mut nothing_at = Vec::new(alloc);
     let mut lookup = Lookup {
         alloc,
         files,
         settings,
         records,
+        nothing_at: &mut nothing_at,
     };
     lookup.find_reference(composes, name)
 }

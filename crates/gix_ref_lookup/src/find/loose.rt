@@ -1,5 +1,5 @@
 //! The loose file at a place, decoded.
-ghost use Rattle.std.specs.Prelude.{◌≡◌, IfOk, IfErr, Some};
+ghost use Rattle.std.specs.Prelude.{◌≡◌, IfOk, IfErr, None, Some};
 ghost use Rattle.gix_ref_files.specs.Files.{AtEveryStop, OnEveryDisk, count_after};
 ghost use Rattle.gix_ref_files.specs.Calls.{Unchanged};
 ghost use Rattle.gix_ref_files.specs.DiskCalls.{Untouched};
@@ -15,8 +15,10 @@ use std::alloc::Global;
 /// What the loose file at a place is decoded to.
 #[derive(Drop)]
 pub enum Loose {
-    /// There is no file.
-    Absent,
+    /// Nothing is there, nor below it.
+    Nothing,
+    /// A folder is there.
+    Folder,
     /// It holds this target.
     Holds(Target),
     /// It holds no target, for this reason.
@@ -44,6 +46,8 @@ pub fn loose_at<F: Files>(
 ) -> Result<Loose, FileError>
     ensures decoded { F.honest →
         IfOk result (IsDecoded kind (contents F.means files.old place.now)) }
+    ensures nothing { F.honest → IfOk result
+        (λ loose. loose ≡ Loose.Nothing → (F.means files.old).tree place.now ≡ None) }
     ensures leaves { F.honest → AtEveryStop F.means files.old files.new Unchanged }
     ensures passes { F.honest → OnEveryDisk F.means files.old files.new Untouched }
     ensures count { F.faults files.new ≡ count_after result (F.faults files.old) }
@@ -51,6 +55,7 @@ pub fn loose_at<F: Files>(
     let mut text = Vec::new(alloc);
     match files.read(alloc, place, &mut text)? {
         Node::File => loose_in(alloc, &text, kind),
-        Node::Folder | Node::Nothing | Node::Blocked => Ok(Loose::Absent),
+        Node::Folder => Ok(Loose::Folder),
+        Node::Nothing | Node::Blocked => Ok(Loose::Nothing),
     }
 }

@@ -113,8 +113,9 @@ impl<F: Files> Store<F> {
     /// read; `PackedRef` where a malformed line of it was met and nothing was found, or the record that was found cannot be
     /// read; `Memory`.
     ///
-    /// Reads one file for each candidate. `packed-refs` is opened where the first candidate has no loose file, and searched by
-    /// halving where its header says `sorted`: some seventeen reads of 1 KB among a million records.
+    /// Reads one file for each candidate, and the `HEAD` of a remote only where the remote has a folder. `packed-refs` is opened where
+    /// the first candidate has no loose file, and searched by halving where its header says `sorted`: some seventeen reads of 1 KB among
+    /// a million records.
     ///
     /// ```text
     /// if let Some(tag) = store.try_find(alloc, PartialNameRef::try_from("v1.0")?)? {
@@ -201,7 +202,15 @@ impl<F: Files> Store<F> {
     {
         let settings = settings!(self);
         let mut records = Records::Unopened;
-        Lookup::new(alloc, &mut self.files, settings, &mut records).find_candidate(name)
+        let mut nothing_at = Vec::new(alloc);
+        Lookup::new(
+            alloc,
+            &mut self.files,
+            settings,
+            &mut records,
+            &mut nothing_at,
+        )
+        .find_candidate(name)
     }
 
     /// As `try_find`, among loose files alone: the name is looked for as it is, also with `precompose_unicode`. One read for each

@@ -96,7 +96,7 @@ fn is_held(loose: &Loose) -> bool
 {
     match loose {
         Loose::Holds(_) => true,
-        Loose::Absent | Loose::Undecodable(_) => false,
+        Loose::Nothing | Loose::Folder | Loose::Undecodable(_) => false,
     }
 }
 

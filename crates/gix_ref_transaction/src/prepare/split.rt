@@ -55,8 +55,7 @@ fn referent_in(loose: Loose, namespace: &Option<Namespace>) -> Option<FullName>
             strip(&mut target, namespace);
             symbolic(target)
         }
-        Loose::Absent => None,
-        Loose::Undecodable(_) => None,
+        Loose::Nothing | Loose::Folder | Loose::Undecodable(_) => None,
     }
 }
 

@@ -6,7 +6,7 @@ use Rattle.gix_ref_lookup.specs.StoreLayout.{folders_of}
 use Rattle.gix_ref_lookup.specs.LooseFiles.{IsDecoded}
 use Rattle.gix_ref_lookup.specs.declared.find.loose.Loose.TheVariants.{Holds}
 use Rattle.gix_ref_lookup.proofs.Answering.{holds_reading}
-use Rattle.gix_ref_lookup.proofs.find.candidate.read_at.Goals as goal
+use Rattle.gix_ref_lookup.proofs.find.candidate.look_at.Goals as goal
 
 pub returns-in-Ok-Holds-clause-found : goal.returns-in-Ok-Holds-clause-found
 returns-in-Ok-Holds-clause-found g c h =

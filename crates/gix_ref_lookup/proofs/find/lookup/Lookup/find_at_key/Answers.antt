@@ -8,6 +8,7 @@ use Rattle.gix_ref_packed.specs.Buffers.{IsRefusedFile}
 use Rattle.gix_ref_lookup.proofs.NamedRecords.{of_key}
 use Rattle.gix_ref_lookup.proofs.Opening.{if_ok, both_ways, same_or_err, none_or_some, hit_wider, searched_wider, not_packed_wider}
 use Rattle.gix_ref_lookup.proofs.Missing.{any_asked, any_file, any_searched, none_wider}
+use Rattle.gix_ref_lookup.proofs.Steps.{kept_after}
 use Rattle.gix_ref_lookup.proofs.find.lookup.Lookup.find_at_key.Goals as goal
 
 pub returns-in-Ok-clause-found : goal.returns-in-Ok-clause-found
@@ -37,6 +38,7 @@ returns-in-Ok-clause-leaves g c =
       files = refl;
       records = refl;
       settings = refl;
+      nothing = kept_after g.F.Files.honest g.F.Files.means g.F.Files.faults _ _ _ c.in-Ok.ensures.reads;
       reads = c.in-Ok.ensures.reads;
       asked = λ h.
           let opened = c.in-Ok.ensures.opened h in
