@@ -4,3 +4,4 @@ pub mod LeafSteps
 pub mod LineSteps
 pub mod LogPaths
 pub mod OwnNames
+pub mod ShortPaths

@@ -1,13 +1,15 @@
 -- The steps of the decision of a line.
-use Rattle.std.proofs.Common.{◌≡◌, ℕ, List, [], ◌∷◌, Bool, true, false, Option, Some, None, cond, refl, sym, subst, ap, ◌∙◌}
-use Rattle.std.specs.Prelude.{◌||◌, IfSome, if◌then◌else◌, is_some}
+use Rattle.std.proofs.Common.{◌≡◌, ℕ, List, [], ◌∷◌, ◌++◌, Bool, true, false, Option, Some, None, cond, refl, sym, subst, ap, ◌∙◌}
+use Rattle.std.specs.Prelude.{◌&&◌, ◌||◌, IfSome, bytes_eq, if◌then◌else◌, is_some, not}
 use Rattle.std.specs.Option.{IsSomeAnd}
 use Rattle.std.specs.List.{list_any}
 use Rattle.gix_ref_edits.specs.RefEdits.{name_of, is_forced, message_of}
 use Rattle.gix_ref_files.specs.Tree.{Tree, Path, Content, file_of, fronts, is_blocked, is_file}
 use Rattle.gix_ref_files.specs.Tree.Content.{File, Folder}
 use Rattle.gix_ref_log.specs.Signatures.{Who}
-use Rattle.gix_ref_theory.specs.Views.{View, after_write}
+use Rattle.gix_ref_theory.specs.OnRealTrees.{view_of}
+use Rattle.gix_ref_theory.specs.Views.{View, after_write, file_bytes}
+use Rattle.gix_ref_theory.proofs.Writes.{same}
 use Rattle.gix_ref_theory.specs.Views.Write.{Append as Adds}
 use Rattle.gix_ref_reflog.specs.DueLines.{LogRules, AskedEdit, due_ids, due_line, has_log, due_line_text, asked_log, with_log, written_ids}
 use Rattle.gix_ref_reflog.specs.LineCauses.{CanMake, CannotAdd, IsRefusalAt, HasNoCause, has_file_in_path}
@@ -64,6 +66,31 @@ module _ (r : LogRules) (files : View) (a : AskedEdit) where
 
   pub none_kept : due_ids r files a ≡ None → (q : Path) → is_some (with_log r files a q) ≡ is_some (files q)
   none_kept none q = ap (λ (ids : Option LineIds). is_some ((if is_some ids then after_write (Adds (asked_log r a) []) files else files) q)) none
+
+  -- what there is to later edits, where the log of a due line is added to those that have one, unless it is there
+  with_due : (ids : LineIds) → due_ids r files a ≡ Some ids → (path : Path) → path ≡ asked_log r a → (q : Path) → is_some (with_log r files a q) ≡ (bytes_eq path q || is_some (files q))
+  with_due ids due path at q =
+      ap (λ (o : Option LineIds). is_some ((if is_some o then after_write (Adds (asked_log r a) []) files else files) q)) due
+      ∙ (ap (λ (p : Path). is_some (after_write (Adds p []) files q)) (sym at) ∙ by (bytes_eq path q))
+    where
+      by : (b : Bool) → is_some (if b then Some (file_bytes (files path) ++ []) else files q) ≡ (b || is_some (files q))
+      by true = refl
+      by false = refl
+
+  pub seen_with : (T : Tree) (before now : List Path) (ids : LineIds) → due_ids r files a ≡ Some ids → (path : Path) → path ≡ asked_log r a → (there : Bool) → there ≡ is_some (view_of T path) → Sees files T before →
+      ((q : Path) → is_in now q ≡ ((not there && bytes_eq path q) || is_in before q)) → Sees (with_log r files a) T now
+  seen_with T before now ids due path at there is sees added q =
+      with_due ids due path at q ∙ (ap (λ (b : Bool). bytes_eq path q || b) (sees q) ∙ (by there (bytes_eq path q) refl is ∙ ap (λ (b : Bool). is_some (view_of T q) || b) (sym (added q))))
+    where
+      moved : (b c d : Bool) → (b || (c || d)) ≡ (c || (b || d))
+      moved true true d = refl
+      moved true false d = refl
+      moved false c d = refl
+
+      by : (there b : Bool) → bytes_eq path q ≡ b → there ≡ is_some (view_of T path) → (b || (is_some (view_of T q) || is_in before q)) ≡ (is_some (view_of T q) || ((not there && b) || is_in before q))
+      by false b e is = moved b (is_some (view_of T q)) (is_in before q)
+      by true false e is = refl
+      by true true e is = sym (ap (λ (b : Bool). b || is_in before q) (ap (λ (p : Path). is_some (view_of T p)) (sym (same path q e)) ∙ sym is))
 
   -- a line with ids and a log is due
   pub is_due : (ids : LineIds) → written_ids r a ≡ Some ids → has_log r files a ≡ true → due_ids r files a ≡ Some ids

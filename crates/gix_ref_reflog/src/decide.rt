@@ -1,12 +1,15 @@
 //! What a commit decides of the logs of its edits before its first write (`git reflog`, `core.logAllRefUpdates` of `git config`).
-ghost use Rattle.std.specs.Prelude.{◌≡◌, OnOk, IfOk, IfErr, IsSome, Some, vec_items};
+ghost use Rattle.std.specs.Prelude.{◌≡◌, ◌&&◌, ◌||◌, OnOk, IfOk, IfErr, IsSome, Some, bytes_eq, not, vec_items};
 ghost use Rattle.std.specs.Option.{option_map};
 ghost use Rattle.gix_ref_files.specs.ReadOnly.{OnlyReads};
-ghost use Rattle.gix_ref_files.specs.Tree.{node_at};
+ghost use Rattle.gix_ref_files.specs.Tree.{Path, node_at};
+ghost use Rattle.gix_ref_edits.specs.RefEdits.{is_forced, name_of};
 ghost use Rattle.gix_ref_theory.specs.OnRealTrees.{contents};
 ghost use Rattle.gix_ref_transaction.specs.CommitRenames.{SeesItsLog, SeeLogs, path_in};
 ghost use Rattle.gix_ref_reflog.specs.AskedEdits.{asked, asked_edit, all_but_logs, but_log, outcome_of, outcomes_of};
 ghost use Rattle.gix_ref_reflog.specs.DueLines.{due_line, log_outcome, log_outcomes, outcome_by, asked_log, rules_of, with_log};
+ghost use Rattle.gix_ref_reflog.specs.MadeLogs.{below_logs, makes_log};
+ghost use Rattle.gix_ref_transaction.specs.OwnLocks.{is_in};
 ghost use Rattle.gix_ref_reflog.specs.LineCauses.{AllHaveNoCause, IsCountedCause, IsRefusal, IsRefusalAt, HasNoCause};
 ghost use Rattle.gix_ref_reflog.specs.internal.LineSteps.{log_rules, OfSeen, Sees};
 ghost use Rattle.gix_ref_reflog.specs.internal.SeenLogs.{due_paths, IsBounded};
@@ -24,7 +27,7 @@ use gix_ref_hash::hash::ObjectId;
 use gix_ref_log::actor::SignatureRef;
 use gix_ref_lookup::settings::Settings;
 use gix_ref_transaction::edit::{Edit, LogEffect};
-use std::alloc::Global;
+use std::alloc::{AllocError, Global};
 
 /// What is due for an edit.
 #[derive(Drop)]
@@ -48,6 +51,38 @@ impl Due {
             log_seen: None,
         }
     }
+}
+
+/// Whether there is a log for the line of an edit, at this path: it is there, is made, or has a line due.
+fn has_log(
+    alloc: Global,
+    rules: ReflogPolicy<'_>,
+    due: &DueLogs,
+    edit: &Edit,
+    is_file: bool,
+    path: &[u8],
+) -> Result<bool, AllocError>
+    ensures { IfOk result (λ has. has ≡ ((is_file || is_in (due_paths due.now) path.now)
+        || makes_log rules.entry.write_reflog (is_forced edit.now.update.change)
+        (below_logs (log_rules rules.entry).namespace (name_of edit.now.update)))) }
+{
+    if is_file || rules.makes_log(alloc, edit)? {
+        return Ok(true);
+    }
+    Ok(due.contains(path))
+}
+
+/// Adds the log at this path to those that have a line due, unless it is there.
+fn add_due(alloc: Global, due: &mut DueLogs, is_file: bool, path: &[u8]) -> Result<(), AllocError>
+    requires { IsBounded due.old }
+    ensures bounded { OnOk result (IsBounded due.new) }
+    ensures added { OnOk result ((q : Path) → is_in (due_paths due.new) q
+        ≡ ((not is_file && bytes_eq path.now q) || is_in (due_paths due.old) q)) }
+{
+    if is_file {
+        return Ok(());
+    }
+    due.insert(path.to_vec(alloc)?)
 }
 
 /// What is due for an edit, whose log is at this path.
@@ -82,12 +117,12 @@ fn due_line<F: Files>(
         return Ok(Due::nothing());
     };
     let place = place_at(alloc, files, due, path)?;
-    if !rules.has_log(alloc, place.is_log, edit)? {
+    if !has_log(alloc, rules, due, edit, place.is_file, path)? {
         return Ok(Due::nothing());
     }
     let message = message_of(&edit.update.change);
     let line = line_at(alloc, rules.committer, &ids, message, place, path)?;
-    due.insert(path.to_vec(alloc)?)?;
+    add_due(alloc, due, place.is_file, path)?;
     Ok(Due {
         line: Some(line),
         log_seen: Some(place.node),

@@ -1,4 +1,4 @@
-//! The logs that have a line due, by their paths, and what lies in the path of a log.
+//! The logs that have a line due and are not there, by their paths, and what lies in the path of a log.
 ghost use Rattle.std.specs.Prelude.{◌≡◌, ◌||◌, OnOk, bytes_eq, false};
 ghost use Rattle.std.specs.List.{list_any};
 ghost use Rattle.gix_ref_files.specs.Tree.{fronts, Path};
@@ -8,7 +8,7 @@ ghost use Rattle.gix_ref_transaction.specs.OwnLocks.{is_in};
 use std::alloc::{AllocError, Global};
 use std::collections::HashSet;
 
-/// The logs that have a line due, by their paths.
+/// The logs that have a line due and are not there, by their paths.
 #[derive(Drop)]
 pub struct DueLogs {
     /// All but the one that was added last: so a transaction of one edit hashes none.
@@ -68,6 +68,9 @@ impl DueLogs {
         requires { IsBounded self.now }
         ensures { result ≡ list_any (is_in (due_paths self.now)) (fronts path.now) }
     {
+        if path.len() <= self.shortest {
+            return false;
+        }
         for i in 1..path.len() {
             if path[i] == b'/' && i >= self.shortest && self.contains(&path[..i]) {
                 return true;

@@ -36,6 +36,22 @@ pub fn below_logs(
     Ok(path)
 }
 
+/// Whether the log of a name, in the namespace with this text, is made where log lines are written as usual. The error reports that
+/// there was no memory for its path in a namespace.
+pub fn makes_log_by_default(
+    alloc: Global,
+    namespace: &[u8],
+    name: FullNameRef<'_>,
+) -> Result<bool, AllocError>
+    ensures { IfOk result (λ makes. makes
+        ≡ is_logged_by_default (below_logs namespace.now (full_ref_bytes name.entry))) }
+{
+    if namespace.is_empty() {
+        return Ok(is_logged_by_default(location_name(location_or_common(name))));
+    }
+    Ok(is_logged_by_default(&below_logs(alloc, namespace, name)?))
+}
+
 /// Whether a path is a folder, or begins with it and a slash.
 fn is_or_is_below(path: &[u8], folder: &[u8], with_slash: &[u8]) -> bool
     requires { with_slash.now ≡ folder.now ++ 47 ∷ [] }

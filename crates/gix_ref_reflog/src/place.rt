@@ -22,8 +22,8 @@ use std::alloc::Global;
 pub struct Place {
     /// What is there.
     pub node: Node,
-    /// Whether the log is there, or has a line due.
-    pub is_log: bool,
+    /// Whether the log is there.
+    pub is_file: bool,
     /// Whether a file is where a folder of its path would be.
     pub is_blocked: bool,
 }
@@ -46,7 +46,7 @@ fn fault_at(alloc: Global, path: &[u8], fault: FileError) -> Error
     }
 }
 
-/// What there is at the path of a log, where the logs that have a line due count as files. Makes one call of files.
+/// What there is at the path of a log. In the path the logs that have a line due count as files. Makes one call of files.
 pub fn place_at<F: Files>(
     alloc: Global,
     files: &mut F,
@@ -56,8 +56,8 @@ pub fn place_at<F: Files>(
     requires { IsBounded due.now }
     ensures node { F.honest →
         IfOk result (λ place. place.node ≡ node_at (F.means files.old).tree path.now) }
-    ensures log { F.honest → IfOk result (λ place. place.is_log
-        ≡ (is_some (contents F.means files.old path.now) || is_in (due_paths due.now) path.now)) }
+    ensures file { F.honest → IfOk result (λ place. place.is_file
+        ≡ is_some (contents F.means files.old path.now)) }
     ensures blocked { F.honest → IfOk result (λ place. place.is_blocked ≡ (is_blocked (F.means
         files.old).tree path.now || list_any (is_in (due_paths due.now)) (fronts path.now))) }
     ensures failed { IfErr result (IsFaultAt path.now) }
@@ -69,7 +69,7 @@ pub fn place_at<F: Files>(
             let is_file = node == Node::File;
             Ok(Place {
                 node,
-                is_log: is_file || due.contains(path),
+                is_file,
                 is_blocked: node == Node::Blocked || due.is_above(path),
             })
         }

@@ -4,7 +4,7 @@ ghost use Rattle.gix_ref_edits.specs.RefEdits.{is_forced, message_of};
 ghost use Rattle.gix_ref_reflog.specs.DueLines.{is_off};
 
 use crate::ids::{LineIds, ids_of};
-use crate::names::{below_logs, is_logged_by_default};
+use crate::names::makes_log_by_default;
 use crate::write_reflog::WriteReflog;
 use gix_ref_edits::transaction::Change;
 use gix_ref_hash::hash::ObjectId;
@@ -56,7 +56,7 @@ pub fn message_of(change: &Change) -> &[u8]
 }
 
 impl ReflogPolicy<'_> {
-    ghost use Rattle.std.specs.Prelude.{◌||◌, IfOk};
+    ghost use Rattle.std.specs.Prelude.{IfOk};
     ghost use Rattle.gix_ref_edits.specs.RefEdits.{name_of};
     ghost use Rattle.gix_ref_reflog.specs.AskedEdits.{asked_edit};
     ghost use Rattle.gix_ref_reflog.specs.DueLines.{written_ids};
@@ -74,7 +74,7 @@ impl ReflogPolicy<'_> {
     }
 
     /// Whether a log that is missing is made.
-    fn makes_log(self, alloc: Global, edit: &Edit) -> Result<bool, AllocError>
+    pub fn makes_log(self, alloc: Global, edit: &Edit) -> Result<bool, AllocError>
         ensures { IfOk result (λ makes. makes
             ≡ makes_log self.entry.write_reflog (is_forced edit.now.update.change)
             (below_logs (log_rules self.entry).namespace (name_of edit.now.update))) }
@@ -87,21 +87,8 @@ impl ReflogPolicy<'_> {
                     return Ok(true);
                 }
                 let layout = layout_in(self.settings.dirs, self.settings.namespace);
-                let below = below_logs(alloc, layout.namespace, edit.update.name.as_ref())?;
-                Ok(is_logged_by_default(&below))
+                makes_log_by_default(alloc, layout.namespace, edit.update.name.as_ref())
             }
         }
-    }
-
-    /// Whether there is a log for the line of an edit, or one is made.
-    pub fn has_log(self, alloc: Global, is_log: bool, edit: &Edit) -> Result<bool, AllocError>
-        ensures { IfOk result (λ has. has
-            ≡ (is_log || makes_log self.entry.write_reflog (is_forced edit.now.update.change)
-            (below_logs (log_rules self.entry).namespace (name_of edit.now.update)))) }
-    {
-        if is_log {
-            return Ok(true);
-        }
-        self.makes_log(alloc, edit)
     }
 }

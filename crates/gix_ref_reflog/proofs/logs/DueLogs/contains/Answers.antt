@@ -1,5 +1,5 @@
-use Rattle.std.proofs.Common.{◌≡◌, ◌∙◌, ap, sym, false, map, Bool, ℕ}
-use Rattle.std.specs.Prelude.{◌||◌, Vec}
+use Rattle.std.proofs.Common.{◌∙◌, sym, false, map, ℕ}
+use Rattle.std.specs.Prelude.{Vec}
 use Rattle.std.specs.declared.alloc.Global.{Global}
 use Rattle.gix_ref_reflog.specs.internal.SeenLogs.{last_path}
 use Rattle.gix_ref_reflog.proofs.LogPaths.{among_both, key_found}
