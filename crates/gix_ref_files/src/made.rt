@@ -26,7 +26,7 @@ pub(crate) struct MadeFiles {
     before: VecDeque<String>,
 }
 
-/// Whether a path is that of a lock file (`gitrepository-layout`).
+/// Whether a path ends as that of a lock file, and as no name may (`git check-ref-format`).
 fn is_lock(path: &[u8]) -> bool {
     path.ends_with(b".lock")
 }
