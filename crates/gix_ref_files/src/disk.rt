@@ -25,8 +25,8 @@ use std::{fmt, fs, io};
 /// between the two can still make a call wait.
 ///
 /// The file that `create_new` made last stays open until a file is renamed or removed, or another one is made: so what is added to it and
-/// synced is one system call each. Nor is a lock file that it made looked at before it is renamed or removed, unless one that was made
-/// later went before it.
+/// synced is one system call each. Nor are lock files that it made looked at before they are renamed or removed in the order in which
+/// they were made, or from the last one back.
 ///
 /// The folder that `make_folders` found or made last is not looked at again. Where another program has removed it since, `create_new`
 /// makes it anew. Nor does `append` look again at the file that `kind` found last.
@@ -329,7 +329,7 @@ impl Files for Disk {
     }
 
     /// Two system calls: the first one looks whether it is a file, since the second would move a folder too. For a file that was made last,
-    /// and mostly for a lock file that was made here, the second alone. One more closes the file that was made last.
+    /// and for lock files in the order that `Disk` tells, the second alone. One more closes the file that was made last.
     fn rename(&mut self, from: &[u8], to: &[u8]) -> Result<Rename, FileError> {
         let renamed = match &self.made.take(from) {
             Some(from) => move_file(&self.rt, from, text_of(&mut self.faults, to)?),
@@ -344,8 +344,8 @@ impl Files for Disk {
         }
     }
 
-    /// Two system calls: the first one looks whether it is a file. For a file that was made last, and mostly for a lock file that was
-    /// made here, the second alone. One more closes the file that was made last.
+    /// Two system calls: the first one looks whether it is a file. For a file that was made last, and for lock files in the order that
+    /// `Disk` tells, the second alone. One more closes the file that was made last.
     fn remove_file(&mut self, path: &[u8]) -> Result<bool, FileError> {
         let removed = match &self.made.take(path) {
             Some(path) => remove_made(&self.rt, path),

@@ -31,8 +31,11 @@ fn is_lock(path: &[u8]) -> bool {
     path.ends_with(b".lock")
 }
 
-/// Takes a path out of these, and those before it. `None` where it is not among them: then all are gone.
+/// Takes a path out of these: the newest alone, or any other and those before it. `None` where it is not among them: then all are gone.
 fn take_from(paths: &mut VecDeque<String>, path: &[u8]) -> Option<String> {
+    if paths.back().is_some_and(|made| made.as_bytes() == path) {
+        return paths.pop_back();
+    }
     for _ in 0..paths.len() {
         let made = paths.pop_front()?;
         if made.as_bytes() == path {
@@ -92,8 +95,8 @@ impl MadeFiles {
     }
 
     /// Closes the file that was made last, and takes out the file of this path, which is to be renamed or removed: its path. `None` where it
-    /// is not one of these. The lock files that were made before a lock file that is taken out are forgotten, unless it was made last;
-    /// and so are all of them at a lock file that is not one of these.
+    /// is not one of these. So lock files are taken out in the order in which they were made, or from the last one back. The lock files
+    /// before one that is taken out in neither order are forgotten, and so are all of them at a lock file that is not one of these.
     pub(crate) fn take(&mut self, path: &[u8]) -> Option<String> {
         if let Some(last) = self.last.take() {
             let made = last.close();
