@@ -10,6 +10,7 @@ pub mod MemorySearches
 pub mod NamesInTurn
 pub mod OneItem
 pub mod OrderLemmas
+pub mod Outside
 pub mod OwedRecords
 pub mod PartLemmas
 pub mod PrefixBuffers

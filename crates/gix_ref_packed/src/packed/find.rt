@@ -1,7 +1,12 @@
 //! The search for a reference in a `packed-refs` in memory, by halving.
-ghost use Rattle.std.specs.Prelude.{◌≡◌, ◌≤◌, ◌<◌, ◌++◌, true, false, length};
+ghost use Rattle.std.specs.Prelude.{◌≡◌, ◌≤◌, ◌<◌, ◌++◌, List, None, true, false, length};
+ghost use Rattle.std.specs.Bool.{OnTrue};
 ghost use Rattle.gix_ref_name.specs.NameGrammar.{IsPartialName};
+ghost use Rattle.gix_ref_target.specs.PackedRecords.{Record, record_named};
 ghost use Rattle.gix_ref_packed.specs.Searches.{Finds, FindsOne, FindsPartial};
+ghost use Rattle.gix_ref_packed_text.specs.RecordGrammar.{Forms, Ascending};
+ghost use Rattle.gix_ref_packed_text.specs.Positions.{HasRecordLine};
+ghost use Rattle.gix_ref_packed_text.specs.Probed.{IsProbeAt};
 ghost use Rattle.gix_ref_packed_text.specs.SearchCosts.{CountsProbes};
 ghost use Rattle.gix_ref_name.specs.Candidates.{is_full_ref_path as rooted};
 
@@ -13,10 +18,11 @@ use gix_ref_name::name::candidates::is_full_ref_path;
 use gix_ref_name::name::{self, FullNameRef, PartialNameRef};
 use gix_ref_packed_text::packed::decode::take_record;
 use gix_ref_packed_text::packed::search::search;
-use gix_ref_packed_text::packed::searchable::InMemory;
+use gix_ref_packed_text::packed::searchable::{InMemory, Probe, ProbeMode, SearchableRecords};
 use gix_ref_packed_text::packed::{Probes, Reference};
 use gix_ref_target::layout::packed_key;
 use std::alloc::{AllocError, Global};
+use std::cmp::Ordering;
 use std::marker::Brand;
 use std::sync::ledger::{Blank, Ledger};
 use thiserror::Error;
@@ -104,7 +110,39 @@ fn find_blank<'a, L: Ledger>(
     find_record(text, kind, wanted, &mut probes)
 }
 
-/// The record of the name in a text of records, where nobody counts.
+/// What a sure look at the record that this byte is in sees.
+fn probe_at(text: &[u8], kind: Kind, offset: usize, wanted: &[u8]) -> Probe
+    requires { offset < length text.now }
+    ensures probed { IsProbeAt kind text.now wanted.now true offset result }
+    ensures beyond { offset < result.next }
+{
+    let mut whole = InMemory { bytes: text };
+    let look = ProbeMode::sure(text.len() as u64);
+    match whole.probe(kind, offset as u64, wanted, look) {
+        Ok(probe) => probe,
+        Err(never) => match never {},
+    }
+}
+
+/// Whether the name lies behind that of the last record, or before that of the first: where names rise, no record has it.
+fn lies_outside(text: &[u8], kind: Kind, wanted: &[u8]) -> bool
+    ensures none { OnTrue result ((rs : List Record) → Forms kind text.now rs → Ascending rs →
+        record_named wanted.now rs ≡ None) }
+    ensures some { OnTrue result (HasRecordLine kind text.now) }
+{
+    let Some(end) = text.len().checked_sub(1) else {
+        return false;
+    };
+    let last = probe_at(text, kind, end, wanted);
+    if let Some(Ordering::Less) = last.order {
+        return true;
+    }
+    let first = probe_at(text, kind, 0, wanted);
+    matches!(first.order, Some(Ordering::Greater))
+}
+
+/// The record of the name in a text of records, where nobody counts. Most records are below `refs/`: a name that is not
+/// is mostly known by the first and the last of them.
 fn find_uncounted<'a>(
     text: &'a [u8],
     kind: Kind,
@@ -112,6 +150,9 @@ fn find_uncounted<'a>(
 ) -> Result<Option<Reference<'a>>, ParseError>
     ensures { Finds kind text.now wanted.now result }
 {
+    if !wanted.starts_with(b"refs/") && lies_outside(text, kind, wanted) {
+        return Ok(None);
+    }
     find_blank::<Brand>(text, kind, wanted, Blank::new(1))
 }
 

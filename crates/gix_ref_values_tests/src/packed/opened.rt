@@ -1,6 +1,6 @@
 //! A `packed-refs` that is opened: as a buffer, and for searches in its file.
 use crate::made::{full, id};
-use crate::packed::made::{SORTED, stored};
+use crate::packed::made::{SORTED, buffer, stored};
 use gix_ref_files::files::Files;
 use gix_ref_hash::hash::Kind;
 use gix_ref_memory::memory::Memory;
@@ -15,6 +15,12 @@ const ONE: &[u8] = b"1111111111111111111111111111111111111111 refs/heads/a\n";
 
 const UNSORTED: &[u8] =
     b"2222222222222222222222222222222222222222 refs/tags/b\n1111111111111111111111111111111111111111 refs/heads/a\n";
+
+/// Records before those below `refs/`, among them, and behind them.
+const OUTSIDE: &[u8] = b"1111111111111111111111111111111111111111 heads/refs/a\n\
+2222222222222222222222222222222222222222 refs/heads/a\n\
+4444444444444444444444444444444444444444 tags/refs/a\n\
+^3333333333333333333333333333333333333333\n";
 
 const BAD_HEADER: &[u8] = b"# foo\n1111111111111111111111111111111111111111 refs/heads/a\n";
 
@@ -99,6 +105,31 @@ fn asked(
     let opened = PackedFile::open(alloc, memory, b"r/packed-refs", Kind::Sha1);
     let mut packed = opened.expect(rt, "it is opened").expect(rt, "a file");
     packed.find(full(rt, name))
+}
+
+#[test]
+fn names_outside_of_refs(rt: HostRuntime) {
+    let alloc = rt.alloc();
+    let packed = buffer(&rt, alloc, OUTSIDE);
+    let mut memory = stored(&rt, alloc, OUTSIDE);
+    let rows: &[(&str, bool, &str)] = &[
+        ("heads/refs/a", true, "the first record"),
+        ("refs/heads/a", true, "a record below refs/"),
+        ("tags/refs/a", true, "the last record"),
+        ("heads/refs/0", false, "before the first"),
+        ("heads/refs/b", false, "behind the first"),
+        ("remotes/refs/a", false, "between two"),
+        ("tags/refs/0", false, "before the last"),
+        ("tags/refs/b", false, "behind the last"),
+    ];
+    for &(name, want, meaning) in rows {
+        let held = packed
+            .try_find_key(full(&rt, name))
+            .expect(&rt, "an answer");
+        assert!(rt; held.is_some() == want, "{meaning}");
+        let read = asked(&rt, alloc, &mut memory, name).expect(&rt, "an answer");
+        assert!(rt; read.is_some() == want, "{meaning}, in a file");
+    }
 }
 
 #[test]
