@@ -1,4 +1,4 @@
-//! `gix_ref`, the references of a Git repository: every public item, under the paths of the Rust crate `gix-ref`.
+//! `gix_ref`, the references of a Git repository: what users reach, under the paths of the Rust crate `gix-ref` where it has them.
 //!
 //! - `name`, `namespace`, `target`, `hash`: names of references, namespaces, targets and ids.
 //! - `file`: the store over files, its lookups and its transactions; `store`: its options; `transaction`: edits; `peel`: errors

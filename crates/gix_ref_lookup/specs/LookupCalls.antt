@@ -150,8 +150,8 @@ module _ {F R : Type 0} {G : Ghosts R} (honest : Type 0) (means : F → Meaning)
   FailsAtHead p = FailsBy (MemoryOr (λ error. Among (λ name. IsLooseFault name error)
       (head_names p)))
 
-  -- A step only reads: it leaves the files and the records that it borrows, the settings, and records that are asked as before;
-  -- and nothing is at the path that it keeps.
+  -- A step only reads: it leaves the files and the records that it borrows, the settings, and records that are asked as before.
+  -- Nothing is at the path that it keeps, if nothing was at the one before.
   pub record LooksOn : Type 0 where
     pub files : new.files.ghost_name ≡ old.files.ghost_name
     pub records : new.records.ghost_name ≡ old.records.ghost_name

@@ -16,7 +16,7 @@ use Rattle.gix_ref_target.specs.declared.target.Target.{Target}
 use Rattle.gix_ref_target.specs.PackedRecords.{Record, record_named}
 use Rattle.gix_ref_files.specs.Files.{FaultCounts, IsMet, Meaning}
 use Rattle.gix_ref_files.specs.declared.files.FileError.{FileError}
-use Rattle.gix_ref_files.specs.Tree.{Path, Tree}
+use Rattle.gix_ref_files.specs.Tree.{Path, Tree, is_folder}
 use Rattle.gix_ref_files.specs.declared.files.FileError.TheVariants.{Device, Memory as no_memory}
 use Rattle.std.specs.declared.io.ErrorKind.TheVariants.{InvalidData}
 use Rattle.gix_ref_files.specs.declared.files.ReadAt.{Ghosts}
@@ -240,10 +240,11 @@ target_seen (looks.Nothing path) = None
 target_seen looks.Folder = None
 target_seen (looks.Holds target) = Some target
 
--- what is said to be nothing is this path, and nothing is there
-abbrev pub ShowsNothing : Tree → Path → Look → Type 0
-ShowsNothing T path (looks.Nothing at) = (at.items ≡ path) × (T path ≡ None)
-ShowsNothing T path other = Unit {0}
+-- what is said to be nothing is this path, and nothing is there; and what is said to be a folder is one
+abbrev pub Shows : Tree → Path → Look → Type 0
+Shows T path (looks.Nothing at) = (at.items ≡ path) × (T path ≡ None)
+Shows T path looks.Folder = is_folder (T path) ≡ true
+Shows T path other = Unit {0}
 
 -- nothing is at the path that is kept, if one is
 abbrev pub HasNothing : Tree → (kept : Path) → Type 0
@@ -327,7 +328,8 @@ abbrev pub OfKey : Store → List ℕ → (List ℕ → Type 0) → Type 0
 OfKey s name P = (key : List ℕ) × (s.key name ≡ Some key) × P key
 
 -- on any text of `packed-refs`: a name has no key, or no record is found
-abbrev pub HasNoRecord : {R : Type 0} {G : Ghosts R} → Settings → View → Records R G → List ℕ → Type 0
+abbrev pub HasNoRecord : {R : Type 0} {G : Ghosts R} → Settings → View → Records R G → List ℕ →
+    Type 0
 HasNoRecord settings view records name =
     let s = meaning_in settings in
     HasNoKey s name ⊎ FindsNone settings.kind (view s.packed_path) records
@@ -353,8 +355,8 @@ RecordFails {R} {G} honest settings T records before now name =
     (λ error. AreOfFile records × IsRefusedFile settings.kind (T s.packed_path) error)
 
 -- why `packed-refs` is not opened: a fault; a text that is refused; no memory
-abbrev pub IsNotOpened : (honest : Type 0) → (Fault : FileError → Type 0) → Settings → Tree → Error →
-    Type 0
+abbrev pub IsNotOpened : (honest : Type 0) → (Fault : FileError → Type 0) → Settings → Tree →
+    Error → Type 0
 IsNotOpened honest Fault settings T =
     IsNotPacked honest Fault ⊥ (IsRefusedFile settings.kind (T (meaning_in settings).packed_path))
 

@@ -1,5 +1,6 @@
 -- What the loose file of a reference is decoded to.
-use Rattle.std.specs.Prelude.{◌≡◌, ℕ, List, Option, Some, None}
+use Rattle.std.specs.Prelude.{◌≡◌, ℕ, List, true, Option, Some, None}
+use Rattle.gix_ref_files.specs.Tree.{Content, is_folder}
 use Rattle.gix_ref_target.specs.Targets.{target_value}
 use Rattle.gix_ref_hash.specs.declared.hash.Kind.{Kind}
 use Rattle.gix_ref_lookup.specs.LooseText.{HoldsTarget, CannotDecode}
@@ -20,3 +21,9 @@ IsDecoded kind file Folder = file ≡ None
 IsDecoded kind file (Holds target) = (bytes : List ℕ) × (file ≡ Some bytes)
     × HoldsTarget kind bytes (target_value target)
 IsDecoded kind file (Undecodable error) = IsUndecodable kind file error
+
+-- what is said to be nothing is nothing, and what is said to be a folder is one
+abbrev pub IsThere : Option Content → Loose → Type 0
+IsThere content Nothing = content ≡ None
+IsThere content Folder = is_folder content ≡ true
+IsThere content other = Unit {0}

@@ -8,7 +8,7 @@ ghost use Rattle.gix_ref_target.specs.Targets.{target_value};
 ghost use Rattle.gix_ref_target.specs.Targets.TargetValue.{object_id};
 ghost use Rattle.gix_ref_theory.specs.OnRealTrees.{contents};
 ghost use Rattle.gix_ref_lookup.specs.StoreLayout.{namespace_text};
-ghost use Rattle.gix_ref_lookup.specs.Lookups.{AreAsked, AreHonest, IsFaultOrMemory, IsLooseTarget, IsNotReadAt, IsOfKey, IsReady, LeavesReady, SearchFails, SeesKey, ShowsNothing, meaning_in, target_seen};
+ghost use Rattle.gix_ref_lookup.specs.Lookups.{AreAsked, AreHonest, IsFaultOrMemory, IsLooseTarget, IsNotReadAt, IsOfKey, IsReady, LeavesReady, SearchFails, SeesKey, Shows, meaning_in, target_seen};
 ghost use Rattle.gix_ref_files.specs.ReadOnly.{OnlyReads};
 
 use crate::find::lookup::Lookup;
@@ -46,7 +46,7 @@ fn look_at<F: Files>(
 ) -> Result<Look, Error>
     ensures found { F.honest → IfOk result (λ look. IsLooseTarget (meaning_in settings.entry)
         (contents F.means files.old path.items) (target_seen look)) }
-    ensures nothing { F.honest → IfOk result (ShowsNothing (F.means files.old).tree path.items) }
+    ensures there { F.honest → IfOk result (Shows (F.means files.old).tree path.items) }
     ensures allowed { OnOk result ((meaning_in settings.entry).is_prohibited path.items ≡ false) }
     ensures failed { IfErr result (IsNotReadAt F.honest settings.entry.kind
         (meaning_in settings.entry) (contents F.means files.old) (F.faults files.old)
@@ -247,6 +247,7 @@ impl<F: Files> Lookup<'_, '_, '_, F> {
     /// The reference of a candidate: by its loose file, and else by its record. `ReadFileContents` where the loose file cannot
     /// be read, `ReferenceCreation` where it holds no target, `PackedOpen` where `packed-refs` cannot be opened or read,
     /// `PackedRef` where a malformed line was met and nothing was found or the record cannot be read, and `Memory`.
+    /// Nothing may be at the path `nothing_at`: none is kept in an empty buffer, and each lookup leaves it so.
     pub fn find_candidate(&mut self, name: FullNameRef<'_>) -> Result<Option<Reference>, Error>
         requires nothing { KeepsNothing F.honest F.means self.old }
         ensures found { FindsCandidate F.honest F.means self.old (full_ref_bytes name.entry)

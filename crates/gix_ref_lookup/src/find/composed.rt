@@ -63,7 +63,7 @@ impl<F: Files> Lookup<'_, '_, '_, F> {
 
     /// The reference that a partial name is short for (`gitrevisions`). Where names are composed, the name is asked in composed
     /// form, and where that is another name, the reference is given under its decomposed name (`core.precomposeUnicode` of
-    /// `git config`). The errors are those of `find_candidate`, of the first candidate that fails.
+    /// `git config`). The errors are those of `find_candidate`, of the first candidate that fails; and `nothing_at` is as there.
     pub fn find_reference(
         &mut self,
         composes: bool,

@@ -100,7 +100,7 @@ impl<F: Files> Lookup<'_, '_, '_, F> {
 
     /// The reference that a partial name is short for: the first of its candidates that exists, or else the `HEAD` of a remote
     /// of this name, as a loose file alone (`gitrevisions`). The name is asked as it is. The errors are those of
-    /// `find_candidate`, of the first candidate that fails.
+    /// `find_candidate`, of the first candidate that fails; and `nothing_at` is as there.
     pub fn find_asked(&mut self, name: PartialNameRef<'_>) -> Result<Option<Reference>, Error>
         requires nothing { KeepsNothing F.honest F.means self.old }
         ensures found { FindsAsked F.honest F.means self.old (partial_ref_bytes name.entry) result }

@@ -1,10 +1,10 @@
 //! The loose file at a place, decoded.
-ghost use Rattle.std.specs.Prelude.{◌≡◌, IfOk, IfErr, None, Some};
+ghost use Rattle.std.specs.Prelude.{◌≡◌, IfOk, IfErr, Some};
 ghost use Rattle.gix_ref_files.specs.Files.{AtEveryStop, OnEveryDisk, count_after};
 ghost use Rattle.gix_ref_files.specs.Calls.{Unchanged};
 ghost use Rattle.gix_ref_files.specs.DiskCalls.{Untouched};
 ghost use Rattle.gix_ref_theory.specs.OnRealTrees.{contents};
-ghost use Rattle.gix_ref_lookup.specs.LooseFiles.{IsDecoded};
+ghost use Rattle.gix_ref_lookup.specs.LooseFiles.{IsDecoded, IsThere};
 
 use crate::loose::{Error, decode};
 use gix_ref_files::files::{FileError, Files, Node};
@@ -46,8 +46,7 @@ pub fn loose_at<F: Files>(
 ) -> Result<Loose, FileError>
     ensures decoded { F.honest →
         IfOk result (IsDecoded kind (contents F.means files.old place.now)) }
-    ensures nothing { F.honest → IfOk result
-        (λ loose. loose ≡ Loose.Nothing → (F.means files.old).tree place.now ≡ None) }
+    ensures there { F.honest → IfOk result (IsThere ((F.means files.old).tree place.now)) }
     ensures leaves { F.honest → AtEveryStop F.means files.old files.new Unchanged }
     ensures passes { F.honest → OnEveryDisk F.means files.old files.new Untouched }
     ensures count { F.faults files.new ≡ count_after result (F.faults files.old) }

@@ -84,7 +84,7 @@ pub enum Error {
         expected: Target,
         actual: Target,
     },
-    /// Never returned: a loose file that cannot be decoded counts as absent. As the variant of gix-ref, where such a file is an error.
+    /// Never returned: a loose file that cannot be decoded counts as absent, as in gix-ref, which has this variant.
     #[error("{0}")]
     ReferenceDecode(loose::Error),
     /// A call of files failed.
