@@ -162,7 +162,36 @@ def side_by_side(count=4, updates=300):
     return wrong
 
 
-failed = kills() + side_by_side()
+def race(folder, name, old, new):
+    """Lets a session for each of these ids set the reference to it at once, if it is at its old value. The ids of those that did."""
+    started = [session(folder, '--without-syncs', *LOGS) for _ in new]
+    for it, id in zip(started, new):
+        it.stdin.write(('start\nupdate %s %s %s\ncommit\n' % (name, id, old)).encode())
+    for it in started:
+        it.stdin.flush()
+    answers = [it.communicate()[0] for it in started]
+    return [id for id, answer in zip(new, answers) if answer.endswith(b'commit: ok\n')]
+
+
+def on_one_branch(count=4, races=100):
+    name, values, wrong = 'refs/heads/one', ['%040x' % 1], []
+    folder = new_repository('one', {name: values[0]})
+    for number in range(races):
+        new = ['%040x' % (2 + number * count + place) for place in range(count)]
+        won = race(folder, name, values[-1], new)
+        now = value_of(folder, name)
+        if won != [now]:
+            wrong.append('race %d: %r won, and %s reads %s' % (number, won, name, now))
+        values.append(now)
+    with open(os.path.join(folder, 'logs', name)) as log:
+        logged = [line.split()[:2] for line in log]
+    if logged != [list(pair) for pair in zip(values, values[1:])]:
+        wrong.append('the reflog of %s is not its values' % name)
+    print('try-sessions: %d races of %d sessions for one branch: %d faults' % (races, count, len(wrong)))
+    return wrong
+
+
+failed = kills() + side_by_side() + on_one_branch()
 for line in failed:
     print('try-sessions: ' + line)
 sys.exit(1 if failed else 0)
