@@ -5,26 +5,10 @@
 //! that is right: `bin/refuse-allocations` refuses one allocation of such a run. The status is 0 where all was done, and else 1.
 #![tactic(auto)]
 
-mod causes;
-mod edits;
-mod formats;
-mod judge;
-mod later;
-mod locks;
-mod names;
-mod objects;
-mod read_back;
-mod reads;
-mod sweep;
-mod texts;
-mod transactions;
-mod tree;
-mod twice;
-mod world;
-
-use crate::judge::{Verdict, judge_refused, verdict_on};
-use crate::texts::Texts;
 use anyhow::{Context, Result};
+use case_judge::judge::{Verdict, judge_refused, verdict_on};
+use case_verbs::verbs::AllVerbs;
+use case_world::texts::Texts;
 use std::process::ExitCode;
 use std::{env, fs};
 
@@ -42,7 +26,7 @@ fn play_text(rt: &HostRuntime, texts: &mut Texts, text: &str) -> Result<(usize, 
             lines.push(line.to_string(alloc)?)?;
             continue;
         }
-        match verdict_on(alloc, texts, lines.as_slice())? {
+        match verdict_on(alloc, &AllVerbs, texts, lines.as_slice())? {
             Verdict::None => {}
             Verdict::Right => count = count.saturating_add(1),
             Verdict::Wrong(said) => {
@@ -80,7 +64,7 @@ fn play_refused(rt: &HostRuntime, texts: &mut Texts, name: &str) -> Result<bool>
             lines.push(line.to_string(alloc)?)?;
             continue;
         }
-        if judge_refused(alloc, texts, lines.as_slice())? == Some(false) {
+        if judge_refused(alloc, &AllVerbs, texts, lines.as_slice())? == Some(false) {
             is_done = false;
         }
         lines.clear();

@@ -1,7 +1,6 @@
-//! Tests of the store and of the layers above it.
+//! Tests of the store and of the layers above it, without those of transactions.
 //!
 //! - `store`: folders, loose texts, lookups and listings.
-//! - `transaction`: whole transactions, random ones too, and ones that are stopped, fail or lose power.
 //! - `follow`: following and peeling references, and their reflogs.
 //! - `program`: runs of `refs` over the disk and in memory, a writer that fails, and what errors display.
 #![tactic(auto)]
@@ -14,5 +13,3 @@ mod program;
 mod store;
 #[cfg(test)]
 mod texts;
-#[cfg(test)]
-mod transaction;
