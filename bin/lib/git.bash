@@ -1,11 +1,7 @@
-# What the comparisons with git share, read by their scripts. Where git is not installed the script that reads this says so,
-# and ends with status 0.
-top=$(cd "$(dirname "$(readlink -f "${BASH_SOURCE[0]}")")/.." && pwd)
-script=$(basename "$0")
-if ! command -v git >/dev/null; then
-    echo "$script: git is not installed, so nothing is compared"
-    exit 0
-fi
+# What the comparisons with git share, read by bin/compare-with-git, which has set `top` and `script`. The programs that are compared are
+# `refs` and `session`.
+refs=${REFS-$top/crates/refs/out/refs}
+session=${REFS_SESSION-$top/crates/refs_session/out/refs_session}
 # Nothing of the caller's configuration counts.
 export GIT_CONFIG_NOSYSTEM=1 GIT_CONFIG_GLOBAL=/dev/null
 export GIT_AUTHOR_NAME=A GIT_AUTHOR_EMAIL=a@example.com GIT_COMMITTER_NAME=C GIT_COMMITTER_EMAIL=c@example.com
@@ -32,7 +28,7 @@ same() {
 # with a slash.
 compare() {
     git -C "$2" for-each-ref --format="$line" ${4:+"$4"} >"$work/wanted"
-    "$top/bin/refs" "$2/.git" ${3:+"$3"} list ${4:+"$4"} >"$work/listed"
+    "$refs" "$2/.git" ${3:+"$3"} list ${4:+"$4"} >"$work/listed"
     same "$1" "$work/wanted" "$work/listed" references
 }
 

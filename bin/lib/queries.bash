@@ -1,9 +1,9 @@
-# The reading commands that compare-session-with-git compares.
+# The reading commands that compare-with-git compares.
 
 # asked WORD..: one command of git and of `refs-session`, in `repository`: what each prints and its status.
 asked() {
     { git -C "$repository" -c core.abbrev=no "$@" 2>/dev/null; echo "status $?"; } >>"$work/wanted"
-    { "$REFS_SESSION" "$repository/.git" $option "$@" 2>/dev/null; echo "status $?"; } >>"$work/listed"
+    { "$session" "$repository/.git" $option "$@" 2>/dev/null; echo "status $?"; } >>"$work/listed"
 }
 
 # add_short_names: names that are short for several references.
@@ -38,8 +38,8 @@ reading() {
     done
 }
 
-# read_both: what is asked of both, and compared.
-read_both() {
+# query_both: what is asked of both, and compared.
+query_both() {
     : >"$work/wanted"
     : >"$work/listed"
     add_short_names

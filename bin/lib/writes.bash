@@ -1,4 +1,4 @@
-# The changes that compare-writes-with-git makes, one in a line. `one` and `two` are the ids of the first two commits, of which
+# The changes that compare-with-git makes, one in a line. `one` and `two` are the ids of the first two commits, of which
 # `main` is at the second, `tag` that of an annotated tag, and `null` has only zeros.
 
 # changes: what both make in the same way, one after the other, and what both refuse.

@@ -1,4 +1,4 @@
-# The packing that compare-writes-with-git compares.
+# The packing that compare-with-git compares.
 
 # table COPY: a line for each object that a reference of it points to, with the object at the end of its tags if it is a tag, as
 # docs/SESSION.md makes them.
@@ -18,7 +18,7 @@ shown() {
 # by_pack_refs [--all [--namespace NAME]]: packs the copy of `refs`.
 by_pack_refs() {
     table refs >"$work/table"
-    "$top/bin/refs-session" "$work/refs/.git" $option "${@:2}" pack-refs ${1:+"$1"} --peeled "$work/table" >"$work/refs.out" 2>&1
+    "$session" "$work/refs/.git" $option "${@:2}" pack-refs ${1:+"$1"} --peeled "$work/table" >"$work/refs.out" 2>&1
 }
 
 # compare_packed FILES: just these files differ in the copies, and git shows the same of both; with `!` in front it may show something else.
@@ -112,7 +112,7 @@ known_packing() {
 # packing REPOSITORY: all of it, where there is nothing yet.
 packing() {
     local name repository=$1
-    make "$format" "$repository"
+    make "$format" "$repository" || return 0
     fill "$repository"
     pack_both "$format, loose" "$repository"
     link "$repository"
@@ -129,14 +129,14 @@ packing() {
     pack "!packed-refs refs/heads/missing" "$repository" --all
     # without a table branches are packed, and annotated tags stay loose
     copies "$repository"
-    "$top/bin/refs-session" "$work/refs/.git" $option pack-refs --all 2>"$work/refs.out"
+    "$session" "$work/refs/.git" $option pack-refs --all 2>"$work/refs.out"
     for name in $(git -C "$repository" for-each-ref --format='%(objecttype) %(refname)' 2>"$work/git.out" | sed -n 's/^tag //p'); do
         grep " $name\$" "$work/refs/.git/packed-refs" && fail "an annotated tag is packed without a table"
     done
     find "$work/refs/.git/refs/heads" -type f -exec grep -L '^ref:' {} + | grep . && fail "branches stay loose"
     # with --no-prune their files stay
     copies "$repository"
-    "$top/bin/refs-session" "$work/refs/.git" $option pack-refs --all --no-prune 2>"$work/refs.out"
+    "$session" "$work/refs/.git" $option pack-refs --all --no-prune 2>"$work/refs.out"
     grep -q ' refs/heads/main$' "$work/refs/.git/packed-refs" && [ -f "$work/refs/.git/refs/heads/main" ] || fail "files are pruned"
     rm "$repository/.git/refs/heads/missing" "$repository"/.git/refs/tags/{null,broken}
     git -C "$repository" pack-refs --all

@@ -1,4 +1,4 @@
-# The random steps that compare-writes-with-git compares: over two copies of one repository, which are never made anew.
+# The random steps that compare-with-git compares: over two copies of one repository, which are never made anew.
 
 # random_name: a branch, a tag or another name that `random_line` may change too.
 random_name() {
@@ -96,7 +96,7 @@ steps() {
 # stepping COUNT SEED REPOSITORY: so many random steps over the copies of a new repository.
 stepping() {
     local repository=$3
-    make "$format" "$repository"
+    make "$format" "$repository" || return 0
     fill "$repository"
     one=$(git -C "$repository" rev-parse main~1)
     two=$(git -C "$repository" rev-parse main)

@@ -150,7 +150,7 @@ time_packing() {
 
 # times: a table of all, least and median in milliseconds.
 times() {
-    local fresh program=$top/crates/refs/out/refs session=$top/crates/refs_session/out/refs_session
+    local fresh program=$refs
     echo "$script: $rounds rounds, least / median in milliseconds, on $(nproc) processors: $(sed -n 's/^model name.*: //p' /proc/cpuinfo | head -1)"
     echo "| task | refs | git $(git --version | sed 's/git version //') |"
     echo "|---|---|---|"

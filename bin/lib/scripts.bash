@@ -1,4 +1,4 @@
-# The scripts that compare-writes-with-git compares: random lines of updates and deletions, each line one transaction.
+# The scripts that compare-with-git compares: random lines of updates and deletions, each line one transaction.
 
 # A command substitution would begin with numbers of its own, so each is given one, and the scripts are the same in each run.
 
@@ -87,7 +87,7 @@ scripts() {
 # scripting REPOSITORY: scripts over loose and over packed references, of which some are loose again.
 scripting() {
     local repository=$1
-    make "$format" "$repository"
+    make "$format" "$repository" || return 0
     fill "$repository"
     one=$(git -C "$repository" rev-parse main~1)
     two=$(git -C "$repository" rev-parse main)

@@ -1,18 +1,6 @@
-#!/usr/bin/env bash
-# Changes repositories that git made, each in two copies: one by `refs`, the other by git in the same way. After each change all
-# files of both git folders but objects are compared, byte by byte, and whether both refused it. Then git reads what `refs`
-# wrote, and `refs` what git wrote. Where the two are known to differ, they must differ in just the files that are named.
-# Then it runs random scripts, beside git with one transaction for each line; and it packs references, in one copy by `pack-refs` and in the
-# other by git, and compares these. With the word `changes`, `scripts` or `packing` it does this alone; with `random COUNT SEED` it makes so many
-# random steps over one repository, which the others do not.
-# Prints a line for each comparison and ends with status 1 if one of them fails; with status 0 where git is not installed.
-set -u
-folder=$(dirname "$(readlink -f "${BASH_SOURCE[0]}")")
-. "$folder/with-git.bash"
-. "$folder/writes.bash"
-. "$folder/scripts.bash"
-. "$folder/packing.bash"
-. "$folder/random.bash"
+# The changes that compare-with-git compares: it changes repositories that git made, each in two copies: one by `refs`, the other by git in
+# the same way. After each change all files of both git folders but objects are compared, byte by byte, and whether both refused it. Then
+# git reads what `refs` wrote, and `refs` what git wrote. Where the two are known to differ, they must differ in just the files that are named.
 signature='C <c@example.com> 1234567890 +0130'
 export GIT_COMMITTER_DATE='1234567890 +0130'
 refused=0
@@ -34,7 +22,7 @@ by_git() {
 
 # by_refs WORD..: the same in the other copy.
 by_refs() {
-    "$top/bin/refs" "$work/refs/.git" $option --as "$signature" --message "$message" "$@"
+    "$refs" "$work/refs/.git" $option --as "$signature" --message "$message" "$@"
 }
 
 # files COPY: a line for each file of its git folder but objects, with a hash of its bytes.
@@ -109,7 +97,7 @@ logs() {
     for log in $(cd "$work/$1/.git/logs" && find . -type f | LC_ALL=C sort); do
         name=${log#./}
         git -C "$work/$1" reflog show --format="$name %H %gs" "$name" -- >>"$work/wanted"
-        "$top/bin/refs" "$work/$1/.git" $option log "$name" | sed "s|^[0-9a-f]*|$name|" >>"$work/listed"
+        "$refs" "$work/$1/.git" $option log "$name" | sed "s|^[0-9a-f]*|$name|" >>"$work/listed"
     done
     same "$title, reflogs of $1" "$work/wanted" "$work/listed" lines
 }
@@ -157,6 +145,7 @@ known() {
 # changing REPOSITORY: all changes, where it is empty yet.
 changing() {
     local repository=$1
+    make "$format" "$repository" || return 0
     commit "$repository" first
     git -C "$repository" tag v1
     git -C "$repository" pack-refs
@@ -187,12 +176,10 @@ changing() {
     read_both
 }
 
-for format in sha1 sha256; do
-    option=$(option_of "$format")
-    make "$format" "$work/$format" || continue
-    case ${1-changes} in changes) changing "$work/$format" ;; esac
-    case ${1-scripts} in scripts) scripting "$work/$format-scripts" ;; esac
-    case ${1-packing} in packing) packing "$work/$format-packing" ;; esac
-    case ${1-changes} in random) stepping "${2-1000}" "${3-1}" "$work/$format-random" ;; esac
-done
-exit "$failed"
+# over_formats COMMAND: does it for each format of ids, with the path of a repository to come.
+over_formats() {
+    for format in sha1 sha256; do
+        option=$(option_of "$format")
+        "$@" "$work/$format"
+    done
+}

@@ -1,4 +1,4 @@
-# The random sessions that compare-session-with-git compares: `sessions.py PROGRAM REPOSITORY FORMAT COUNT SEED`.
+# The random sessions that compare-with-git compares: `sessions.py PROGRAM REPOSITORY FORMAT COUNT SEED`.
 import collections
 import os
 import random
