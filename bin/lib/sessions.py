@@ -216,7 +216,7 @@ def main():
             print('   ', text)
             print('    git: ', theirs['status'], theirs['out'], theirs['error'])
             print('    refs:', ours['status'], ours['out'], ours['error'])
-    print(f'compare-session-with-git: {FORMAT}: {COUNT} sessions beside `git update-ref --stdin`: {counts["same"]} the same,'
+    print(f'compare-with-git: {FORMAT}: {COUNT} sessions beside `git update-ref --stdin`: {counts["same"]} the same,'
           f' {counts["known"]} known differences, {failed} others; {counts["committed"]} commits')
     sys.exit(1 if failed else 0)
 
