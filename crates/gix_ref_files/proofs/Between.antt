@@ -1,10 +1,9 @@
 -- What stops among steps leave.
-use Rattle.std.proofs.Common.{◌≢◌, inl, inr, ⊎_elim, ℕ, zero, suc, List, [], ◌∷◌, length, refl, sym, ◌∙◌, ap, subst}
+use Rattle.std.proofs.Common.{inl, inr, ⊎_elim, ℕ, zero, suc, List, [], ◌∷◌, length, refl, sym, ◌∙◌, ap, subst}
 use Rattle.std.proofs.Math.Seq.{take-length}
 use Rattle.gix_ref_files.specs.Tree.{Tree, Path, appended, folders_to, with_folders}
 use Rattle.gix_ref_files.specs.Calls.{created, Creating}
-use Rattle.gix_ref_files.specs.Steps.{Step, Create, Append, Line, Rename, RemoveFile, MakeFolders, RemoveFolder, End, Does, Begins, IsAfter, IsLeftBy, EndsBy, EndsAt, IsCounted, IsCountedSync, cause_of_sync}
-use Rattle.gix_ref_files.specs.Files.{FaultCounts}
+use Rattle.gix_ref_files.specs.Steps.{Step, Create, Append, Line, Rename, RemoveFile, MakeFolders, RemoveFolder, End, Does, Begins, IsAfter, IsLeftBy, EndsBy, EndsAt}
 use Rattle.gix_ref_files.specs.declared.steps.Cause.{Cause}
 use Rattle.gix_ref_files.specs.declared.steps.Cause.TheVariants.{File, Sync, Unexpected, Asked}
 use Rattle.gix_ref_files.proofs.Puts.{appended_none}
@@ -62,10 +61,3 @@ pub ended_is_left : (steps : List Step) (at : ℕ) (cause : Cause) (before T : T
 ended_is_left [] at cause before T ends = absurd ends
 ended_is_left (step ∷ steps) zero cause before T ends = inl (ended_is_begun step cause before T ends)
 ended_is_left (step ∷ steps) (suc at) cause before T ends = inr (ends.0, ends.1, ended_is_left steps at cause ends.0 T ends.2)
-
--- a sync's cause, as that of a run whose step is done
-pub counted_once_done : (cause : Cause) (a b : FaultCounts) → IsCountedSync cause a b → IsCounted (cause_of_sync cause) a b × (cause_of_sync cause ≢ Asked)
-counted_once_done (File error) a b is = (is.0, (λ asked. absurd (cc)))
-counted_once_done (Sync error) a b is = (is.0, (λ asked. absurd (cc)))
-counted_once_done Unexpected a b is = (is.0, (λ asked. absurd (cc)))
-counted_once_done Asked a b is = absurd (is.1 refl)

@@ -1,5 +1,6 @@
 pub mod Between
 pub mod Changes
+pub mod CleanFolders
 pub mod Climbing
 pub mod Counting
 pub mod Entries
@@ -12,6 +13,7 @@ pub mod Moments
 pub mod PathFronts
 pub mod Puts
 pub mod ReadOnly
+pub mod Removals
 pub mod Ready
 pub mod Runs
 pub mod Settling

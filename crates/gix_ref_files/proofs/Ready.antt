@@ -36,23 +36,10 @@ front_is_folder T [] k some lt slash all = absurd (omega (arith, lt))
 front_is_folder T (b ∷ p) zero some lt slash all = absurd (omega (arith, some))
 front_is_folder T (b ∷ p) (suc k) some lt slash all = at_slash (λ f. is_folder (T f)) (b ∷ []) p k (omega (arith, lt)) slash all
 
--- so where one is no folder, not all are
-pub folder_missing : (T : Tree) (p : Path) (k : ℕ) → 1 ≤ k → k < length p → get_or p k 0 ≡ 47 → is_folder (T (take k p)) ≡ false → has_folders T p ≡ false
-folder_missing T p k some lt slash none = by (has_folders T p) refl
-  where
-    by : (b : Bool) → has_folders T p ≡ b → has_folders T p ≡ false
-    by true e = absurd (true≢false (sym (front_is_folder T p k some lt slash e) ∙ none))
-    by false e = e
-
--- and where the path's own folder is none
-pub own_folder_missing : (T : Tree) (p : Path) → folder_of p ≢ [] → is_folder (T (folder_of p)) ≡ false → has_folders T p ≡ false
-own_folder_missing T p some none = by (has_folders T p) refl
-  where
-    by : (b : Bool) → has_folders T p ≡ b → has_folders T p ≡ false
-    by true e =
-        let all = all_snoc (λ g. is_folder (T g)) (fronts (folder_of p)) (folder_of p) (ap (list_all (λ g. is_folder (T g))) (sym (fronts_of_folder p some)) ∙ e) in
-        absurd (true≢false (sym all.1 ∙ none))
-    by false e = e
+-- and so is the path's own folder
+pub own_is_folder : (T : Tree) (p : Path) → folder_of p ≢ [] → has_folders T p ≡ true → is_folder (T (folder_of p)) ≡ true
+own_is_folder T p some all =
+    (all_snoc (λ g. is_folder (T g)) (fronts (folder_of p)) (folder_of p) (ap (list_all (λ g. is_folder (T g))) (sym (fronts_of_folder p some)) ∙ all)).1
 
 no_file : false ≡ true → (T : Tree) (p : Path) → is_file (T p) ≡ true
 no_file e T p = absurd (false≢true e)

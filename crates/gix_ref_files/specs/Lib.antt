@@ -1,4 +1,5 @@
 pub mod Calls
+pub mod Clean
 pub mod Disk
 pub mod DiskCalls
 pub mod DiskSteps
@@ -8,6 +9,7 @@ pub mod Kinds
 pub mod Lock
 pub mod Losing
 pub mod ReadOnly
+pub mod Removals
 pub mod Settled
 pub mod Steps
 pub mod Theorems

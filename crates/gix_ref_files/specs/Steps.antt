@@ -121,13 +121,6 @@ count_ended (Sync error) n = count_with error n
 count_ended Unexpected n = n
 count_ended Asked n = n
 
--- the cause that ends a run once the step is done: a fault is that of a sync
-abbrev pub cause_of_sync : Cause → Cause
-cause_of_sync (File error) = Sync error
-cause_of_sync (Sync error) = Sync error
-cause_of_sync Unexpected = Unexpected
-cause_of_sync Asked = Asked
-
 -- a run that ended for this cause did not want memory
 abbrev pub HasMemory : Cause → Type 0
 HasMemory (File error) = error ≢ no_memory
@@ -138,7 +131,3 @@ HasMemory Asked = Unit {0}
 -- a step ended for this cause, whose fault is counted
 abbrev pub IsCounted : Cause → FaultCounts → FaultCounts → Type 0
 IsCounted cause before now = (now ≡ count_ended cause before) × HasMemory cause
-
--- so a sync, which never ends because it was asked to
-abbrev pub IsCountedSync : Cause → FaultCounts → FaultCounts → Type 0
-IsCountedSync cause before now = IsCounted cause before now × (cause ≢ Asked)

@@ -24,6 +24,10 @@ use std::{fmt, fs, io};
 /// waits for another program. What a path names is asked before it is opened; another program that puts a FIFO there
 /// between the two can still make a call wait.
 ///
+/// Where another program writes meanwhile, a reader has one file to its end, the one that was there when it was opened; and a listing leaves
+/// out what is gone before it was looked at. A file that another machine replaces while it is opened or read, so that a network file system
+/// returns `StaleNetworkFileHandle`, is opened once more by its name.
+///
 /// The file that `create_new` made last stays open until a file is renamed or removed, or another one is made: so what is added to it and
 /// synced is one system call each. Nor are lock files that it made looked at before they are renamed or removed in the order in which
 /// they were made, or from the last one back.
@@ -226,7 +230,7 @@ impl Files for Disk {
     fn read(&mut self, _alloc: Global, path: &[u8], buf: &mut Vec<u8>) -> Result<Node, FileError> {
         buf.clear();
         let path = text_of(&mut self.faults, path)?;
-        let error = match read_into(&self.rt, path, buf) {
+        let error = match read_again_if_stale(&self.rt, path, buf) {
             Ok(Node::File) => return Ok(Node::File),
             Ok(node) => {
                 buf.clear();
@@ -243,10 +247,10 @@ impl Files for Disk {
         }
     }
 
-    /// Two system calls, and one when the reader is dropped.
+    /// Three system calls, and one when the reader is dropped.
     fn open(&mut self, _alloc: Global, path: &[u8]) -> Result<Option<DiskReader>, FileError> {
         let path = text_of(&mut self.faults, path)?;
-        match open_file(&self.rt, path) {
+        match open_again_if_stale(&self.rt, path) {
             Ok(reader) => Ok(reader),
             Err(error) => match error.kind() {
                 ErrorKind::NotFound | ErrorKind::NotADirectory => Ok(None),
@@ -442,6 +446,30 @@ fn read_into(rt: &HostRuntime, path: &str, buf: &mut Vec<u8>) -> io::Result<Node
     Ok(Node::File)
 }
 
+/// Whether this is the error of a network file system for a file that another machine has replaced since it was looked up.
+fn is_stale(error: &io::Error) -> bool {
+    error.kind() == ErrorKind::StaleNetworkFileHandle
+}
+
+/// Reads a file into an empty buffer; once more by its name where it was replaced meanwhile.
+fn read_again_if_stale(rt: &HostRuntime, path: &str, buf: &mut Vec<u8>) -> io::Result<Node> {
+    match read_into(rt, path, buf) {
+        Err(error) if is_stale(&error) => {
+            buf.clear();
+            read_into(rt, path, buf)
+        }
+        read => read,
+    }
+}
+
+/// Opens a file; once more by its name where it was replaced meanwhile.
+fn open_again_if_stale(rt: &HostRuntime, path: &str) -> io::Result<Option<DiskReader>> {
+    match open_file(rt, path) {
+        Err(error) if is_stale(&error) => open_file(rt, path),
+        opened => opened,
+    }
+}
+
 /// Opens a file; `None` for what is no file.
 fn open_file(rt: &HostRuntime, path: &str) -> io::Result<Option<DiskReader>> {
     let about = fs::metadata(rt, path)?;
@@ -449,7 +477,8 @@ fn open_file(rt: &HostRuntime, path: &str) -> io::Result<Option<DiskReader>> {
         return Ok(None);
     }
     let file = File::open(rt, path)?;
-    let len = about.len();
+    // The length of the file that is open: another program may have put a new one in its place since the look.
+    let len = file.metadata()?.len();
     Ok(Some(DiskReader {
         file,
         len,
@@ -572,7 +601,12 @@ fn add_entry(
     entry: &DirEntry<HostRuntime>,
     entries: &mut Vec<Entry>,
 ) -> io::Result<()> {
-    let kind = entry.file_type()?;
+    let kind = match entry.file_type() {
+        Ok(kind) => kind,
+        // Another program has removed or renamed it since the folder was read.
+        Err(error) if error.kind() == ErrorKind::NotFound => return Ok(()),
+        Err(error) => return Err(error),
+    };
     if kind.is_dir() || kind.is_file() {
         let name = entry.file_name().as_bytes().to_vec(alloc)?;
         let is_folder = kind.is_dir();

@@ -21,6 +21,7 @@
 //!   `remove`
 #![tactic(auto)]
 
+mod clean;
 pub mod disk;
 pub mod faults;
 pub mod files;

@@ -6,11 +6,13 @@ ghost use Rattle.gix_ref_files.specs.Disk.{folder_of};
 ghost use Rattle.gix_ref_files.specs.Files.{AtEveryStop, OnEveryDisk, disk_of, CountsCall, DiskBecomes};
 ghost use Rattle.gix_ref_files.specs.Settled.{synced, synced_by, sync_of_folder, folders_up, climb, from_one};
 ghost use Rattle.gix_ref_files.specs.Settled.Sync.{OfFile, OfFolder};
-ghost use Rattle.gix_ref_files.specs.Steps.{Does, EndsBy, IsAfter, IsLeftBy, EndsAt, step_of, steps_of, cause_of_sync, IsCounted, IsCountedSync, MayBeSynced};
+ghost use Rattle.gix_ref_files.specs.Steps.{Does, EndsBy, IsAfter, IsLeftBy, EndsAt, step_of, steps_of, IsCounted, MayBeSynced};
 ghost use Rattle.gix_ref_files.specs.Steps.Step.{Line};
 ghost use Rattle.gix_ref_files.specs.DiskSteps.{DoesOn, BeginsOn, With, IsReachedBy, IsSyncedAfter, EndsOn, IsEndedAt, IsSomeSynced, Settling, folder_syncs, path_syncs, syncs_of, synced_steps, needs, CanSync, CanSettle};
+ghost use Rattle.gix_ref_files.specs.Clean.{AreKnown};
 ghost use Rattle.gix_ref_files.specs.declared.steps.Cause.TheVariants.{File};
 
+use crate::clean::Known;
 use crate::files::{Create, FileError, Files, Rename};
 use crate::paths::folder;
 
@@ -223,61 +225,49 @@ fn change<F: Files>(files: &mut F, action: &Action<'_>) -> Result<bool, Cause>
     }
 }
 
-/// Syncs the bytes of a file.
-fn sync_bytes<F: Files>(files: &mut F, path: &[u8]) -> Result<(), Cause>
+/// Syncs the bytes of a file. One that is gone needs no sync.
+fn sync_bytes<F: Files>(files: &mut F, path: &[u8]) -> Result<(), FileError>
+    requires { F.honest → is_file ((F.means files.old).tree path.now) ≡ true }
     ensures done { F.honest →
         OnOk result (DiskBecomes F.means files.old files.new (synced (OfFile path.now))) }
-    ensures missing { F.honest → IsErrOf result Cause.Unexpected →
-        is_file ((F.means files.old).tree path.now) ≡ false }
     ensures passes { F.honest → OnEveryDisk F.means files.old files.new
         (Settling (OfFile path.now)) }
-    ensures count { MatchResult result (λ _. F.faults files.new ≡ F.faults files.old)
-        (λ cause. IsCountedSync cause (F.faults files.old) (F.faults files.new)) }
+    ensures count { CountsCall result (F.faults files.old) (F.faults files.new) }
 {
-    if files.sync_file(path)? {
-        Ok(())
-    } else {
-        Err(Cause::Unexpected)
-    }
+    files.sync_file(path)?;
+    Ok(())
 }
 
-/// Syncs the entries of a folder.
-fn sync_entries<F: Files>(files: &mut F, path: &[u8]) -> Result<(), Cause>
+/// Syncs the entries of a folder. One that is gone needs no sync.
+fn sync_entries<F: Files>(files: &mut F, path: &[u8]) -> Result<(), FileError>
+    requires { F.honest → is_folder ((F.means files.old).tree path.now) ≡ true }
     ensures done { F.honest →
         OnOk result (DiskBecomes F.means files.old files.new (synced (OfFolder path.now))) }
-    ensures missing { F.honest → IsErrOf result Cause.Unexpected →
-        is_folder ((F.means files.old).tree path.now) ≡ false }
     ensures passes { F.honest → OnEveryDisk F.means files.old files.new
         (Settling (OfFolder path.now)) }
-    ensures count { MatchResult result (λ _. F.faults files.new ≡ F.faults files.old)
-        (λ cause. IsCountedSync cause (F.faults files.old) (F.faults files.new)) }
+    ensures count { CountsCall result (F.faults files.old) (F.faults files.new) }
 {
-    if files.sync_folder(path)? {
-        Ok(())
-    } else {
-        Err(Cause::Unexpected)
-    }
+    files.sync_folder(path)?;
+    Ok(())
 }
 
 /// Where a climb ends: at a place from 1 on.
-fn root_of(root: usize) -> usize
+pub(crate) fn root_of(root: usize) -> usize
     ensures place { result ≡ from_one root }
     ensures some { 1 ≤ result }
 {
     if root == 0 { 1 } else { root }
 }
 
-/// Syncs the folders of a path, from its own up to the front of this length, which has a byte.
-fn sync_up<F: Files>(files: &mut F, path: &[u8], top: usize) -> Result<(), Cause>
-    requires { 1 ≤ top }
+/// Syncs the folders of a path, from its own up to the front of this length, which has a byte. Those that are gone are passed over.
+fn sync_up<F: Files>(files: &mut F, path: &[u8], top: usize) -> Result<(), FileError>
+    requires top { 1 ≤ top }
+    requires there { F.honest → has_folders (F.means files.old).tree path.now ≡ true }
     ensures done { F.honest → OnOk result (DiskBecomes F.means files.old files.new
         (synced_by (folders_up path.now top (length path.now - top)))) }
-    ensures missing { F.honest → IsErrOf result Cause.Unexpected →
-        has_folders (F.means files.old).tree path.now ≡ false }
     ensures passes { F.honest → OnEveryDisk F.means files.old files.new
         (IsSomeSynced (folders_up path.now top (length path.now - top))) }
-    ensures count { MatchResult result (λ _. F.faults files.new ≡ F.faults files.old)
-        (λ cause. IsCountedSync cause (F.faults files.old) (F.faults files.new)) }
+    ensures count { CountsCall result (F.faults files.old) (F.faults files.new) }
 {
     let mut end = path.len();
     while end > top {
@@ -290,30 +280,26 @@ fn sync_up<F: Files>(files: &mut F, path: &[u8], top: usize) -> Result<(), Cause
 }
 
 /// Syncs the folders of a path, from its own up to the front of this length.
-fn sync_folders<F: Files>(files: &mut F, path: &[u8], root: usize) -> Result<(), Cause>
+fn sync_folders<F: Files>(files: &mut F, path: &[u8], root: usize) -> Result<(), FileError>
+    requires { F.honest → has_folders (F.means files.old).tree path.now ≡ true }
     ensures done { F.honest →
         OnOk result (DiskBecomes F.means files.old files.new (synced_by (climb path.now root))) }
-    ensures missing { F.honest → IsErrOf result Cause.Unexpected →
-        has_folders (F.means files.old).tree path.now ≡ false }
     ensures passes { F.honest → OnEveryDisk F.means files.old files.new
         (IsSomeSynced (climb path.now root)) }
-    ensures count { MatchResult result (λ _. F.faults files.new ≡ F.faults files.old)
-        (λ cause. IsCountedSync cause (F.faults files.old) (F.faults files.new)) }
+    ensures count { CountsCall result (F.faults files.old) (F.faults files.new) }
 {
     let top = root_of(root);
     sync_up(files, path, top)
 }
 
 /// Syncs the folder of a path, if it has one.
-fn sync_own_folder<F: Files>(files: &mut F, path: &[u8]) -> Result<(), Cause>
+fn sync_own_folder<F: Files>(files: &mut F, path: &[u8]) -> Result<(), FileError>
+    requires { F.honest → has_folders (F.means files.old).tree path.now ≡ true }
     ensures done { F.honest → OnOk result (DiskBecomes F.means files.old files.new
         (synced_by (sync_of_folder (folder_of path.now)))) }
-    ensures missing { F.honest → IsErrOf result Cause.Unexpected →
-        has_folders (F.means files.old).tree path.now ≡ false }
     ensures passes { F.honest → OnEveryDisk F.means files.old files.new
         (IsSomeSynced (sync_of_folder (folder_of path.now))) }
-    ensures count { MatchResult result (λ _. F.faults files.new ≡ F.faults files.old)
-        (λ cause. IsCountedSync cause (F.faults files.old) (F.faults files.new)) }
+    ensures count { CountsCall result (F.faults files.old) (F.faults files.new) }
 {
     let folder = folder(path);
     if folder.is_empty() {
@@ -323,15 +309,13 @@ fn sync_own_folder<F: Files>(files: &mut F, path: &[u8]) -> Result<(), Cause>
 }
 
 /// Syncs the folders that settle a path.
-fn sync_above<F: Files>(files: &mut F, path: &[u8], settle: Settle) -> Result<(), Cause>
+fn sync_above<F: Files>(files: &mut F, path: &[u8], settle: Settle) -> Result<(), FileError>
+    requires { F.honest → has_folders (F.means files.old).tree path.now ≡ true }
     ensures done { F.honest → OnOk result
         (DiskBecomes F.means files.old files.new (synced_by (folder_syncs path.now settle))) }
-    ensures missing { F.honest → IsErrOf result Cause.Unexpected →
-        has_folders (F.means files.old).tree path.now ≡ false }
     ensures passes { F.honest → OnEveryDisk F.means files.old files.new
         (IsSomeSynced (folder_syncs path.now settle)) }
-    ensures count { MatchResult result (λ _. F.faults files.new ≡ F.faults files.old)
-        (λ cause. IsCountedSync cause (F.faults files.old) (F.faults files.new)) }
+    ensures count { CountsCall result (F.faults files.old) (F.faults files.new) }
 {
     match settle {
         Settle::Nothing | Settle::File => Ok(()),
@@ -341,30 +325,31 @@ fn sync_above<F: Files>(files: &mut F, path: &[u8], settle: Settle) -> Result<()
 }
 
 /// Syncs the bytes of a file, and then the folders that settle its path.
-fn sync_line<F: Files>(files: &mut F, path: &[u8], settle: Settle) -> Result<(), Cause>
+fn sync_line<F: Files>(files: &mut F, path: &[u8], settle: Settle) -> Result<(), FileError>
+    requires { F.honest → CanSync true (F.means files.old).tree path.now }
     ensures done { F.honest → OnOk result (DiskBecomes F.means files.old files.new
         (synced_by (OfFile path.now ∷ folder_syncs path.now settle))) }
-    ensures ready { F.honest → IsErrOf result Cause.Unexpected →
-        CanSync true (F.means files.old).tree path.now → ⊥ }
     ensures passes { F.honest → OnEveryDisk F.means files.old files.new
         (IsSomeSynced (OfFile path.now ∷ folder_syncs path.now settle)) }
-    ensures count { MatchResult result (λ _. F.faults files.new ≡ F.faults files.old)
-        (λ cause. IsCountedSync cause (F.faults files.old) (F.faults files.new)) }
+    ensures count { CountsCall result (F.faults files.old) (F.faults files.new) }
 {
     sync_bytes(files, path)?;
     sync_above(files, path, settle)
 }
 
 /// Syncs what settles a path, and first the bytes of its file, where these grew.
-fn sync_path<F: Files>(files: &mut F, grows: bool, path: &[u8], settle: Settle) -> Result<(), Cause>
+fn sync_path<F: Files>(
+    files: &mut F,
+    grows: bool,
+    path: &[u8],
+    settle: Settle,
+) -> Result<(), FileError>
+    requires { F.honest → CanSync grows (F.means files.old).tree path.now }
     ensures done { F.honest → OnOk result
         (DiskBecomes F.means files.old files.new (synced_by (path_syncs grows path.now settle))) }
-    ensures ready { F.honest → IsErrOf result Cause.Unexpected →
-        CanSync grows (F.means files.old).tree path.now → ⊥ }
     ensures passes { F.honest → OnEveryDisk F.means files.old files.new
         (IsSomeSynced (path_syncs grows path.now settle)) }
-    ensures count { MatchResult result (λ _. F.faults files.new ≡ F.faults files.old)
-        (λ cause. IsCountedSync cause (F.faults files.old) (F.faults files.new)) }
+    ensures count { CountsCall result (F.faults files.old) (F.faults files.new) }
 {
     match settle {
         Settle::Nothing => Ok(()),
@@ -378,16 +363,14 @@ fn sync_path<F: Files>(files: &mut F, grows: bool, path: &[u8], settle: Settle) 
     }
 }
 
-/// Does the syncs of a step.
-fn sync_after<F: Files>(files: &mut F, action: &Action<'_>, settle: Settle) -> Result<(), Cause>
+/// Does the syncs of a step that is done. What another program has removed meanwhile needs none.
+fn sync_after<F: Files>(files: &mut F, action: &Action<'_>, settle: Settle) -> Result<(), FileError>
+    requires { F.honest → CanSettle action.now (F.means files.old).tree }
     ensures done { F.honest → OnOk result
         (DiskBecomes F.means files.old files.new (synced_by (syncs_of action.now settle))) }
-    ensures ready { F.honest → IsErrOf result Cause.Unexpected →
-        CanSettle action.now (F.means files.old).tree → ⊥ }
     ensures passes { F.honest → OnEveryDisk F.means files.old files.new
         (IsSomeSynced (syncs_of action.now settle)) }
-    ensures count { MatchResult result (λ _. F.faults files.new ≡ F.faults files.old)
-        (λ cause. IsCountedSync cause (F.faults files.old) (F.faults files.new)) }
+    ensures count { CountsCall result (F.faults files.old) (F.faults files.new) }
     ensures synced { OnErr result (MayBeSynced (step_of action.now)) }
 {
     match *action {
@@ -402,18 +385,34 @@ fn sync_after<F: Files>(files: &mut F, action: &Action<'_>, settle: Settle) -> R
     }
 }
 
-/// The cause that ends a run after a step that is done.
-fn as_sync_error(cause: Cause) -> Cause
-    ensures { result ≡ cause_of_sync cause }
+/// Does the syncs of a step, without those of folders in which nothing has changed since they were synced.
+fn sync_changed<F: Files>(
+    files: &mut F,
+    action: &Action<'_>,
+    settle: Settle,
+    known: Known<'_>,
+) -> Result<(), FileError>
+    requires known { F.honest → AreKnown (disk_of (F.means files.old)) known }
+    requires there { F.honest → CanSettle action.now (F.means files.old).tree }
+    ensures done { F.honest → OnOk result
+        (DiskBecomes F.means files.old files.new (synced_by (syncs_of action.now settle))) }
+    ensures passes { F.honest → OnEveryDisk F.means files.old files.new
+        (IsSomeSynced (syncs_of action.now settle)) }
+    ensures count { CountsCall result (F.faults files.old) (F.faults files.new) }
+    ensures synced { OnErr result (MayBeSynced (step_of action.now)) }
 {
-    match cause {
-        Cause::File(error) => Cause::Sync(error),
-        other => other,
-    }
+    sync_after(files, action, known.rest_of(action, settle))
 }
 
 /// Does one step, with the syncs that it needs.
-fn run_step<F: Files>(files: &mut F, action: &Action<'_>, settle: Settle) -> Result<(), Cause>
+fn run_step<'p, F: Files>(
+    files: &mut F,
+    action: &Action<'p>,
+    settle: Settle,
+    known: &mut Known<'p>,
+) -> Result<(), Cause>
+    requires known { F.honest → AreKnown (disk_of (F.means files.old)) known.old }
+    ensures known { F.honest → OnOk result (AreKnown (disk_of (F.means files.new)) known.new) }
     ensures done { F.honest →
         OnOk result (Does (step_of action.now) (F.means files.old).tree (F.means files.new).tree) }
     ensures synced { F.honest →
@@ -431,18 +430,24 @@ fn run_step<F: Files>(files: &mut F, action: &Action<'_>, settle: Settle) -> Res
     ensures asked { IsErrOf result Cause.Asked → action.now ≡ Action.End }
 {
     if !change(files, action)? {
+        *known = known.after_change(action);
         return Ok(());
     }
-    match sync_after(files, action, settle) {
-        Ok(()) => Ok(()),
-        Err(cause) => Err(as_sync_error(cause)),
+    let changed = known.after_change(action);
+    match sync_changed(files, action, settle, changed) {
+        Ok(()) => {
+            *known = changed.after_syncs(action, settle);
+            Ok(())
+        }
+        Err(error) => Err(Cause::Sync(error)),
     }
 }
 
 /// Does the steps of a plan in order, each with its syncs, up to the first fault, unexpected result or `End`. Allocates no
 /// memory itself, and copies no path. Costs one call of files for each step, one or two more for a line whose file is
-/// missing, and one for each sync; a removal that finds no file syncs nothing. A fault of a sync ends the run at its step, which is
-/// done then.
+/// missing, and one for each sync; a removal that finds no file syncs nothing, and above the log or the place of a step no folder is
+/// synced in which nothing has changed since its last sync in this run, as far as it is also above the last log or the last place. A
+/// fault of a sync ends the run at its step, which is done then.
 pub fn run_steps<F: Files, E>(files: &mut F, plan: &[Planned<'_, E>]) -> Result<(), Ended>
     ensures done { F.honest → OnOk result
         (IsAfter (steps_of plan.now) (F.means files.old).tree (F.means files.new).tree) }
@@ -466,8 +471,9 @@ pub fn run_steps<F: Files, E>(files: &mut F, plan: &[Planned<'_, E>]) -> Result<
         (λ end. IsCounted end.cause (F.faults files.old) (F.faults files.new)) }
     ensures place { IfErr result (λ end. end.at < length plan.now) }
 {
+    let mut known = Known::none();
     for (at, planned) in plan.iter().enumerate() {
-        if let Err(cause) = run_step(files, &planned.action, planned.settle) {
+        if let Err(cause) = run_step(files, &planned.action, planned.settle, &mut known) {
             return Err(Ended { at, cause });
         }
     }

@@ -15,6 +15,7 @@ loop-at-init g c =
     record {
       count = refl;
       passes = λ h. passes_starts first _ (none_reached (synced_steps c.args.plan.now) (disk_of first));
+      known = λ h. c.none-known.ensures (disk_of first);
       synced = λ h. refl;
       done = λ h T after. after;
       ended = λ h k cause T ends. subst (λ (n : ℕ). EndsAt (steps_of c.args.plan.now) n cause first.tree T) (omega arith) ends;
@@ -64,6 +65,7 @@ loop-at-preserved g c =
       count = counted ∙ so_far.count;
       passes = λ h. passes_joins (so_far.passes h) (passes_weaken (c.run_step.ensures.passes h)
           (λ E reached. reached_at plan i planned _ _ E c.loop-at-test.true c.index-plan-at.is (so_far.synced h) reached));
+      known = λ h. c.in_default.ensures.known h;
       synced = λ h. subst (λ (l : List Synced). IsSyncedAfter l (disk_of (g.F.Files.means c.args.files.now)) (disk_of (g.F.Files.means c.run_step.new.files))) (front_more plan i planned c.loop-at-test.true c.index-plan-at.is)
           (after_behind (take i (synced_steps plan)) (synced_step planned ∷ []) _ _ _ (so_far.synced h) (c.in_default.ensures.synced h));
       done = λ h T after. so_far.done h T (subst (λ (steps : List Step). IsAfter steps mid T) steps_are (now, c.in_default.ensures.done h, after));

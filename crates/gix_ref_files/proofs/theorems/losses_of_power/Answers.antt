@@ -5,6 +5,7 @@ use Rattle.gix_ref_files.proofs.Climbing.{climbs}
 use Rattle.gix_ref_files.proofs.Entries.{synced_may, synced_tree}
 use Rattle.gix_ref_files.proofs.Folders.{with_folders_tree}
 use Rattle.gix_ref_files.proofs.Losing as losing
+use Rattle.gix_ref_files.proofs.Removals.{in_group, after_group}
 use Rattle.gix_ref_files.proofs.Settling.{lost_holds, lost_more, settled_way, as_settles, stop_is_loss}
 use Rattle.gix_ref_files.proofs.Shaped.{lost_shaped}
 use Rattle.gix_ref_files.proofs.theorems.losses_of_power.Goals as goal
@@ -41,3 +42,9 @@ returns-clause-sync_at_end c = losing.end_wrong
 
 pub returns-clause-climb : goal.returns-clause-climb
 returns-clause-climb c = climbs
+
+pub returns-clause-in_group : goal.returns-clause-in_group
+returns-clause-in_group c = in_group
+
+pub returns-clause-group : goal.returns-clause-group
+returns-clause-group c = after_group
