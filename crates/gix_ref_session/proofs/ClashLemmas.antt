@@ -85,6 +85,7 @@ failed_map unread unlisted clashes fatals.Restarted why = why
 failed_map unread unlisted clashes fatals.Prepared why = why
 failed_map unread unlisted clashes fatals.Deref why = why
 failed_map unread unlisted clashes (fatals.Update e) why = why
+failed_map unread unlisted clashes (fatals.Switched n) why = why
 
 -- a lookup failed, for another reason
 pub find_map : {A B : FindError → Type 0} → ((error : FindError) → A error → B error) → (fatal : Fatal) → IsFindFailure A fatal → IsFindFailure B fatal

@@ -9,6 +9,7 @@ pub mod GatherLemmas
 pub mod InputLemmas
 pub mod LeadLemmas
 pub mod Looking
+pub mod NamedLemmas
 pub mod NameLists
 pub mod QuoteLemmas
 pub mod Resting

@@ -32,7 +32,6 @@ use Rattle.gix_ref_transaction.specs.OwnLocks.{is_in}
 use Rattle.gix_ref_transaction.specs.Packing.{mode_in}
 use Rattle.gix_ref_transaction.specs.PrepareSteps.{held_locks}
 use Rattle.gix_ref_transaction.specs.declared.edit.Edit.{Edit}
-use Rattle.gix_ref_transaction.specs.declared.prepare.error.Error.{Error as Cause}
 use Rattle.gix_ref_transaction.proofs.CommitLosses.{rest_kept}
 use Rattle.gix_ref_transaction.proofs.LockRounds.{own_all}
 use Rattle.gix_ref_store.specs.Lookup.{LooksUp}
@@ -141,15 +140,31 @@ module _ {F : Type 0} (honest : Type 0) (means : F → Meaning) (faults : F → 
       (prepared_ready honest means faults old b.mid edits b.packed b.held b.prepared h ready)
 
 module _ {F : Type 0} (honest : Type 0) (means : F → Meaning) (faults : F → FaultCounts) (committer : Option SignatureRef) (read : FileError → Type 0) (edits : List RefEdit) where
-  -- a try that another's lock refused
-  tried_ready : honest → (cause : Cause) (old new : Store F) → IsTried honest means faults committer read edits cause old new → IsReady means old → IsReady means new
-  tried_ready h cause old new tried ready =
+  -- a try that another's lock refused, or that was given up since another has switched `HEAD`
+  tried_ready : honest → (fatal : Fatal) (old new : Store F) → IsTried honest means faults committer read edits fatal old new → IsReady means old → IsReady means new
+  tried_ready h (fatals.Update (errors.Prepare cause)) old new tried ready =
       let led = tried.1 in
       let refuses = led.ends.fails.refuses in
       ready_on means led.at new refuses.same (places_in means (mode_in uses) led.at refuses.tried) (refuses.lost h).keeps
       (looked_ready honest means old led.at led.looked h ready)
+  tried_ready h (fatals.Switched name) old new led ready =
+      rolled_ready honest means faults led.at new led.led led.ends.back h (looked_ready honest means old led.at led.looked h ready)
+  tried_ready h (fatals.Update (errors.Commit error)) old new tried ready = absurd tried
+  tried_ready h (fatals.Read error) old new tried ready = absurd tried
+  tried_ready h (fatals.Write error) old new tried ready = absurd tried
+  tried_ready h fatals.Memory old new tried ready = absurd tried
+  tried_ready h fatals.Folder old new tried ready = absurd tried
+  tried_ready h (fatals.Malformed text) old new tried ready = absurd tried
+  tried_ready h (fatals.Name error) old new tried ready = absurd tried
+  tried_ready h fatals.Closed old new tried ready = absurd tried
+  tried_ready h fatals.Restarted old new tried ready = absurd tried
+  tried_ready h fatals.Prepared old new tried ready = absurd tried
+  tried_ready h fatals.Deref old new tried ready = absurd tried
+  tried_ready h (fatals.Find error) old new tried ready = absurd tried
+  tried_ready h (fatals.List error) old new tried ready = absurd tried
+  tried_ready h (fatals.Clash name) old new tried ready = absurd tried
 
-  pub tries_ready : (tries : List Cause) (first last : Store F) → AreDone (IsTried honest means faults committer read edits) tries first last → honest → IsReady means first → IsReady means last
+  pub tries_ready : (tries : List Fatal) (first last : Store F) → AreDone (IsTried honest means faults committer read edits) tries first last → honest → IsReady means first → IsReady means last
   tries_ready tries first last were h ready = done_keeps (IsTried honest means faults committer read edits) (IsReady means) (tried_ready h) tries first last were ready
 
 -- nothing that ends well has failed
@@ -165,15 +180,16 @@ module _ {F R : Type 0} (G : Ghosts R) (honest : Type 0) (means : F → Meaning)
   closed_ready closings.End s t edits ends h ready = absurd ends
   closed_ready closings.Abort s t edits ends h ready = absurd ends
 
-  made_ready : (closing : Closing) (edits : List RefEdit) (s t : Way F) → MakeEnds G honest means faults session closing edits s t (Ok true) → honest → IsReady means s.store → IsReady means t.store
-  made_ready closing edits s t (inl not) h ready = no_error true (fatals.Update (errors.Prepare not.error)) not.is
-  made_ready closing edits s t (inr ends) h ready = closed_ready closing s t edits ends h ready
+  made_ready : (closing : Closing) (given edits : List RefEdit) (s t : Way F) → MakeEnds G honest means faults session closing given edits s t (Ok true) → honest → IsReady means s.store → IsReady means t.store
+  made_ready closing given edits s t (inl not) h ready = no_error true (fatals.Update (errors.Prepare not.error)) not.is
+  made_ready closing given edits s t (inr (inl up)) h ready = no_error true up.fatal up.is
+  made_ready closing given edits s t (inr (inr (named, ends))) h ready = closed_ready closing s t edits ends h ready
 
   -- the last try
   ended_ready : (closing : Closing) (edits : List RefEdit) (s t : Way F) → TryEnds G honest means faults session closing edits s t (Ok true) → honest → IsReady means s.store → IsReady means t.store
   ended_ready closing edits s t (inl looked) h ready = no_error true looked.fatal looked.is
   ended_ready closing edits s t (inr led) h ready =
-      made_ready closing led.led (way s.input s.output led.at) (way t.input t.output t.store) led.ends h (looked_ready honest means s.store led.at led.looked h ready)
+      made_ready closing edits led.led (way s.input s.output led.at) (way t.input t.output t.store) led.ends h (looked_ready honest means s.store led.at led.looked h ready)
 
   settled_ready : (closing : Closing) (edits : List RefEdit) (s t : Way F) → Settles G honest means faults session closing edits s t (Ok true) → honest → IsReady means s.store → IsReady means t.store
   settled_ready closing edits s t settled h ready =

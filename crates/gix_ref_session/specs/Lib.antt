@@ -4,6 +4,7 @@ pub mod Edits
 pub mod Gathering
 pub mod Input
 pub mod Leading
+pub mod Named
 pub mod Quotes
 pub mod Runs
 pub mod Sessions

@@ -21,7 +21,7 @@ use Rattle.gix_ref_session.specs.Clashes.{IsLookFailure}
 use Rattle.gix_ref_session.specs.Commands.{Heard, Commit, Abort}
 use Rattle.gix_ref_session.specs.Gathering.{AreGathered, Gathering, IsUnheard, IsUnsaid, StopsShort}
 use Rattle.gix_ref_session.specs.Input.{Hears}
-use Rattle.gix_ref_session.specs.Transactions.{CommitFailed, IsCommitted, IsRefused, IsRolledBack, IsTransactionLoss, IsTransactionStop, IsTried, Led, WhenPrepared}
+use Rattle.gix_ref_session.specs.Transactions.{CommitFailed, IsCommitted, IsNamedAll, IsNotNamed, IsRefused, IsRolledBack, IsTransactionLoss, IsTransactionStop, IsTried, Led, WhenPrepared}
 use Rattle.gix_ref_session.specs.Waiting.{HasWaited}
 use Rattle.gix_ref_session.specs.declared.fatal.Fatal.{Fatal}
 use Rattle.gix_ref_session.specs.declared.fatal.Fatal.TheVariants as fatals
@@ -210,6 +210,32 @@ module _ {F R : Type 0} (G : Ghosts R) (honest : Type 0) (means : F → Meaning)
       WhenPrepared honest means faults prepared (λ old edits. PreparedEnds closing
       (way input out old) (way input now new) edits result)
 
+  -- They were given up at once, since not each update that was given is of the reference that it names.
+  pub record GivenUpAtOnce (given edits : List RefEdit) (s t : Way F)
+      (result : Result Bool Fatal) : Type 0 where
+    pub fatal : Fatal
+    pub is : result ≡ Err fatal
+    pub why : IsNotNamed honest means faults given fatal s.store t.store edits
+    pub input : t.input ≡ s.input
+    pub output : t.output ≡ s.output
+
+  -- so, or each is of the reference that it names, and they end as above
+  abbrev pub NamedEnds : Closing → (given : List RefEdit) → (s t : Way F) → (edits : List RefEdit) →
+      Result Bool Fatal → Type 0
+  NamedEnds closing given s t edits result = GivenUpAtOnce given edits s t result
+      ⊎ (IsNamedAll honest means faults given s.store edits
+      × PreparedEnds closing s t edits result)
+
+  -- a prepared transaction of edits that were given ends so
+  abbrev pub FinishesNamed : {I O T : Type 0} {Find : Finder T} →
+      (remaining : I → Option (List ℕ)) → (contents : O → Option (List ℕ)) → Closing →
+      (given : List RefEdit) → Prepared F (Plan T Find) R → (new : Store F) →
+      (input : I) → (out : O) → (rest : I) → (now : O) → Result Bool Fatal → Type 0
+  FinishesNamed remaining contents closing given prepared new input out rest now result =
+      WhenPrepared honest means faults prepared (λ old edits. NamedEnds closing given
+      (way (remaining input) (contents out) old) (way (remaining rest) (contents now) new)
+      edits result)
+
   -- edits were not prepared, by the first cause against them
   pub record NotPrepared (edits : List RefEdit) (s t : Way F)
       (result : Result Bool Fatal) : Type 0 where
@@ -220,11 +246,11 @@ module _ {F R : Type 0} (G : Ghosts R) (honest : Type 0) (means : F → Meaning)
     pub input : t.input ≡ s.input
     pub output : t.output ≡ s.output
 
-  -- how edits end: they were not prepared; or they were, and ended as above
-  abbrev pub MakeEnds : Closing → (edits : List RefEdit) → (s t : Way F) →
+  -- how edits end that come of those that were given: they were not prepared; or they were, and ended as above
+  abbrev pub MakeEnds : Closing → (given edits : List RefEdit) → (s t : Way F) →
       Result Bool Fatal → Type 0
-  MakeEnds closing edits s t result = NotPrepared edits s t result
-      ⊎ PreparedEnds closing s t edits result
+  MakeEnds closing given edits s t result = NotPrepared edits s t result
+      ⊎ NamedEnds closing given s t edits result
 
   -- it ends before they are begun, by a look that failed or by a clash of names
   pub record OnlyLooked (edits : List RefEdit) (s t : Way F)
@@ -239,13 +265,14 @@ module _ {F R : Type 0} (G : Ghosts R) (honest : Type 0) (means : F → Meaning)
   -- How a try of these edits ends: it was only looked; or symbolic references led them to others, which ended as above.
   abbrev pub TryEnds : Closing → (edits : List RefEdit) → (s t : Way F) → Result Bool Fatal → Type 0
   TryEnds closing edits s t result = OnlyLooked edits s t result
-      ⊎ Led honest means faults (is_some session.committer) (λ at new led. MakeEnds closing led
+      ⊎ Led honest means faults (is_some session.committer) (λ at new led. MakeEnds closing edits led
       (way s.input s.output at) (way t.input t.output new) result) edits s.store t.store
 
-  -- how a transaction ends: as a try, after some that a lock of another's refused, which was waited for
+  -- how a transaction ends: as a try, after some that a lock of another's refused, which was waited for, or beside which `HEAD` was
+  -- switched
   pub record Settles (closing : Closing) (edits : List RefEdit) (s t : Way F)
       (result : Result Bool Fatal) : Type 0 where
-    pub tries : List Cause
+    pub tries : List Fatal
     pub mid : Store F
     pub were : AreDone
         (IsTried honest means faults session.committer (HasReadFault G.faults) edits)

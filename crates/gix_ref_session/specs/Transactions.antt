@@ -11,7 +11,7 @@ use Rattle.gix_ref_object.specs.declared.object.Never.{Never}
 use Rattle.gix_ref_theory.specs.Sequences.{AreDone}
 use Rattle.gix_ref_transaction.specs.OwnLocks.{RemovesLocks}
 use Rattle.gix_ref_transaction.specs.Packing.{OfFinder, ends_of, mode_in}
-use Rattle.gix_ref_transaction.specs.PrepareSteps.{held_locks}
+use Rattle.gix_ref_transaction.specs.PrepareSteps.{held_locks, updates as prepared_of}
 use Rattle.gix_ref_transaction.specs.declared.edit.Edit.{Edit}
 use Rattle.gix_ref_transaction.specs.declared.packing.PackedRefs.{PackedRefs}
 use Rattle.gix_ref_transaction.specs.declared.packing.PackedRefs.TheVariants.{DeletionsOnly}
@@ -32,6 +32,7 @@ use Rattle.gix_ref_program.specs.declared.update.UpdateError.{UpdateError}
 use Rattle.gix_ref_program.specs.declared.update.UpdateError.TheVariants.{Prepare, Commit}
 use Rattle.gix_ref_session.specs.Clashes.{AreClear}
 use Rattle.gix_ref_session.specs.Leading.{AreLed, LeadsIn}
+use Rattle.gix_ref_session.specs.Named.{AreNamed, IsSwitchedFor}
 use Rattle.gix_ref_session.specs.declared.fatal.Fatal.{Fatal}
 use Rattle.gix_ref_session.specs.declared.fatal.Fatal.TheVariants as fatals
 
@@ -44,6 +45,12 @@ abbrev pub IsLocked : Cause → Type 0
 IsLocked (causes.LockAcquire name) = Unit {0}
 IsLocked causes.PackedTransactionAcquire = Unit {0}
 IsLocked cause = ⊥
+
+-- after this error edits are tried again: another holds a lock, or has switched `HEAD` meanwhile
+abbrev pub IsTriedAgain : Fatal → Type 0
+IsTriedAgain (fatals.Update (Prepare cause)) = IsLocked cause
+IsTriedAgain (fatals.Switched name) = Unit {0}
+IsTriedAgain fatal = ⊥
 
 -- what a commit returns, as a result of the session
 abbrev pub IsCommitResult : {T : Type 0} → Result (Done T) (Failed T) →
@@ -89,6 +96,18 @@ module _ {F : Type 0} (honest : Type 0) (means : F → Meaning) (faults : F → 
     pub left : List Path
     pub rolled : RollsBackFrom honest means faults begun.mid new
         (held_locks begun.packed begun.held) left
+
+  -- They were prepared, and given up with this error, since not each update that was given is of the reference that it names.
+  pub record IsNotNamed (given : List RefEdit) (fatal : Fatal) (old new : Store F)
+      (edits : List RefEdit) : Type 0 where
+    pub begun : IsBegun honest means faults uses old edits
+    pub why : IsSwitchedFor (prepared_of begun.held) given fatal
+    pub back : IsRolledBack old new edits
+
+  -- They were prepared, and each update that was given is of the reference that it names.
+  pub record IsNamedAll (given : List RefEdit) (old : Store F) (edits : List RefEdit) : Type 0 where
+    pub begun : IsBegun honest means faults uses old edits
+    pub named : AreNamed (prepared_of begun.held) given
 
   -- They were not prepared, or their commit failed, and these locks stay.
   pub record IsRefused (committer : Option SignatureRef) (read : FileError → Type 0)
@@ -163,18 +182,22 @@ module _ {F : Type 0} (honest : Type 0) (means : F → Meaning) (faults : F → 
         × AreLed (LeadsIn honest means old (is_some committer)) edits led
         × IsLossOf honest means faults uses at committer led T)
 
-    -- a try that was refused since another holds a lock
-    abbrev pub IsTried : Cause → (old new : Store F) → Type 0
-    IsTried cause old new = IsLocked cause × IsNotMade (Prepare cause) old new
+    -- a try that was refused since another holds a lock; or given up, since another has switched `HEAD`
+    abbrev pub IsTried : Fatal → (old new : Store F) → Type 0
+    IsTried (fatals.Update (Prepare cause)) old new =
+        IsLocked cause × IsNotMade (Prepare cause) old new
+    IsTried (fatals.Switched name) old new =
+        Led (is_some committer) (IsNotNamed edits (fatals.Switched name)) edits old new
+    IsTried fatal old new = ⊥
 
     -- A stop in a transaction leaves this tree: what a stop in a try leaves, after some that were refused.
     abbrev pub IsTransactionStop : Store F → Tree → Type 0
-    IsTransactionStop old T = (tries : List Cause) × (mid : Store F)
+    IsTransactionStop old T = (tries : List Fatal) × (mid : Store F)
         × AreDone IsTried tries old mid × IsTryStop mid T
 
     -- and a loss of power in it leaves what one in a try leaves, after some that were refused
     abbrev pub IsTransactionLoss : Store F → Tree → Type 0
-    IsTransactionLoss old T = (tries : List Cause) × (mid : Store F)
+    IsTransactionLoss old T = (tries : List Fatal) × (mid : Store F)
         × AreDone IsTried tries old mid × IsTryLoss mid T
 
     -- A stop as a transaction is closed leaves this tree: the one before, or what a stop in the transaction leaves.

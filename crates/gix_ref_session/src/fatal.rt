@@ -53,6 +53,9 @@ pub enum Fatal {
     /// A name is that of a folder in the name of another reference, or the other way round.
     #[error("cannot lock ref '{0}': another reference is in its way")]
     Clash(name::FullName),
+    /// `HEAD` led to this branch, which is to be updated, and was switched to another one before it was locked.
+    #[error("cannot lock ref 'HEAD': it no longer leads to {0}")]
+    Switched(name::FullName),
     /// The transaction was not prepared, or its commit failed.
     #[error("{0}")]
     Update(UpdateError),

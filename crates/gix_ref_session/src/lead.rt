@@ -105,7 +105,7 @@ fn head_branch<F: Files>(
 }
 
 /// Whether a change is an update of a reference to an object.
-fn updates(change: &Change) -> bool
+pub(crate) fn updates(change: &Change) -> bool
     ensures { result ≡ updates change.now }
 {
     match change {

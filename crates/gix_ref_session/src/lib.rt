@@ -24,6 +24,7 @@ pub mod fatal;
 mod gather;
 pub mod input;
 mod lead;
+mod named;
 mod quote;
 pub mod run;
 pub mod session;

@@ -41,15 +41,19 @@ pub struct Session<'s> {
     pub packed_lock_timeout: u32,
 }
 
-/// How many more milliseconds locks are waited for.
+/// How often a transaction is tried again where `HEAD` is switched meanwhile.
+const MOST_SWITCHES: u32 = 3;
+
+/// How many more milliseconds locks are waited for, and how many more switches of `HEAD`.
 #[derive(Clone, Copy)]
 struct Patience {
     lock: u32,
     packed: u32,
+    switches: u32,
 }
 
 impl Patience {
-    /// One millisecond less for the lock that another holds; `None` where it is no lock, or none is left.
+    /// One millisecond less for the lock that another holds, or one switch of `HEAD` less; `None` where it is neither, or none is left.
     fn after(self, fatal: &Fatal) -> Option<Patience>
         ensures { MatchOption result (NoneIsLeft fatal.now self) (IsLessAfter fatal.now self) }
     {
@@ -58,20 +62,28 @@ impl Patience {
                 Some(Patience {
                     lock: self.lock.checked_sub(1)?,
                     packed: self.packed,
+                    switches: self.switches,
                 })
             }
             Fatal::Update(UpdateError::Prepare(prepare::Error::PackedTransactionAcquire)) => {
                 Some(Patience {
                     lock: self.lock,
                     packed: self.packed.checked_sub(1)?,
+                    switches: self.switches,
                 })
             }
+            Fatal::Switched(_) => Some(Patience {
+                lock: self.lock,
+                packed: self.packed,
+                switches: self.switches.checked_sub(1)?,
+            }),
             _ => None,
         }
     }
 }
 
-/// Prepares and closes a transaction. A lock that another holds is tried again each millisecond. False at the end of the input.
+/// Prepares and closes a transaction. Where another holds a lock, or has switched `HEAD` meanwhile, it is tried again each millisecond.
+/// False at the end of the input.
 fn settle<F: Files, C: Clock, R: BufRead, W: Write>(
     alloc: Global,
     clock: &C,
@@ -97,6 +109,7 @@ fn settle<F: Files, C: Clock, R: BufRead, W: Write>(
     let mut patience = Patience {
         lock: session.lock_timeout,
         packed: session.packed_lock_timeout,
+        switches: MOST_SWITCHES,
     };
     'tries: loop {
         match try_once(alloc, session, store, edits, closing, input, out, texts) {
@@ -179,8 +192,9 @@ fn transaction<F: Files, C: Clock, R: BufRead, W: Write>(
 
 /// Serves commands until the input ends, or one of them is refused: transactions one after the other, each over the store that the one
 /// before left. `commit: ok` is written after a transaction was committed, `abort: ok` after it was given up. A lock that another holds is
-/// tried again each millisecond, as long as the session says. What `start` began is given up at the end of the input; commands without
-/// it are committed. (`git update-ref --stdin`)
+/// tried again each millisecond, as long as the session says; and an update of the branch that `HEAD` leads to three times, where `HEAD` is
+/// switched meanwhile. What `start` began is given up at the end of the input; commands without it are committed.
+/// (`git update-ref --stdin`)
 ///
 /// The error is that of the reader or the writer (`Read`, `Write`); of a command that is none, out of place, or of a name that breaks a rule; of a
 /// lookup that failed, or names in one another's way; or of a transaction that was refused, or whose commit failed (`Update`). No command is

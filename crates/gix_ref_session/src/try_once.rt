@@ -4,13 +4,14 @@ ghost use Rattle.gix_ref_log.specs.declared.actor.SignatureRef.{SignatureRef};
 ghost use Rattle.gix_ref_packed.specs.OpenFiles.{HasReadFault};
 ghost use Rattle.gix_ref_program.specs.Updates.{IsLossOf};
 ghost use Rattle.gix_ref_store.specs.PreparedFields.{held_edits, held_packed};
-ghost use Rattle.gix_ref_session.specs.Sessions.{AnswersAbort, AnswersCommit, EndsAtOnce, FinishedBy, Finishes, HeardClosing, MakeEnds, OnWay, TryEnds};
+ghost use Rattle.gix_ref_session.specs.Sessions.{AnswersAbort, AnswersCommit, EndsAtOnce, FinishedBy, Finishes, FinishesNamed, HeardClosing, MakeEnds, OnWay, TryEnds};
 ghost use Rattle.gix_ref_session.specs.Transactions.{ClosesSafely, CommitEnds, IsCommitResult, IsEditStop, IsRolledBack, IsTryLoss, IsTryStop, LossLeaves, StopLeaves, WhenPrepared, uses};
 
 use crate::command::Command;
 use crate::fatal::Fatal;
 use crate::gather::{Closing, Texts, next_command, say};
 use crate::lead::led_edits;
+use crate::named::check_named;
 use crate::session::Session;
 use gix_ref_edits::transaction::RefEdit;
 use gix_ref_files::files::Files;
@@ -231,11 +232,41 @@ fn refusal_of(refused: Refused) -> Fatal
     Fatal::Update(UpdateError::Prepare(refused.error))
 }
 
-/// Prepares these edits, and ends them as this command has it. False at the end of the input.
+/// Ends what is prepared as this command has it, if each update is of the reference that it names; else it is given up. False at the end
+/// of the input.
+fn finish_named<F: Files, R: BufRead, W: Write>(
+    alloc: Global,
+    session: &Session<'_>,
+    edits: &[RefEdit],
+    prepared: Prepared<'_, F>,
+    closing: Closing,
+    input: &mut R,
+    out: &mut W,
+    texts: &mut Texts,
+) -> Result<bool, Fatal>
+    requires { closing ≢ Closing.Abort }
+    ensures ends { FinishesNamed F.Reader.ReadAt F.honest F.means F.faults session.now
+        R.remaining W.contents closing edits.now prepared.entry prepared.exit.0.now
+        input.old out.old input.new out.new result }
+    ensures safe { ClosesSafely F.honest F.means F.faults session.now.committer
+        prepared.entry.store.now prepared.exit.0.now (held_packed prepared.entry.plan)
+        (held_edits prepared.entry.plan) }
+{
+    match check_named(alloc, edits, &prepared) {
+        Ok(()) => finish(alloc, session, prepared, closing, input, out, texts),
+        Err(fatal) => {
+            give_up(prepared);
+            Err(fatal)
+        }
+    }
+}
+
+/// Prepares edits, as they are led, and ends them as this command has it. False at the end of the input.
 fn make<F: Files, R: BufRead, W: Write>(
     alloc: Global,
     session: &Session<'_>,
     store: &mut Store<F>,
+    edits: &[RefEdit],
     led: Vec<RefEdit>,
     closing: Closing,
     input: &mut R,
@@ -244,7 +275,7 @@ fn make<F: Files, R: BufRead, W: Write>(
 ) -> Result<bool, Fatal>
     requires { closing ≢ Closing.Abort }
     ensures ends { OnWay R.remaining W.contents
-        (MakeEnds F.Reader.ReadAt F.honest F.means F.faults session.now closing led.items)
+        (MakeEnds F.Reader.ReadAt F.honest F.means F.faults session.now closing edits.now led.items)
         input.old out.old store.old input.new out.new store.new result }
     ensures leaves { StopLeaves F.honest F.means store.old store.new
         (IsEditStop F.honest F.means F.faults session.now.committer store.old led.items) }
@@ -256,7 +287,7 @@ fn make<F: Files, R: BufRead, W: Write>(
         .prepare(alloc, led)
     {
         Err(refused) => Err(refusal_of(refused)),
-        Ok(prepared) => finish(alloc, session, prepared, closing, input, out, texts),
+        Ok(prepared) => finish_named(alloc, session, edits, prepared, closing, input, out, texts),
     }
 }
 
@@ -283,7 +314,9 @@ pub(crate) fn try_once<F: Files, R: BufRead, W: Write>(
         (HasReadFault F.Reader.faults) edits.now store.old) }
 {
     match led_edits(alloc, store, session.committer.is_some(), edits) {
-        Ok(led) => make(alloc, session, store, led, closing, input, out, texts),
+        Ok(led) => make(
+            alloc, session, store, edits, led, closing, input, out, texts,
+        ),
         Err(fatal) => Err(fatal),
     }
 }

@@ -1,11 +1,11 @@
-use Rattle.std.proofs.Common.{◌∙◌, refl}
+use Rattle.std.proofs.Common.{◌∙◌, refl, arith}
 use Rattle.gix_ref_session.proofs.Settling.{ends_well, gives_up, leaves_on, loses_on, none_yet, one_more, settles_from}
 use Rattle.gix_ref_session.proofs.session.settle.Goals as goal
 
 pub tries-init : goal.tries-init
 tries-init g c =
     let F = g.F.Files in
-    (none_yet g.F.Reader.ReadAt F.honest F.means F.faults c.args.session.now c.args.edits.now c.args.store.now _ refl refl, refl, refl)
+    (none_yet g.F.Reader.ReadAt F.honest F.means F.faults c.args.session.now c.args.edits.now c.args.store.now _ refl refl refl, refl, refl)
 
 pub tries-preserved : goal.tries-preserved
 tries-preserved g c =
@@ -52,3 +52,6 @@ pub returns-in-None-clause-lost : goal.returns-in-None-clause-lost
 returns-in-None-clause-lost g c =
     let F = g.F.Files in
     loses_on g.F.Reader.ReadAt F.honest F.means F.faults c.args.session.now c.args.edits.now c.args.store.now c.tries.store c.try_once.new.store c.tries.patience c.tries.invariant.0 c.try_once.ensures.lost
+
+pub tries-smaller : goal.tries-smaller
+tries-smaller g c = omega (arith, c.in-Some.ensures.fewer)

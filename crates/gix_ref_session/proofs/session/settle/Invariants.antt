@@ -3,7 +3,7 @@ use Rattle.gix_ref_session.proofs.Settling.{SoFar}
 use Rattle.gix_ref_session.proofs.session.settle.Given as goal
 
 abbrev pub decreases-tries : goal.decreases-tries
-decreases-tries g l = l.patience.lock + l.patience.packed
+decreases-tries g l = l.patience.lock + l.patience.packed + l.patience.switches
 
 abbrev pub invariant-tries : goal.invariant-tries
 invariant-tries g l =
